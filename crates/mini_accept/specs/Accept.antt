@@ -1,5 +1,5 @@
--- Which tree a value is, or its first defect. A node's own defects go before those of the nodes below it, and these in
--- the order of the table; each value has a tree or a defect at each depth.
+-- Which tree a value is, or its first defect. A node's own defects go before those of the nodes
+-- below it, and these in the order of the table; each value has a tree or a defect at each depth.
 use Rattle.std.specs.Prelude.{◌≡◌, ℕ, zero, suc, List, [], ◌∷◌, Bool, true, false, ◌&&◌, ◌||◌, not, Option, Some, None, Result, Ok, Err}
 use Rattle.serde_json.specs.Data.{Data}
 use Rattle.mini_model.specs.declared.name.Name.{Name}

@@ -27,8 +27,8 @@ use Rattle.mini_accept.specs.Plans.{tree_at, inner_at, checked, Child, one, Plan
 
 -- ---- names and literals
 
--- what an identifier is, by where it stands: a name that is declared, one that names no variable, or one that is read or
--- written
+-- what an identifier is, by where it stands: a name that is declared, one that names no variable,
+-- or one that is read or written
 abbrev pub identifier_by : Shape → List ℕ → Plan
 identifier_by h s = record { shape = h; names = unresolved s ∷ []; children = [] }
 
@@ -100,7 +100,8 @@ identifier_text d = if is_identifier d then text_at (codes "name") d else None
 abbrev pub repeats_key : Data → Bool
 repeats_key d = is_there_with (is_name_with_default (option_and_then identifier_text (get (codes "key") d))) (get (codes "value") d)
 
--- a method or an accessor is no shorthand, and an accessor no method; a shorthand property repeats its key
+-- a method or an accessor is no shorthand, and an accessor no method; a shorthand property repeats
+-- its key
 abbrev pub is_whole_property : PropertyKind → Bool → Bool → Bool → Data → Bool
 is_whole_property k is_method shorthand computed d = (is_init k || not (is_method || shorthand)) && (not (is_method && shorthand) && (not shorthand || (not computed && repeats_key d)))
 

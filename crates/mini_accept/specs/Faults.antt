@@ -17,8 +17,8 @@ pub record Fault : Type 0 where
 abbrev pub fault : {A : Type 0} → Defect → Result A Fault
 fault x = Err (record { defect = x; at = [] })
 
--- The same defect, seen from the node above, whose step leads here. RFC 6901 writes `~` and `/` in a step as `~0` and
--- `~1`: no key of the table has either.
+-- The same defect, seen from the node above, whose step leads here. RFC 6901 writes `~` and `/` in
+-- a step as `~0` and `~1`: no key of the table has either.
 abbrev pub fault_under : List ℕ → Fault → Fault
 fault_under step f = record { defect = f.defect; at = 47 ∷ (step ++ f.at) }
 

@@ -74,8 +74,8 @@ names_constructor d = (is_identifier d && has_units (codes "name") (codes "const
 abbrev pub is_constructor : Bool → Bool → Data → Bool
 is_constructor computed is_static d = not is_static && (not computed && is_there_with names_constructor (get (codes "key") d))
 
--- a method that is no accessor, isn't static and has that key without brackets is the constructor, and no other is
--- (ECMA-262, ConstructorMethod)
+-- a method that is no accessor, isn't static and has that key without brackets is the constructor,
+-- and no other is (ECMA-262, ConstructorMethod)
 abbrev pub has_its_kind : MethodDefinitionKind → Bool → Bool
 has_its_kind method.Constructor is_it = is_it
 has_its_kind method.Method is_it = not is_it

@@ -26,7 +26,8 @@ abbrev pub HasChild : List Child → Step → Place → Type 0
 HasChild [] s p = ⊥
 HasChild (c ∷ cs) s p = IsBelow c s p ⊎ HasChild cs s p
 
--- by the plans of the nodes the steps lead from node d, in a place and in strict or sloppy code, to node e in its own
+-- by the plans of the nodes the steps lead from node d, in a place and in strict or sloppy code, to
+-- node e in its own
 abbrev pub Leads : List Step → Bool → Place → Data → Bool → Place → Data → Type 0
 Leads [] strict p d strict_there q e = (strict ≡ strict_there) × (p ≡ q) × (d ≡ e)
 Leads (s ∷ path) strict p d strict_there q e = (x : Plan) × (o : Place) × (c : Data) × (plan strict p d ≡ Ok x) × (HasChild x.children s o) × (down s d ≡ Some c) × Leads path (is_strict_in strict x.shape) o c strict_there q e

@@ -1,5 +1,5 @@
--- A value of each type of node that is accepted, as a tree that is well shaped. A text stands over each; where a name is
--- any that is allowed, what is asked of it comes first.
+-- A value of each type of node that is accepted, as a tree that is well shaped. A text stands over
+-- each; where a name is any that is allowed, what is asked of it comes first.
 use Rattle.std.specs.Prelude.{◌≡◌, refl, ℕ, true, false, Bool, [], ◌∷◌, List, codes, Ok, Some}
 use Rattle.std.specs.Str.{chars}
 use Rattle.std.specs.Char.Utf16.{utf16_chars}
@@ -291,7 +291,8 @@ exported local = typed (codes "ExportSpecifier") ((codes "exported", from_here) 
 abbrev exports_of : List Data → Fields → Data
 exports_of specifiers more = typed (codes "ExportNamedDeclaration") ((codes "specifiers", list specifiers) ∷ more)
 
--- export { a as "" }; export { a as "" } from ""; export var a; export default this; export * from "";
+-- export { a as "" }; export { a as "" } from ""; export var a; export default this; export * from
+-- "";
 exports : (s : List ℕ) → IsName s → modular
     (exports_of (exported (name s) ∷ []) []
     ∷ exports_of (exported (name s) ∷ []) ((codes "source", from_here) ∷ [])

@@ -1,4 +1,5 @@
--- The numbers of a tree: from the first one on in preorder, where a node has the next number or none.
+-- The numbers of a tree: from the first one on in preorder, where a node has the next number or
+-- none.
 use Rattle.std.specs.Prelude.{ℕ, suc, nat_eq, Option, Some, None, option_and_then, if◌then◌else◌}
 use Rattle.mini_model.specs.Tree.{Tree, node, Trees, none, ◌▸◌}
 
@@ -6,7 +7,8 @@ use Rattle.mini_model.specs.Tree.{Tree, node, Trees, none, ◌▸◌}
 abbrev pub number_after : ℕ → ℕ → Option ℕ
 number_after m n = if nat_eq m n then Some (suc n) else (if nat_eq m 0 then Some n else None)
 
--- the next number after a tree, and after some; nothing where a node has another number than the next
+-- the next number after a tree, and after some; nothing where a node has another number than the
+-- next
 abbrev mutual
   pub next_after : Tree → ℕ → Option ℕ
   next_after (node h xs m ts) n = option_and_then (next_among ts) (number_after m n)

@@ -1,5 +1,5 @@
--- The plans of patterns: of those that a declaration binds, and of those that are assigned to (ESTree; ECMA-262,
--- "Destructuring Binding Patterns" and "Destructuring Assignment").
+-- The plans of patterns: of those that a declaration binds, and of those that are assigned to
+-- (ESTree; ECMA-262, "Destructuring Binding Patterns" and "Destructuring Assignment").
 use Rattle.std.specs.Prelude.{[], ◌∷◌, Bool, true, false, ◌&&◌, ◌||◌, not, Option, if◌then◌else◌, codes}
 use Rattle.serde_json.specs.Data.{Data}
 use Rattle.mini_model.specs.declared.shape.Shape.TheVariants as shape

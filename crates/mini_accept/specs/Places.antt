@@ -34,6 +34,7 @@ pub data Place : Type 0 where
   a_directive_text : Place
   -- a piece of a template; whether it is the last
   a_quasi : Tagging → Bool → Place
-  -- an export specifier: of a name of this module (true), or of another one; and such a name of this module
+  -- an export specifier: of a name of this module (true), or of another one; and such a name of
+  -- this module
   an_exported : Bool → Place
   a_local_name : Place

@@ -1,5 +1,5 @@
--- Small trees that are programs, and others that are none. A text stands over each. Where a text is any that is allowed,
--- what is asked of it comes first.
+-- Small trees that are programs, and others that are none. A text stands over each. Where a text is
+-- any that is allowed, what is asked of it comes first.
 use Rattle.std.specs.Prelude.{◌≡◌, refl, true, false, ◌&&◌, Bool, Some, [], ◌∷◌, List, ℕ, codes, pos, negsuc}
 use Rattle.mini_model.specs.declared.kind.PropertyKind.TheVariants.{Init}
 use Rattle.mini_model.specs.declared.kind.MethodDefinitionKind.TheVariants.{Constructor, Method}

@@ -70,7 +70,8 @@ is_member_target d = has_type (codes "MemberExpression") d && not (has_true (cod
 abbrev pub is_method : Data → Bool
 is_method d = has_type (codes "FunctionExpression") d && not (is_given (codes "id") d)
 
--- the head of a `for..in` (true) or `for..of`: one declarator, without an initializer but for `var` in a `for..in`
+-- the head of a `for..in` (true) or `for..of`: one declarator, without an initializer but for `var`
+-- in a `for..in`
 abbrev pub is_head_by : Bool → Items → Bool
 is_head_by may_have_init (item d no_items) = may_have_init || not (is_given (codes "init") d)
 is_head_by may_have_init ds = false
@@ -168,7 +169,8 @@ unread_types =
 abbrev pub has_unread_type : Data → Bool
 has_unread_type d = has_one_of unread_types d || unwrap_or (option_map (λ s. begins_with (codes "TS") s || begins_with (codes "JSX") s) (text_at (codes "type") d)) false
 
--- an asynchronous function or loop, a declaration of `using`, import attributes, and the options of an import
+-- an asynchronous function or loop, a declaration of `using`, import attributes, and the options of
+-- an import
 abbrev pub has_unread_field : Data → Bool
 has_unread_field d =
     (has_one_of (codes "FunctionDeclaration" ∷ codes "FunctionExpression" ∷ codes "ArrowFunctionExpression" ∷ []) d && has_true (codes "async") d)
@@ -192,7 +194,8 @@ is_key (shaped.a_private_or_key computed) = true
 is_key (shaped.an_inner_key computed) = true
 is_key c = false
 
--- by where it stands: a BigInt as a key without brackets, and a function of sloppy code that isn't directly in a body
+-- by where it stands: a BigInt as a key without brackets, and a function of sloppy code that isn't
+-- directly in a body
 abbrev pub is_unread_there : Bool → Place → Data → Bool
 is_unread_there strict (at c) d = (is_key c && is_big_int_literal d) || (not strict && (is_nested c && has_type (codes "FunctionDeclaration") d))
 is_unread_there strict p d = false
@@ -202,7 +205,7 @@ is_unread strict p d = is_unread_form p d || is_unread_there strict p d
 
 -- ---- whose defect it is
 
--- The child is a defect of the node above: it is no object, or, where it is a form of the table that is read, has
--- another type than the place asks for.
+-- The child is a defect of the node above: it is no object, or, where it is a form of the table
+-- that is read, has another type than the place asks for.
 abbrev pub is_misplaced : Bool → Place → Data → Bool
 is_misplaced strict p d = not (is_object d) || (not (is_unread strict p d) && (is_some (kind_of d) && not (may_stand p d)))

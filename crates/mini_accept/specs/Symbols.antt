@@ -1,4 +1,5 @@
--- The trees no name of which has a symbol, and no declarator of which has a name: what is read, before names are resolved.
+-- The trees no name of which has a symbol, and no declarator of which has a name: what is read,
+-- before names are resolved.
 use Rattle.std.specs.Prelude.{Bool, true, false, ◌&&◌, not, List, [], ◌∷◌, is_some}
 use Rattle.mini_model.specs.declared.name.Name.{Name}
 use Rattle.mini_model.specs.declared.shape.Shape.{Shape}

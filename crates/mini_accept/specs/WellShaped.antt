@@ -1,5 +1,5 @@
--- Which trees are programs: each shape has the children that its type has in ESTree (ES5 to ES2022), where ECMA-262's
--- grammar lets them stand.
+-- Which trees are programs: each shape has the children that its type has in ESTree (ES5 to
+-- ES2022), where ECMA-262's grammar lets them stand.
 use Rattle.std.specs.Prelude.{◌≡◌, ℕ, suc, List, [], ◌∷◌, length, Bool, true, false, ◌&&◌, ◌||◌, ◌==◌, not, nat_eq, nat_le, Option, Some, None, is_some, codes, ℤ, pos, negsuc, if◌then◌else◌}
 use Rattle.std.specs.Cmp.Lexicographic.{pointwise}
 use Rattle.std.specs.Char.Utf16.{has_unpaired_surrogate}
@@ -22,7 +22,8 @@ use Rattle.mini_model.specs.Tree.{Tree, Trees, node, none, ◌▸◌, count, chi
 
 -- ---- places
 
--- where a statement stands: in the body of a module, directly in the body of a script or a function, or deeper
+-- where a statement stands: in the body of a module, directly in the body of a script or a
+-- function, or deeper
 pub data Depth : Type 0 where
   in_module : Depth
   in_body : Depth
@@ -61,7 +62,8 @@ pub data Class : Type 0 where
   -- a function that is a method's value: an expression without a name
   a_method : Class
   an_expression : Class
-  -- the callee or the object in a chain, which may be optional, and the call or member at the end of one
+  -- the callee or the object in a chain, which may be optional, and the call or member at the end
+  -- of one
   a_link : Class
   a_chain : Class
   an_argument : Class
@@ -172,7 +174,8 @@ is_reference t = is_reference_shape (shape_of t)
 abbrev pub first_item : Trees → Tree
 first_item ts = child_or_absent ts 0
 
--- of the declaration in the head of a `for..in` or `for..of`: one declarator; no initializer but of `var` in a `for..in`
+-- of the declaration in the head of a `for..in` or `for..of`: one declarator; no initializer but of
+-- `var` in a `for..in`
 abbrev pub is_initialized : Tree → Bool
 is_initialized d = not (is_absent (child_or_absent (children d) 1))
 
@@ -210,12 +213,14 @@ without_default t = t
 abbrev pub repeats_key : Trees → Bool
 repeats_key ts = is_same_spelling (spelling (child_or_absent ts 0)) (spelling (without_default (child_or_absent ts 1)))
 
--- a class declaration with a name holds it once more, and any other class doesn't (ECMA-262, ClassDefinitionEvaluation)
+-- a class declaration with a name holds it once more, and any other class doesn't (ECMA-262,
+-- ClassDefinitionEvaluation)
 abbrev pub holds_its_name : Bool → Trees → Bool
 holds_its_name declaration ts =
     if declaration && not (is_absent (child_or_absent ts 0)) then is_same_spelling (spelling (child_or_absent ts 0)) (spelling (child_or_absent ts 3)) else is_absent (child_or_absent ts 3)
 
--- a method's key that makes it the constructor of its class: the name or the text `constructor`, without brackets
+-- a method's key that makes it the constructor of its class: the name or the text `constructor`,
+-- without brackets
 abbrev pub names_constructor : Tree → Bool
 names_constructor (node (shape.IdentifierName s) xs n ts) = is_text s (codes "constructor")
 names_constructor (node (shape.StringLiteral s) xs n ts) = is_text s (codes "constructor")
@@ -224,8 +229,8 @@ names_constructor _ = false
 abbrev pub is_constructor : Bool → Bool → Tree → Bool
 is_constructor computed is_static key = not is_static && (not computed && names_constructor key)
 
--- a method that is no accessor, isn't static and has that key is the constructor, and no other is (ECMA-262,
--- ConstructorMethod)
+-- a method that is no accessor, isn't static and has that key is the constructor, and no other is
+-- (ECMA-262, ConstructorMethod)
 abbrev pub has_its_kind : MethodDefinitionKind → Bool → Bool → Tree → Bool
 has_its_kind method.Constructor computed is_static key = is_constructor computed is_static key
 has_its_kind method.Method computed is_static key = not (is_constructor computed is_static key)
@@ -509,7 +514,8 @@ is_strict_in strict _ = strict
 
 -- ---- the fields of a node beside its children
 
--- functions, carried nodes and the inner expressions of those; of the parts with a default the parameters alone
+-- functions, carried nodes and the inner expressions of those; of the parts with a default the
+-- parameters alone
 abbrev pub is_numbered : Class → Shape → Bool
 is_numbered c (shape.Program is_module ds) = true
 is_numbered c (shape.Function d g ds) = true
@@ -533,12 +539,14 @@ is_numbered c shape.ArrayAssignmentTarget = true
 is_numbered a_parameter shape.AssignmentPattern = true
 is_numbered c _ = false
 
--- the number of a node: a program's is 0, that of another node which is numbered isn't, and that of any other node is
+-- the number of a node: a program's is 0, that of another node which is numbered isn't, and that of
+-- any other node is
 abbrev pub has_its_number : Class → Shape → ℕ → Bool
 has_its_number c (shape.Program is_module ds) n = n == 0
 has_its_number c h n = if is_numbered c h then not (n == 0) else n == 0
 
--- the names of a node; those of a declarator are not written, and the scopes around say which it has
+-- the names of a node; those of a declarator are not written, and the scopes around say which it
+-- has
 abbrev pub has_names : Shape → List Name → Bool
 has_names shape.Identifier (x ∷ []) = is_name x.spelling
 has_names shape.Identifier xs = false
@@ -562,7 +570,8 @@ has_plain_fields (shape.BigIntLiteral n) = nat_le n max_big_int
 has_plain_fields (shape.TemplateElement tail raw c) = is_paired raw && (is_text_of_cooked c (cooked raw) && is_paired_cooked c)
 has_plain_fields _ = true
 
--- a local name that is exported from here is a variable; one that another module has is a name of its own
+-- a local name that is exported from here is a variable; one that another module has is a name of
+-- its own
 abbrev pub are_locals : Bool → Trees → Bool
 are_locals own none = true
 are_locals own (t ▸ ts) = is_same_flag own (is_reference (child_or_absent (children t) 1)) && are_locals own ts
@@ -571,7 +580,8 @@ are_locals own (t ▸ ts) = is_same_flag own (is_reference (child_or_absent (chi
 abbrev pub is_whole_export : Trees → Bool
 is_whole_export ts = (is_absent (first_item ts) || (nat_eq (count (children (child_or_absent ts 1))) 0 && is_absent (child_or_absent ts 2))) && are_locals (is_absent (child_or_absent ts 2)) (children (child_or_absent ts 1))
 
--- a method or an accessor is no shorthand, and an accessor no method; a shorthand property repeats its key
+-- a method or an accessor is no shorthand, and an accessor no method; a shorthand property repeats
+-- its key
 abbrev pub is_whole_property : PropertyKind → Bool → Bool → Bool → Trees → Bool
 is_whole_property k is_method shorthand computed ts = (is_init k || not (is_method || shorthand)) && (not (is_method && shorthand) && (not shorthand || (not computed && repeats_key ts)))
 

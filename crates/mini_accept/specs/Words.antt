@@ -1,4 +1,5 @@
--- The words of the fields that hold one of a few: operators, and the kinds of declarations, properties and methods.
+-- The words of the fields that hold one of a few: operators, and the kinds of declarations,
+-- properties and methods.
 use Rattle.std.specs.Prelude.{ℕ, List, [], ◌∷◌, Bool, true, false, Option, option_and_then, codes}
 use Rattle.serde_json.specs.Data.{Data}
 use Rattle.mini_model.specs.declared.kind.MethodDefinitionKind.{MethodDefinitionKind}

@@ -1,5 +1,5 @@
--- The rows that a call has which is one rewrite of many: what it writes is what they say, and where it writes nothing none of them reads
--- the node.
+-- The rows that a call has which is one rewrite of many: what it writes is what they say, and where
+-- it writes nothing none of them reads the node.
 use Rattle.std.specs.Prelude.{◌≡◌, ◌<◌, ◌^◌, ◌⊎◌, Bool, true, false, not, codes, Option, Some, None, is_some, if◌then◌else◌}
 use Rattle.mini_model.specs.declared.operator.LogicalOperator.{LogicalOperator}
 use Rattle.mini_model.specs.declared.place.Position.TheVariants.{Expr, Stmt}
@@ -37,8 +37,8 @@ pub record Own (f : Tree → Option Tree) (R : Tree → Tree → Type 0) : Type 
 abbrev pub OwnIn : (Seat → Tree → Option Tree) → (Seat → Tree → Tree → Type 0) → Type 0
 OwnIn f R = (s : Seat) → Own (f s) (R s)
 
--- of rows that are weighed: what is written is lighter besides, and where nothing is none makes the node lighter, as far as its weight fits 64
--- bits
+-- of rows that are weighed: what is written is lighter besides, and where nothing is none makes the
+-- node lighter, as far as its weight fits 64 bits
 pub record Weighed (f : Seat → Tree → Option Tree) (R : Seat → Tree → Tree → Type 0) : Type 0 where
   pub written : (s : Seat) (n w : Tree) → f s n ≡ Some w → R s n w
   pub lighter : (s : Seat) (n w : Tree) → f s n ≡ Some w → weight (Expr s) w < weight (Expr s) n
@@ -50,8 +50,8 @@ pub record Fitting (f : Tree → Option Tree) (R : Tree → Tree → Type 0) : T
   pub lighter : (q : StmtSeat) (n w : Tree) → f n ≡ Some w → weight (Stmt q) w < weight (Stmt q) n
   pub unwritten : (q : StmtSeat) (n : Tree) → f n ≡ None → weight (Stmt q) n < 2 ^ 64 → (w : Tree) → R n w → ⊥
 
--- of a call that says whether it changes the node: where it does what is made is what a row says, and where not the node is as it was, and
--- none reads it
+-- of a call that says whether it changes the node: where it does what is made is what a row says,
+-- and where not the node is as it was, and none reads it
 pub record Changing (changes : Tree → Bool) (made : Tree → Tree) (R : Tree → Tree → Type 0) : Type 0 where
   pub written : (n : Tree) → changes n ≡ true → R n (made n)
   pub kept : (n : Tree) → changes n ≡ false → made n ≡ n

@@ -13,7 +13,8 @@ pub record IsSameJson (input output : List ℕ) : Type 0 where
   pub reads : read input ≡ Some value
   pub written : IsInOrder output value
 
--- the text is JSON of a program that is read, and the other one has the items and members of what is written for its tree
+-- the text is JSON of a program that is read, and the other one has the items and members of what
+-- is written for its tree
 pub record IsEcho (input output : List ℕ) : Type 0 where
   pub value : Data
   pub reads : read input ≡ Some value

@@ -2,11 +2,13 @@
 //! and minified can be compared with what was worked out by hand, or is what acorn gives for some
 //! code (`stdin` and `stdout`).
 //!
-//! A line that begins with `#` is a title, and its own answer. Each other one is a word and a value of ESTree as JSON:
-//! `tell` and a depth, `numbers`, `again`, `echo`, `lighter`, `expression`, `statement`, or `minify` or `answer` and a number of
-//! passes. Or it asks for a whole run over memory (`run` and its like, `memory.rt`), for a program that nests deep (`depth.rt`)
-//! or for a part of a library: `text`, `numeral`, `cooked`, `list`, `statements`, `sizes` and more (`cases.rt`).
-//! `bench/cases.js` writes the lines below the title `Whole runs: which numbers and symbols stay`.
+//! A line that begins with `#` is a title, and its own answer. Each other one is a word and a value
+//! of ESTree as JSON: `tell` and a depth, `numbers`, `again`, `echo`, `lighter`, `expression`,
+//! `statement`, or `minify` or `answer` and a number of passes. Or it asks for a whole run over
+//! memory (`run` and its like, `memory.rt`), for a program that nests deep (`depth.rt`) or for a
+//! part of a library: `text`, `numeral`, `cooked`, `list`, `statements`, `sizes` and more
+//! (`cases.rt`). `bench/cases.js` writes the lines below the title
+//! `Whole runs: which numbers and symbols stay`.
 //!
 //! With the word `--echo` all of standard input is one program, which is written as the minifier
 //! would: every field of each type of node, and no other. With `--json` it is read and written as

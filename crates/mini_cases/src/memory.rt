@@ -170,8 +170,8 @@ fn run_with(alloc: Global, setting: Setting, text: &str, out: &mut Answer) {
     run_on(alloc, setting, &words, input, out);
 }
 
-/// A run whose source and sinks never fail, over words, each with a bar behind it, and the input: the status, and how many bytes are
-/// left, written and told.
+/// A run whose source and sinks never fail, over words, each with a bar behind it, and the input:
+/// the status, and how many bytes are left, written and told.
 pub fn run_plainly(alloc: Global, text: &str, out: &mut Answer) {
     let (words, input) = words_of(alloc, text, out);
     let mut source = PlainSource::new(bytes_of(alloc, input, out));

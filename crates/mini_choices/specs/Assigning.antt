@@ -64,7 +64,8 @@ is_same_target t u = (is_identifier t || is_member_of_name t) && same_tree t u
 abbrev pub is_same_member : Tree → Tree → Bool
 is_same_member t u = is_member_of_name t && same_tree t u
 
--- `x[k]`, where a scope declares x and k has no effect; `this` has one where it is asked of the world
+-- `x[k]`, where a scope declares x and k has no effect; `this` has one where it is asked of the
+-- world
 abbrev pub is_indexed_name : Bool → Tree → Bool
 is_indexed_name asked t = (is_computed_member t && ef asked (part t 1)) && (is_identifier (part t 0) && is_declared (part t 0))
 

@@ -39,7 +39,8 @@ are_others_same ts us = same_trees (without ts 0) (without us 0)
 abbrev pub is_idle : Bool → Tree → Bool
 is_idle asked f = is_plain_part f && ef asked f
 
--- of one such function, with the same arguments after the first, which both are expressions or both are spread
+-- of one such function, with the same arguments after the first, which both are expressions or both
+-- are spread
 abbrev pub are_alike : Bool → Tree → Tree → Bool
 are_alike asked t u = begin_alike (children (part t 1)) (children (part u 1)) && (same_tree (part t 0) (part u 0) && (is_idle asked (part t 0) && are_others_same (children (part t 1)) (children (part u 1))))
 

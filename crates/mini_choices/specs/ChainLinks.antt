@@ -1,5 +1,5 @@
--- 64, `substitute_chain_expression`, and 11, of `fold_chain_expr`: `(a?.b)?.c` becomes `a?.b?.c`, and `[1]?.length` becomes `[1].length`,
--- whatever links stand outside.
+-- 64, `substitute_chain_expression`, and 11, of `fold_chain_expr`: `(a?.b)?.c` becomes `a?.b?.c`,
+-- and `[1]?.length` becomes `[1].length`, whatever links stand outside.
 use Rattle.std.specs.Prelude.{Bool, true, false, not, ◌&&◌, ◌||◌, [], Option, Some, None, if◌then◌else◌}
 use Rattle.mini_model.specs.declared.seat.Seat.{Seat}
 use Rattle.mini_model.specs.declared.shape.Shape.{Shape}

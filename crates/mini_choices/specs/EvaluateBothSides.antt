@@ -1,4 +1,5 @@
--- 13, and 15 of `??`, where the left side does something: `(x = []) && b` becomes `x = [], b`, where that is lighter.
+-- 13, and 15 of `??`, where the left side does something: `(x = []) && b` becomes `x = [], b`,
+-- where that is lighter.
 use Rattle.std.specs.Prelude.{Bool, false, Option, Some, None, ◌&&◌, if◌then◌else◌}
 use Rattle.mini_model.specs.declared.operator.LogicalOperator.{LogicalOperator}
 use Rattle.mini_model.specs.declared.seat.Seat.{Seat}

@@ -1,5 +1,5 @@
--- 10, `fold_chain_expr`: `null?.a` becomes `void 0`, and `(void f())?.a.b.c.d` becomes `void f(), void 0`, whatever links stand outside;
--- and 64 and 11 (`ChainLinks.antt`).
+-- 10, `fold_chain_expr`: `null?.a` becomes `void 0`, and `(void f())?.a.b.c.d` becomes
+-- `void f(), void 0`, whatever links stand outside; and 64 and 11 (`ChainLinks.antt`).
 use Rattle.std.specs.Prelude.{Bool, true, false, not, ◌&&◌, ◌||◌, Option, Some, if◌then◌else◌}
 use Rattle.mini_model.specs.declared.seat.Seat.{Seat}
 use Rattle.mini_model.specs.Tree.{Tree, Trees, node, none, ◌▸◌, absent, child_or_absent}

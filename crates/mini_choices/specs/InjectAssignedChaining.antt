@@ -1,6 +1,7 @@
--- 46, `inject_optional_chaining_if_matched`, of a name that is assigned to in the test: `(x = a) == null ? void 0 : x.m` becomes `(x = a)?.m`, and so
--- do other members and calls over x, and `(x = a) != null ? x.m : void 0`; where x can be written, and isn't named `eval`. As a callee and under
--- `delete` it stands behind a `0`.
+-- 46, `inject_optional_chaining_if_matched`, of a name that is assigned to in the test:
+-- `(x = a) == null ? void 0 : x.m` becomes `(x = a)?.m`, and so do other members and calls over x,
+-- and `(x = a) != null ? x.m : void 0`; where x can be written, and isn't named `eval`. As a callee
+-- and under `delete` it stands behind a `0`.
 use Rattle.std.specs.Prelude.{Bool, not, ◌&&◌, Option, Some, None, if◌then◌else◌}
 use Rattle.mini_model.specs.declared.seat.Seat.{Seat}
 use Rattle.mini_model.specs.Tree.{Tree}

@@ -1,5 +1,6 @@
--- 46, `inject_optional_chaining_if_matched`: `x == null ? void 0 : x.m` becomes `x?.m`, and so do other members and calls over x, and
--- `x != null ? x.m : void 0`; where a scope declares x, and it isn't named `eval`. As a callee and under `delete` it stands behind a `0`.
+-- 46, `inject_optional_chaining_if_matched`: `x == null ? void 0 : x.m` becomes `x?.m`, and so do
+-- other members and calls over x, and `x != null ? x.m : void 0`; where a scope declares x, and it
+-- isn't named `eval`. As a callee and under `delete` it stands behind a `0`.
 use Rattle.std.specs.Prelude.{Bool, true, false, not, ◌&&◌, ◌||◌, List, [], ◌∷◌, Option, Some, None, codes, if◌then◌else◌}
 use Rattle.mini_model.specs.declared.name.Name.{Name}
 use Rattle.mini_model.specs.declared.seat.Seat.{Seat}

@@ -1,5 +1,5 @@
--- `join_with_left_associative_op`: `a || b` of an a and a b that may be of `||` itself, with nothing of `||` on the right of one, and so
--- of `&&` and `??`.
+-- `join_with_left_associative_op`: `a || b` of an a and a b that may be of `||` itself, with
+-- nothing of `||` on the right of one, and so of `&&` and `??`.
 use Rattle.std.specs.Prelude.{◌≡◌, refl, true, false, if◌then◌else◌}
 use Rattle.mini_model.specs.declared.operator.LogicalOperator.{LogicalOperator}
 use Rattle.mini_model.specs.declared.operator.LogicalOperator.TheVariants.{Or, And}

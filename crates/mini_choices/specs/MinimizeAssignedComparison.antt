@@ -1,5 +1,6 @@
--- 46, `minimize_conditional_expression`, of a name that is assigned to in the test: `(x = a) == null ? b : x` becomes `(x = a) ?? b`, and so does
--- `(x = a) != null ? x : b`, where x can be written.
+-- 46, `minimize_conditional_expression`, of a name that is assigned to in the test:
+-- `(x = a) == null ? b : x` becomes `(x = a) ?? b`, and so does `(x = a) != null ? x : b`, where x
+-- can be written.
 use Rattle.std.specs.Prelude.{Bool, Option, Some, None, ◌&&◌, if◌then◌else◌}
 use Rattle.mini_model.specs.declared.operator.LogicalOperator.TheVariants.{Coalesce}
 use Rattle.mini_model.specs.Tree.{Tree, logical}

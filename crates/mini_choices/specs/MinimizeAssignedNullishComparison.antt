@@ -1,6 +1,7 @@
--- 37, of `minimize_logical_expression`, of a name that the first test assigns to: `(x = a) === null || x === undefined` becomes `(x = a) == null`,
--- and `(x = a) !== null && x !== undefined` becomes `(x = a) != null`, in any order, and after an equal operator to the left, where x can be
--- written.
+-- 37, of `minimize_logical_expression`, of a name that the first test assigns to:
+-- `(x = a) === null || x === undefined` becomes `(x = a) == null`, and
+-- `(x = a) !== null && x !== undefined` becomes `(x = a) != null`, in any order, and after an equal
+-- operator to the left, where x can be written.
 use Rattle.std.specs.Prelude.{Bool, Option, Some, None, ◌&&◌, if◌then◌else◌}
 use Rattle.mini_model.specs.Tree.{Tree}
 use Rattle.mini_laws.specs.Value.{VariableSet}

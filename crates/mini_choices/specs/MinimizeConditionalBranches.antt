@@ -1,6 +1,8 @@
--- 41, 44, 45 and 46, of `minimize_conditional_expression`: `x ? x : b` becomes `x || b`, `x ? b : x` becomes `x && b`,
--- `a ? x = b : x = c` becomes `x = a ? b : c`, where a scope declares x or a has no effect, and so of `+=` where both hold, `x == null ? b : x` becomes `x ?? b`, where a
--- scope declares x, and `a ? f(p, r) : f(q, r)` becomes `f(a ? p : q, r)`, where neither f nor a has an effect.
+-- 41, 44, 45 and 46, of `minimize_conditional_expression`: `x ? x : b` becomes `x || b`,
+-- `x ? b : x` becomes `x && b`, `a ? x = b : x = c` becomes `x = a ? b : c`, where a scope declares
+-- x or a has no effect, and so of `+=` where both hold, `x == null ? b : x` becomes `x ?? b`, where
+-- a scope declares x, and `a ? f(p, r) : f(q, r)` becomes `f(a ? p : q, r)`, where neither f nor a
+-- has an effect.
 use Rattle.std.specs.Prelude.{Bool, true, false, Option, Some, None, ◌&&◌, ◌||◌, not, nat_eq, nat_lt, unwrap_or, if◌then◌else◌}
 use Rattle.mini_model.specs.declared.operator.AssignmentOperator.{AssignmentOperator}
 use Rattle.mini_model.specs.declared.operator.AssignmentOperator.TheVariants.{Assign}
@@ -21,8 +23,9 @@ use Rattle.mini_choices.specs.Calling.{calls_either, called}
 
 -- ---- 45
 
--- both are one name, between writes of which by this operator this test may choose after it is read, or one member of a name, which is
--- written after a test without an effect. `this` has one where it is asked of the world
+-- both are one name, between writes of which by this operator this test may choose after it is
+-- read, or one member of a name, which is written after a test without an effect. `this` has one
+-- where it is asked of the world
 abbrev pub may_take : Bool → AssignmentOperator → Tree → Tree → Tree → Bool
 may_take asked o a x y = (is_same_name x y && may_choose o (is_declared x) (ef asked a)) || (is_plain (Some o) && (is_same_member x y && ef asked a))
 

@@ -1,4 +1,5 @@
--- 21, of a first part that has no effect before a last one that may not stand alone: `(null, a.b)()` becomes `(0, a.b)()`, where that is lighter.
+-- 21, of a first part that has no effect before a last one that may not stand alone:
+-- `(null, a.b)()` becomes `(0, a.b)()`, where that is lighter.
 use Rattle.std.specs.Prelude.{Bool, ◌&&◌, Option, Some, None, if◌then◌else◌}
 use Rattle.mini_model.specs.declared.seat.Seat.{Seat}
 use Rattle.mini_model.specs.Tree.{Tree}

@@ -1,6 +1,7 @@
--- 42, 43 and 49, of `minimize_conditional_expression`: a branch that stands in two places of a conditional is written once, where that
--- is lighter. `a ? b ? c : d : d` becomes `a && b ? c : d`, `a ? b || c : c` becomes `a && b || c`, `a ? (b, c) : c` becomes
--- `a && b, c`, the same of the alternate with `||`, and `a ? b : b` becomes `a, b`.
+-- 42, 43 and 49, of `minimize_conditional_expression`: a branch that stands in two places of a
+-- conditional is written once, where that is lighter. `a ? b ? c : d : d` becomes `a && b ? c : d`,
+-- `a ? b || c : c` becomes `a && b || c`, `a ? (b, c) : c` becomes `a && b, c`, the same of the
+-- alternate with `||`, and `a ? b : b` becomes `a, b`.
 use Rattle.std.specs.Prelude.{ℕ, Bool, Option, Some, None, ◌&&◌, if◌then◌else◌}
 use Rattle.mini_model.specs.declared.operator.LogicalOperator.{LogicalOperator}
 use Rattle.mini_model.specs.declared.operator.LogicalOperator.TheVariants.{Or, And}

@@ -1,5 +1,5 @@
--- 38, `minimize_logical_sequence`: `x || (a, x = b)` becomes `x ||= (a, b)`, and so of `&&` and `??`, where an assignment has no parentheses
--- that the operator hasn't.
+-- 38, `minimize_logical_sequence`: `x || (a, x = b)` becomes `x ||= (a, b)`, and so of `&&` and
+-- `??`, where an assignment has no parentheses that the operator hasn't.
 use Rattle.std.specs.Prelude.{ℕ, suc, Bool, true, false, Option, Some, None, ◌&&◌, if◌then◌else◌}
 use Rattle.mini_model.specs.declared.operator.LogicalOperator.{LogicalOperator}
 use Rattle.mini_model.specs.declared.seat.Seat.{Seat}

@@ -1,5 +1,5 @@
--- 35, `minimize_normal_assignment_to_combined_assignment`: `x = x + b` becomes `x += b`, and `x.k = x.k + b` `x.k += b`, and so of the
--- other operators of numbers.
+-- 35, `minimize_normal_assignment_to_combined_assignment`: `x = x + b` becomes `x += b`, and
+-- `x.k = x.k + b` `x.k += b`, and so of the other operators of numbers.
 use Rattle.std.specs.Prelude.{Option, Some, None, ◌&&◌, if◌then◌else◌}
 use Rattle.mini_model.specs.declared.operator.AssignmentOperator.{AssignmentOperator}
 use Rattle.mini_model.specs.declared.operator.BinaryOperator.{BinaryOperator}

@@ -1,5 +1,5 @@
--- 34, `minimize_normal_assignment_to_combined_logical_assignment`: `x = x || b` becomes `x ||= b`, and so of `&&` and `??`, where x can be
--- written.
+-- 34, `minimize_normal_assignment_to_combined_logical_assignment`: `x = x || b` becomes `x ||= b`,
+-- and so of `&&` and `??`, where x can be written.
 use Rattle.std.specs.Prelude.{Bool, false, ◌&&◌, List, [], ◌∷◌, Option, Some, None, if◌then◌else◌}
 use Rattle.mini_model.specs.declared.name.Name.{Name}
 use Rattle.mini_model.specs.declared.name.SymbolId.{SymbolId}

@@ -1,5 +1,6 @@
--- 37, of `minimize_logical_expression`: `x === null || x === undefined` becomes `x == null`, and `x !== null && x !== undefined`
--- becomes `x != null`, in any order, and after an equal operator to the left.
+-- 37, of `minimize_logical_expression`: `x === null || x === undefined` becomes `x == null`, and
+-- `x !== null && x !== undefined` becomes `x != null`, in any order, and after an equal operator to
+-- the left.
 use Rattle.std.specs.Prelude.{Bool, true, false, not, Option, Some, None, ◌&&◌, if◌then◌else◌}
 use Rattle.mini_model.specs.declared.operator.BinaryOperator.{BinaryOperator}
 use Rattle.mini_model.specs.declared.operator.BinaryOperator.TheVariants.{StrictEquality, StrictInequality}

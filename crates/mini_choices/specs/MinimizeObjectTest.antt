@@ -1,5 +1,6 @@
--- 57: `typeof x == "object" && x !== null` becomes `typeof x == "object" && !!x`, and `typeof x != "object" || x === null` becomes
--- `typeof x != "object" || !x`, in any order, and after an equal operator to the left.
+-- 57: `typeof x == "object" && x !== null` becomes `typeof x == "object" && !!x`, and
+-- `typeof x != "object" || x === null` becomes `typeof x != "object" || !x`, in any order, and
+-- after an equal operator to the left.
 use Rattle.std.specs.Prelude.{Bool, true, false, not, List, ℕ, Option, Some, None, ◌&&◌, if◌then◌else◌, codes}
 use Rattle.mini_model.specs.declared.operator.BinaryOperator.{BinaryOperator}
 use Rattle.mini_model.specs.declared.operator.BinaryOperator.TheVariants.{Equality, Inequality, StrictEquality, StrictInequality}

@@ -8,7 +8,8 @@ use Rattle.mini_choices.specs.Assigning.{assigns_name, is_declared}
 use Rattle.mini_choices.specs.ChainLinks.{is_chain, outcome, folded, wrapped}
 use Rattle.mini_choices.specs.InjectOptionalChaining.{is_eval, is_spine, optional_over}
 
--- 64, `substitute_chain_expression`: an optional link over a chain takes what that holds, and no mark goes
+-- 64, `substitute_chain_expression`: an optional link over a chain takes what that holds, and no
+-- mark goes
 abbrev pub chain_written : Tree → Option Tree
 chain_written t = if is_chain t then wrapped (outcome false (part t 0)) (folded false (part t 0)) else None
 
@@ -16,7 +17,8 @@ chain_written t = if is_chain t then wrapped (outcome false (part t 0)) (folded 
 abbrev pub assigned_name : Tree → Option Tree
 assigned_name t = if is_identifier t then Some t else (if assigns_name t then Some (part t 0) else None)
 
--- 46, `inject_optional_chaining_if_matched`: links over the name, which a scope declares, and which isn't `eval`
+-- 46, `inject_optional_chaining_if_matched`: links over the name, which a scope declares, and which
+-- isn't `eval`
 abbrev pub reads_target : Tree → Tree → Bool
 reads_target x t = is_identifier x && (is_declared x && (not (is_eval (names_of x)) && is_spine x t))
 

@@ -1,4 +1,5 @@
--- The rows of two calls that have several: of what both branches of a conditional have, and of optional chains.
+-- The rows of two calls that have several: of what both branches of a conditional have, and of
+-- optional chains.
 use Rattle.std.specs.Prelude.{◌⊎◌}
 use Rattle.mini_model.specs.declared.seat.Seat.{Seat}
 use Rattle.mini_model.specs.Tree.{Tree}

@@ -1,5 +1,5 @@
--- 39, `substitute_rotate_logical_expression`: `a && (b && c)` becomes `a && b && c`, and so of `||` and `??`, however many operands
--- stand on the right.
+-- 39, `substitute_rotate_logical_expression`: `a && (b && c)` becomes `a && b && c`, and so of `||`
+-- and `??`, however many operands stand on the right.
 use Rattle.std.specs.Prelude.{Option, Some, None, ◌&&◌, not, if◌then◌else◌}
 use Rattle.mini_model.specs.declared.operator.LogicalOperator.{LogicalOperator}
 use Rattle.mini_model.specs.Tree.{Tree, Trees, node, none, ◌▸◌, absent, child_or_absent, logical}

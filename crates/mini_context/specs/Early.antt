@@ -13,7 +13,8 @@ use Rattle.mini_context.specs.declared.parts.Part.TheVariants as part
 use Rattle.mini_context.specs.Lists.{holds}
 use Rattle.mini_context.specs.Tables.{mark_at, named}
 
--- in which order a node of a shape with so many children evaluates them, and where the declarations that end with it end
+-- in which order a node of a shape with so many children evaluates them, and where the declarations
+-- that end with it end
 abbrev pub order_of : Shape → ℕ → Order
 order_of shape.ForInStatement (suc (suc n)) = order.RightFirst
 order_of shape.ForOfStatement (suc (suc n)) = order.RightFirst

@@ -1,4 +1,5 @@
--- What is steady, and counts of `function f(p) { p = p + p }` when `p + p` is dropped, and in how many steps, worked out by hand.
+-- What is steady, and counts of `function f(p) { p = p + p }` when `p + p` is dropped, and in how
+-- many steps, worked out by hand.
 use Rattle.std.specs.Prelude.{◌≡◌, refl, [], ◌∷◌, length, true, false}
 use Rattle.mini_laws.specs.declared.names.Use.TheVariants.{Read}
 use Rattle.mini_laws.specs.References.{reads, writes, references}

@@ -21,13 +21,16 @@ use Rattle.mini_context.specs.Holders.{AllBelow, Writables}
 use Rattle.mini_context.specs.Asking.{asks_as}
 use Rattle.mini_laws.specs.Bodies.{bodies_in}
 
--- by symbol: how often it is read, and written; whether it can't be written; whether it was one of a script's top names when the
--- program was resolved; its scope; whether it is a top name; whether a direct eval can see it; whether a module imports or exports
--- it, or imports it; whether it is a parameter that an `arguments` reaches; whether a pattern binds it; whether it is lexical, and
--- directly in a `switch`; whether it is a `var` under a parameter of `catch` of its name, and whether the pattern of a `var` writes it; where it is
--- mentioned, where a reference writes it, and where a `var` does; in which bodies it is bound, and which
--- read it before its declaration has ended; the functions whose parameters bind it; whether it is mentioned and can be written. By scope: whether its code
--- is strict; whether a direct eval stands in it. By body: whether `this` is an event in it; whether it has an `arguments`; the functions in whose parameters it stands;
+-- by symbol: how often it is read, and written; whether it can't be written; whether it was one of
+-- a script's top names when the program was resolved; its scope; whether it is a top name; whether
+-- a direct eval can see it; whether a module imports or exports it, or imports it; whether it is a
+-- parameter that an `arguments` reaches; whether a pattern binds it; whether it is lexical, and
+-- directly in a `switch`; whether it is a `var` under a parameter of `catch` of its name, and
+-- whether the pattern of a `var` writes it; where it is mentioned, where a reference writes it, and
+-- where a `var` does; in which bodies it is bound, and which read it before its declaration has
+-- ended; the functions whose parameters bind it; whether it is mentioned and can be written. By
+-- scope: whether its code is strict; whether a direct eval stands in it. By body: whether `this` is
+-- an event in it; whether it has an `arguments`; the functions in whose parameters it stands;
 -- whether it asks the world for `this`
 pub record Facts : Type 0 where
   pub reads : List ℕ
@@ -82,7 +85,8 @@ pub record Looked (f : Facts) (n : ℕ) (t : Tree) : Type 0 where
   pub early_told : (s : ℕ) → s < n → (b : ℕ) → holds f.early s b ≡ is_read_early b (named s) (moments Read outermost t)
   pub enclosed_told : (s : ℕ) → s < n → (b : ℕ) → is_around f.functions f.enclosed s b ≡ is_among (named s) (params_around b t)
 
--- of so many symbols they are those of a tree, but for which of them were a script's top names when it was resolved
+-- of so many symbols they are those of a tree, but for which of them were a script's top names when
+-- it was resolved
 pub record Told (f : Facts) (n : ℕ) (t : Tree) : Type 0 where
   pub reads_told : f.reads ≡ counts_of is_read n t
   pub writes_told : f.writes ≡ counts_of is_write n t
@@ -110,7 +114,8 @@ pub record Refreshed (old new : Facts) (t : Tree) : Type 0 where
   pub told : Told new (length old.reads) t
   pub tops_kept : new.tops ≡ old.tops
 
--- whether every body that mentions it shares the symbol with a number, and whether a body does, as the tables tell it
+-- whether every body that mentions it shares the symbol with a number, and whether a body does, as
+-- the tables tell it
 abbrev pub shared_always : Facts → ℕ → Bool
 shared_always f s = mark_at f.now_top s || mark_at f.exchanged s || mark_at f.seen s || mark_at f.reached s || mark_at f.caught s || mark_at f.pattern_writes s
 

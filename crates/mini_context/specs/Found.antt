@@ -1,4 +1,5 @@
--- The tables of symbols and of bodies: before a walk over a program, and what it finds of the names.
+-- The tables of symbols and of bodies: before a walk over a program, and what it finds of the
+-- names.
 use Rattle.std.specs.Prelude.{ℕ, ◌≡◌, ◌<◌, Bool, false, ◌&&◌, List, [], map, replicate, slice_index}
 use Rattle.std.specs.List.{filter, list_any}
 use Rattle.mini_model.specs.Tree.{Tree}

@@ -1,4 +1,5 @@
--- By shape, whose names a node declares or binds, and which of them can't be written; and tables of marks by symbol.
+-- By shape, whose names a node declares or binds, and which of them can't be written; and tables of
+-- marks by symbol.
 use Rattle.std.specs.Prelude.{ℕ, ◌≡◌, ◌<◌, Bool, true, false, ◌&&◌, ◌||◌, not, List, [], ◌++◌, Option, Some, None, if◌then◌else◌}
 use Rattle.mini_model.specs.declared.kind.VariableDeclarationKind.TheVariants.{Const, Var}
 use Rattle.mini_model.specs.declared.operator.UnaryOperator.TheVariants.{LogicalNot}

@@ -8,7 +8,8 @@ use Rattle.mini_tree.specs.declared.options.CompressOptions.{CompressOptions}
 use Rattle.mini_context.specs.declared.context.TraverseCtx.{TraverseCtx}
 use Rattle.mini_context.specs.Facts.{Facts, Tells, Refreshed}
 
--- its options are these, and of the program it has what was told of one at first, and then set to what this one tells
+-- its options are these, and of the program it has what was told of one at first, and then set to
+-- what this one tells
 pub record Knows (c : TraverseCtx) (o : CompressOptions) (q : Tree) : Type 0 where
   pub options : c.options ≡ o
   pub first : Tree

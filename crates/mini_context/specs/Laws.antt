@@ -37,8 +37,9 @@ ForeignTells = (f : Facts) (n : ℕ) (t : Tree) → Looked f n t → (s b : ℕ)
 abbrev pub RefreshTells : Type 0
 RefreshTells = (old new : Facts) (t : Tree) → Refreshed old new t → (s b : ℕ) → s < length old.reads → (shares new s b ≡ is_shared t b (named s)) × (foreign new s b ≡ is_foreign t b (named s))
 
--- what is used in two ways that are counted alike is counted alike, where a `var` in the head of a loop is counted as any other: so the counts of a part that
--- a `var` declares are those of one that is read
+-- what is used in two ways that are counted alike is counted alike, where a `var` in the head of a
+-- loop is counted as any other: so the counts of a part that a `var` declares are those of one that
+-- is read
 abbrev pub UsesTell : Type 0
 UsesTell = (p : Use → Bool) → p Headed ≡ p Hoisted → (u v : Use) → p u ≡ p v → (t : Tree) (s : ℕ) → times_of p s (references u t) ≡ times_of p s (references v t)
 

@@ -13,7 +13,8 @@ pub record Put (at number : ℕ) (old new : List (List ℕ)) : Type 0 where
   pub lists : length new ≡ length old
   pub each : (s : ℕ) → s < length old → (k : ℕ) → holds new s k ≡ (holds old s k || (nat_eq at s && nat_eq number k))
 
--- the bodies in which these mentions stand were put into the lists of their symbols; what stands in a carried node is in none
+-- the bodies in which these mentions stand were put into the lists of their symbols; what stands in
+-- a carried node is in none
 pub record Housed (ms : List Mention) (old new : List (List ℕ)) : Type 0 where
   pub lists : length new ≡ length old
   pub each : (s : ℕ) → s < length old → (b : ℕ) → holds new s b ≡ (holds old s b || list_any (λ m. same_variable (named s) m.name && not (is_elsewhere b m.around)) ms)

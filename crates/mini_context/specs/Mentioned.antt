@@ -1,4 +1,5 @@
--- Where a symbol is mentioned, in short: enough to tell of each body whether it is mentioned outside it.
+-- Where a symbol is mentioned, in short: enough to tell of each body whether it is mentioned
+-- outside it.
 use Rattle.std.specs.Prelude.{ℕ, ◌≡◌, ◌<◌, nat_eq, Bool, true, false, not, ◌&&◌, ◌||◌, List, length, slice_index_or}
 use Rattle.std.specs.List.{list_any}
 use Rattle.mini_laws.specs.Mentions.{Mention, same_variable, is_elsewhere}

@@ -41,8 +41,8 @@ abbrev pub switched_part : Shape → Part
 switched_part shape.SwitchStatement = part.Every declared.Lexical
 switched_part h = part.Nothing
 
--- where a node has lexical names, directly in the body of a script or a function (true), or elsewhere: classes aside, which
--- hold their name twice
+-- where a node has lexical names, directly in the body of a script or a function (true), or
+-- elsewhere: classes aside, which hold their name twice
 abbrev pub lexical_part : Bool → Shape → Part
 lexical_part b (shape.VariableDeclaration Var) = part.Nothing
 lexical_part b (shape.VariableDeclaration k) = part.Every declared.Bound

@@ -1,10 +1,13 @@
--- What the tables tell of a body: which names are steady in it, that is nothing writes them, and they aren't foreign to it; which of these it begins
--- with; which names it doesn't share; and whether it has a `this` that it needn't ask for. And whether that stays so from one look at a program to the next. In
+-- What the tables tell of a body: which names are steady in it, that is nothing writes them, and
+-- they aren't foreign to it; which of these it begins with; which names it doesn't share; and
+-- whether it has a `this` that it needn't ask for. And whether that stays so from one look at a
+-- program to the next. In
 --
 --     function f(x, y) { let z = 1; return () => x + z; }
 --
--- x and y are steady in f and in the arrow, and z in f alone, as the arrow may be called before z is declared. With `y = 2` in it the arrow
--- writes y, which then is steady in no body. Both begin with x and y, and neither shares y.
+-- x and y are steady in f and in the arrow, and z in f alone, as the arrow may be called before z
+-- is declared. With `y = 2` in it the arrow writes y, which then is steady in no body. Both begin
+-- with x and y, and neither shares y.
 use Rattle.std.specs.Prelude.{ℕ, zero, suc, ◌≡◌, ◌<◌, nat_eq, nat_lt, Bool, true, false, not, ◌&&◌, ◌||◌, List, [], ◌∷◌, length, slice_index_or, Option, Some, None}
 use Rattle.std.specs.List.{list_all, list_any}
 use Rattle.mini_model.specs.Tree.{Tree}
@@ -79,8 +82,8 @@ is_no_number (k ∷ ks) = false
 abbrev pub stays_bound : List ℕ → List ℕ → Bool
 stays_bound earlier later = is_no_number later || (is_one (only_of later) && is_one (only_of earlier))
 
--- a function of the later look was one of the earlier by a symbol: both bind it, which was steady somewhere. Functions have other numbers
--- in each look
+-- a function of the later look was one of the earlier by a symbol: both bind it, which was steady
+-- somewhere. Functions have other numbers in each look
 abbrev pub is_origin : Facts → Facts → ℕ → ℕ → ℕ → Bool
 is_origin f g s k j = not (is_unsteady f s) && (is_this (only_of (slice_index_or g.functions s [])) k && is_this (only_of (slice_index_or f.functions s [])) j)
 

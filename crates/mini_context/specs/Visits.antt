@@ -35,7 +35,8 @@ frame_in f = record { extends = f.extends; constructs = f.constructs; binds_this
 abbrev pub frame_by : Frame → FrameHeld
 frame_by f = record { extends = f.extends; constructs = f.constructs; binds_this = f.binds_this; has_arguments = f.has_arguments }
 
--- in which children what a module imports and exports may be named (ECMA-262, "ImportEntries", "ExportEntries")
+-- in which children what a module imports and exports may be named (ECMA-262, "ImportEntries",
+-- "ExportEntries")
 abbrev pub is_exchange_shape : Shape → Bool
 is_exchange_shape (shape.Program is_module ds) = true
 is_exchange_shape shape.Listed = true

@@ -124,7 +124,8 @@ fn survey_program(
     survey_node(alloc, tables, at_top(), program)
 }
 
-// Sets the scopes of a program with so many symbols, and which of these the patterns of its `var`s write.
+// Sets the scopes of a program with so many symbols, and which of these the patterns of its `var`s
+// write.
 fn list_program(
     alloc: Global,
     scopes: &mut ScopeTables,

@@ -48,6 +48,7 @@ abbrev pub is_rest : Option Place → List ℕ → (Place → Option (List ℕ))
 is_rest None left rest = false
 is_rest (Some place) left rest = is_text_of_cooked (Some left) (rest place)
 
--- The text begins with what the step gives, where there is a place that it leads to, and what is left then.
+-- The text begins with what the step gives, where there is a place that it leads to, and what is
+-- left then.
 abbrev pub Follows : Option Place → Step → List ℕ → List ℕ → Type 0
 Follows place step text left = (rest : Place → Option (List ℕ)) → is_text_of_cooked (Some text) (then_rest step rest) ≡ is_rest place left rest

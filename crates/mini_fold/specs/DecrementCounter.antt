@@ -1,4 +1,5 @@
--- 36: `for (let x = n; x; x -= 1) b` becomes `for (let x = n; x; --x) b`, where x holds numbers only.
+-- 36: `for (let x = n; x; x -= 1) b` becomes `for (let x = n; x; --x) b`, where x holds numbers
+-- only.
 use Rattle.std.specs.Prelude.{Bool, true, false, ◌&&◌, Option, Some, None, [], pos, negsuc, ℤ, suc, zero, if◌then◌else◌}
 use Rattle.mini_model.specs.declared.operator.AssignmentOperator.{AssignmentOperator}
 use Rattle.mini_model.specs.declared.operator.AssignmentOperator.TheVariants.{Subtraction}

@@ -1,4 +1,5 @@
--- What the calls of 3 to 9 make of small expressions, computed: each was worked out by hand from the rows.
+-- What the calls of 3 to 9 make of small expressions, computed: each was worked out by hand from
+-- the rows.
 use Rattle.std.specs.Prelude.{◌≡◌, refl, Some, None, codes, pos}
 use Rattle.std.specs.Fmt.{digits}
 use Rattle.mini_model.specs.declared.operator.BinaryOperator.TheVariants.{Addition, BitwiseAnd, Equality}

@@ -1,5 +1,6 @@
--- The rewrites 1 and 3: a unary or binary expression over constants becomes the literal of its value, where that is lighter, and 9, so
--- does the length of a text that is known. Where nothing does, two operands may be one (4 and 8).
+-- The rewrites 1 and 3: a unary or binary expression over constants becomes the literal of its
+-- value, where that is lighter, and 9, so does the length of a text that is known. Where nothing
+-- does, two operands may be one (4 and 8).
 use Rattle.std.specs.Prelude.{◌≡◌, ℕ, ◌<◌, ◌-◌, ◌^◌, nat_le, Bool, ◌&&◌, List, Option, Some, None, if◌then◌else◌}
 use Rattle.mini_model.specs.declared.place.Position.{Position}
 use Rattle.mini_model.specs.declared.place.Position.TheVariants.{Expr}

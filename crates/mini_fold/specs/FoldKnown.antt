@@ -1,6 +1,6 @@
--- The rewrites on what is known of an expression from its text: 12, 13 and 15 of logical expressions, 28 of equalities, 49 of
--- conditionals whose test is effect-free, 9 of the lengths of texts, 22 of expression statements and of the head of a `for`, and 36 of its
--- counter.
+-- The rewrites on what is known of an expression from its text: 12, 13 and 15 of logical
+-- expressions, 28 of equalities, 49 of conditionals whose test is effect-free, 9 of the lengths of
+-- texts, 22 of expression statements and of the head of a `for`, and 36 of its counter.
 use Rattle.std.specs.Prelude.{◌≡◌, Bool, false, not, ◌&&◌, Option, Some, None, if◌then◌else◌}
 use Rattle.mini_model.specs.declared.operator.LogicalOperator.{LogicalOperator}
 use Rattle.mini_model.specs.declared.place.Position.{Position}

@@ -1,5 +1,5 @@
--- The rewrites 4, 7, 14, 27, 29, 30, 31 and 32: what is known of an operand goes, or is written shorter. Those of operators stand
--- before them.
+-- The rewrites 4, 7, 14, 27, 29, 30, 31 and 32: what is known of an operand goes, or is written
+-- shorter. Those of operators stand before them.
 use Rattle.std.specs.Prelude.{ℕ, suc, zero, ℤ, pos, Bool, true, false, not, ◌&&◌, List, [], ◌++◌, Option, Some, None, if◌then◌else◌}
 use Rattle.mini_model.specs.declared.operator.BinaryOperator.{BinaryOperator}
 use Rattle.mini_model.specs.declared.operator.BinaryOperator.TheVariants.{Addition, Equality, Inequality, BitwiseAnd, BitwiseXor, BitwiseOr, ShiftLeft, ShiftRight}

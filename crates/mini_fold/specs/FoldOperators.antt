@@ -1,4 +1,5 @@
--- The rewrites 2, 8, 16, 17 and 56: what is told by the operands of an operator, or is done without a part of them.
+-- The rewrites 2, 8, 16, 17 and 56: what is told by the operands of an operator, or is done without
+-- a part of them.
 use Rattle.std.specs.Prelude.{ℤ, Bool, true, false, not, ◌&&◌, Option, Some, None, if◌then◌else◌}
 use Rattle.mini_model.specs.declared.operator.BinaryOperator.{BinaryOperator}
 use Rattle.mini_model.specs.declared.operator.BinaryOperator.TheVariants.{BitwiseAnd, BitwiseXor, BitwiseOr}

@@ -1,5 +1,6 @@
--- The rewrites 20 and 21: `(a, b) && c` becomes `a, b && c`, `-(a, b)` becomes `a, -b`, `(a, b) + c < d` becomes `a, b + c < d`,
--- `a, (b, c)` becomes `a, b, c`, and `a(), 1, b()` becomes `a(), b()`.
+-- The rewrites 20 and 21: `(a, b) && c` becomes `a, b && c`, `-(a, b)` becomes `a, -b`,
+-- `(a, b) + c < d` becomes `a, b + c < d`, `a, (b, c)` becomes `a, b, c`, and `a(), 1, b()` becomes
+-- `a(), b()`.
 use Rattle.std.specs.Prelude.{ℕ, Bool, true, false, not, ◌&&◌, ◌||◌, nat_eq, nat_le, Option, Some, is_some, if◌then◌else◌}
 use Rattle.mini_model.specs.declared.operator.UnaryOperator.{UnaryOperator}
 use Rattle.mini_model.specs.declared.operator.UnaryOperator.TheVariants.{UnaryPlus, UnaryNegation, BitwiseNot}
@@ -71,7 +72,8 @@ takes_last_of t ts = not (is_minus (unary_operator t)) || not (is_number (last_o
 abbrev pub gives_parts : Tree → Tree → Bool
 gives_parts t operand = is_sequence operand && (has_several (children (part operand 0)) && takes_last_of t (children (part operand 0)))
 
--- such nodes one in the first operand of the other, and a sequence in that of the last, whose last part may stand there
+-- such nodes one in the first operand of the other, and a sequence in that of the last, whose last
+-- part may stand there
 abbrev pub reaches_sequence : Tree → Bool
 reaches_sequence (node h xs n none) = false
 reaches_sequence (node h xs n (a ▸ ts)) = is_operation (node h xs n (a ▸ ts)) && (gives_parts (node h xs n (a ▸ ts)) a || reaches_sequence a)

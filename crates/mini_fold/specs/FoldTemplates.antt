@@ -1,5 +1,5 @@
--- The rewrites 18, 5 and 6: `` `a${1}b${c}` `` becomes `` `a1b${c}` ``, `` `a${b}` + `c${d}` `` `` `a${b}c${d}` ``, and
--- `` a + `x${b}` + `y` `` `` a + `x${b}y` ``.
+-- The rewrites 18, 5 and 6: `` `a${1}b${c}` `` becomes `` `a1b${c}` ``, `` `a${b}` + `c${d}` `` ``
+-- `a${b}c${d}` ``, and `` a + `x${b}` + `y` `` `` a + `x${b}y` ``.
 use Rattle.std.specs.Prelude.{ℕ, ◌+◌, ◌-◌, ◌<◌, ◌^◌, Bool, true, false, ◌&&◌, ◌||◌, nat_eq, nat_le, nat_lt, List, [], length, Option, Some, None, is_some, if◌then◌else◌}
 use Rattle.mini_model.specs.declared.operator.BinaryOperator.{BinaryOperator}
 use Rattle.mini_model.specs.declared.operator.BinaryOperator.TheVariants.{Addition}
@@ -197,7 +197,8 @@ sum_written o a b = sum_by (is_whole a) (is_whole b) o a b
 
 -- ---- 6
 
--- whether `t + u` of `a + t + u` may be one template: the sum of a and t is a text, and a may be converted after u is evaluated
+-- whether `t + u` of `a + t + u` may be one template: the sum of a and t is a text, and a may be
+-- converted after u is evaluated
 abbrev pub may_join : Tree → Tree → Bool
 may_join t u = (is_whole t || is_whole u) && (is_string_kind (kind t) && is_effect_free u)
 
@@ -219,7 +220,8 @@ abbrev pub first_written : Option Tree → Option Tree → Option Tree
 first_written (Some w) o = Some w
 first_written None o = o
 
--- of a sum whose first operand is a sum: what stands behind that one's first operand, or else all of it
+-- of a sum whose first operand is a sum: what stands behind that one's first operand, or else all
+-- of it
 abbrev pub behind_or_whole : Seat → Tree → Tree → Option Tree
 behind_or_whole s a b = first_written (nested_written (part a 0) (part a 1) b) (sum_written (Some s) a b)
 

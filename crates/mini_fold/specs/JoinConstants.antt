@@ -1,5 +1,5 @@
--- The rewrites 4 and 8 of constants that aren't written out: two operands that do nothing but give their values are one, where that is
--- lighter.
+-- The rewrites 4 and 8 of constants that aren't written out: two operands that do nothing but give
+-- their values are one, where that is lighter.
 use Rattle.std.specs.Prelude.{ℕ, ◌+◌, nat_lt, Bool, true, false, ◌&&◌, Option, Some, None, if◌then◌else◌}
 use Rattle.mini_model.specs.declared.operator.BinaryOperator.{BinaryOperator}
 use Rattle.mini_model.specs.declared.operator.BinaryOperator.TheVariants.{Addition, BitwiseAnd, BitwiseXor, BitwiseOr}
@@ -34,7 +34,8 @@ abbrev pub value_of_both : BinaryOperator → Bool → Option Value → Option V
 value_of_both o b c (Some v) = value_with o b c v
 value_of_both o b c None = None
 
--- the literal of both, of which the first stands beside another operand, on its right or on its left
+-- the literal of both, of which the first stands beside another operand, on its right or on its
+-- left
 abbrev pub joined_literal : BinaryOperator → Bool → Tree → Tree → Option Tree
 joined_literal o b k l = literal_of (value_of_both o b (operand_value k) (operand_value l))
 

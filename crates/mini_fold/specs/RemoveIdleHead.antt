@@ -1,4 +1,5 @@
--- 22, of the head of a `for`: `for (0; a; b) c` becomes `for (; a; b) c`, and `for (; a; i) c` becomes `for (; a;) c`.
+-- 22, of the head of a `for`: `for (0; a; b) c` becomes `for (; a; b) c`, and `for (; a; i) c`
+-- becomes `for (; a;) c`.
 use Rattle.std.specs.Prelude.{ℕ, Bool, true, false, ◌&&◌, ◌||◌, Option, Some, None, [], if◌then◌else◌}
 use Rattle.mini_model.specs.declared.shape.Shape.{Shape}
 use Rattle.mini_model.specs.declared.shape.Shape.TheVariants as shape

@@ -16,6 +16,7 @@ is_typeof_by o = false
 abbrev pub is_typeof : Tree → Bool
 is_typeof t = is_typeof_by (unary_operator t)
 
--- `typeof` beside what none of its texts equals, where nothing is done and nothing left behind. `this` has an effect where it is asked of the world
+-- `typeof` beside what none of its texts equals, where nothing is done and nothing left behind.
+-- `this` has an effect where it is asked of the world
 abbrev pub is_never_type : Bool → Tree → Bool
 is_never_type asked t = is_typeof (part t 0) && (is_no_type (part t 1) && (ef asked t && leaves_nothing t))

@@ -1,4 +1,5 @@
--- What is done at the ends of ways further inside a body, as 71 and 72 of a `var`: the walk to where one may stand, with the nodes above it, each without what the way goes into.
+-- What is done at the ends of ways further inside a body, as 71 and 72 of a `var`: the walk to
+-- where one may stand, with the nodes above it, each without what the way goes into.
 use Rattle.std.specs.Prelude.{◌≡◌, ◌||◌, ℕ, Bool, true, false, List, Option, Some, None}
 use Rattle.mini_model.specs.declared.name.Name.{Name}
 use Rattle.mini_model.specs.declared.place.Position.{Position}
@@ -24,7 +25,8 @@ use Rattle.mini_inside.specs.Holding.{is_idle_at}
 abbrev pub pushed : Tree → Tree → Tree
 pushed (node h xs n ts) t = node h xs n (append ts (t ▸ none))
 
--- below some nodes, what stands at the end of a way loses a name; or the node may be that end itself
+-- below some nodes, what stands at the end of a way loses a name; or the node may be that end
+-- itself
 pub record Loses (E : Ends) (a : Trees) (s : Way) (further : Bool) (t u : Tree) : Type 0 where
   pub place : Path
   pub end : Way
@@ -56,8 +58,8 @@ abbrev pub HereWalked : Ends → Trees → Way → Tree → Tree → Bool → Ty
 HereWalked E a s t u true = Several (InStep E a s) t u
 HereWalked E a s t u false = (u ≡ t) × NothingAt E a s t here
 
--- of what a `for` begins with, alone in a list, the place of a declarator whose name nothing else mentions and whose initializer nothing
--- misses; or there is none that a row reads
+-- of what a `for` begins with, alone in a list, the place of a declarator whose name nothing else
+-- mentions and whose initializer nothing misses; or there is none that a row reads
 abbrev pub HeadingFound : Liberties → Tree → Tree → Option ℕ → Type 0
 HeadingFound W o t (Some j) = UnusedOf W o (t ▸ none) 0 (Some j) × (is_idle_at (part t 0) j ≡ true) × ((has_eval o || has_eval (listed (t ▸ none))) ≡ false)
 HeadingFound W o t None = (w : Tree) → HeadEnd W (children o) t w → ⊥
@@ -120,7 +122,8 @@ InFunction E t u false = (u ≡ t) × ((w : Tree) → FunctionStep E t w → ⊥
 abbrev pub RestsInside : Liberties → Position → Tree → Type 0
 RestsInside W = RestsAt (unused_ends W)
 
--- over a program it makes what the row says of the variables that can be written in it and of the options, and rests where that reads nothing
+-- over a program it makes what the row says of the variables that can be written in it and of the
+-- options, and rests where that reads nothing
 abbrev pub Gives : CompressOptions → Tree → Position → Tree → Tree → Type 0
 Gives o q = InsideContracts (allowed_in o q)
 

@@ -1,7 +1,8 @@
--- What holds a list of statements, and 72 and 71 there, `remove_unused_declaration`: `{ let x = a(); b(); }` becomes `{ a(); b(); }`,
--- `{ let x = 1; b(); }` becomes `{ ; b(); }`, and `{ let x, y = b(); c(y); }` becomes `{ let y = b(); c(y); }`; so do the statements of a
--- function, of a module and of a static block, and there each `var`, too, and the cases of a switch
--- and the head of a `for`.
+-- What holds a list of statements, and 72 and 71 there, `remove_unused_declaration`:
+-- `{ let x = a(); b(); }` becomes `{ a(); b(); }`, `{ let x = 1; b(); }` becomes `{ ; b(); }`, and
+-- `{ let x, y = b(); c(y); }` becomes `{ let y = b(); c(y); }`; so do the statements of a function,
+-- of a module and of a static block, and there each `var`, too, and the cases of a switch and the
+-- head of a `for`.
 use Rattle.std.specs.Prelude.{◌≡◌, ◌⊎◌, ◌≤◌, ℕ, nat_eq, Bool, true, false, ◌&&◌, ◌||◌, List, [], ◌∷◌, if◌then◌else◌}
 use Rattle.mini_model.specs.declared.name.Name.{Name}
 use Rattle.mini_model.specs.declared.place.Position.{Position}
@@ -19,7 +20,8 @@ use Rattle.mini_unused.specs.Allowed.{allowed_in}
 use Rattle.mini_unused.specs.Chains.{Several}
 use Rattle.mini_unused.specs.RemoveUnusedDeclaration.{is_lexical_shape, declares_name, let_left}
 
--- an arrow function with statements: its parameters are a list, and its body has a list of statements
+-- an arrow function with statements: its parameters are a list, and its body has a list of
+-- statements
 abbrev pub is_arrow_shape : Shape → Bool
 is_arrow_shape (shape.ArrowFunctionExpression directives) = true
 is_arrow_shape _ = false
@@ -118,7 +120,8 @@ is_idle_at l j = declares_name (part l j) && is_idle (part (part l j) 1)
 abbrev pub head_without : Tree → ℕ → Tree
 head_without t j = if is_bare (part t 0) 1 then absent else let_left t j
 
--- one call of it for the head of a `for`: of what drops a name, of what puts it into the next declarator, and of both
+-- one call of it for the head of a `for`: of what drops a name, of what puts it into the next
+-- declarator, and of both
 abbrev pub AppliedOnce : (Tree → Tree → Type 0) → Tree → Tree → Bool → Type 0
 AppliedOnce R t u true = R t u
 AppliedOnce R t u false = (u ≡ t) × ((w : Tree) → R t w → ⊥)
@@ -132,7 +135,8 @@ AppliedNext o = AppliedOnce (ForNextRow o)
 abbrev pub AppliedInHead : Switches → Tree → Tree → Bool → Type 0
 AppliedInHead o = AppliedOnce (ForHeadRow o)
 
--- the declarator at the place goes from it, or nothing misses its initializer only where a direct eval stands there
+-- the declarator at the place goes from it, or nothing misses its initializer only where a direct
+-- eval stands there
 abbrev pub IdleDropped : Tree → ℕ → Tree → Bool → Type 0
 IdleDropped t j u true = (is_idle_at (part (part t 0) 0) j ≡ true) × (has_eval t ≡ false) × (u ≡ with_part t 0 (head_without (part t 0) j))
 IdleDropped t j u false = (u ≡ t) × ((is_idle_at (part (part t 0) 0) j ≡ false) ⊎ (has_eval t ≡ true))
@@ -150,7 +154,8 @@ abbrev pub AppliedInFunction : Liberties → Tree → Tree → Bool → Type 0
 AppliedInFunction W t u true = Several (FunctionBodyRow W) t u
 AppliedInFunction W t u false = (u ≡ t) × ((w : Tree) → FunctionBodyRow W t w → ⊥)
 
--- over a program the rule makes what a row says of the variables that can be written in it and of the options, and rests where none does
+-- over a program the rule makes what a row says of the variables that can be written in it and of
+-- the options, and rests where none does
 abbrev pub Gives : CompressOptions → Tree → Position → Tree → Tree → Type 0
 Gives o q = UnusedContracts (allowed_in o q)
 

@@ -1,5 +1,6 @@
--- When the bodies of a program are those of another: each stands for one that has its number, its kind and its code's mode,
--- and that runs as it does. An arrow's body that is one `return` may become what is returned.
+-- When the bodies of a program are those of another: each stands for one that has its number, its
+-- kind and its code's mode, and that runs as it does. An arrow's body that is one `return` may
+-- become what is returned.
 use Rattle.std.specs.Prelude.{◌≡◌, ◌⊎◌, ℕ, List, [], ◌∷◌, None}
 use Rattle.mini_model.specs.Tree.{Tree}
 use Rattle.mini_laws.specs.Value.{Value, Variable, VariableSet, Slot}
@@ -12,7 +13,8 @@ use Rattle.mini_laws.specs.Bodies.{Body}
 abbrev pub KindKept : BodyKind → BodyKind → Type 0
 KindKept k l = (k ≡ l) ⊎ ((k ≡ FunctionStatements) × (l ≡ ArrowExpression))
 
--- from each start that initialises X the run of the earlier body is outside the model, or the later one's is the same
+-- from each start that initialises X the run of the earlier body is outside the model, or the later
+-- one's is the same
 pub record RunsAs (e : Environment) (k l : BodyKind) (X : VariableSet) (n w : Tree) : Type 0 where
   pub by : (vars : Variable → Slot) (this : Value) (answers : List Answer) (turns : ℕ) → Initialised X (start_of vars this answers turns) → (Run e k n vars this answers turns ≡ None) ⊎ (Run e k n vars this answers turns ≡ Run e l w vars this answers turns)
 

@@ -17,7 +17,8 @@ abbrev pub StepKeepsBodies : (Position → Tree → Tree → Type 0) → Type 0
 StepKeepsBodies R =
     KeepsBodies R → (p : Position) (t u : Tree) → Step R p t u → (strict : Bool) (s : Slot) → fits_place p s ≡ true → fits strict s t ≡ true → (a : Around) → Stands s p a → BodiesKept (bodies a t) (bodies a u)
 
--- any number of them, where some condition holds of each tree on the way, under which it is well shaped
+-- any number of them, where some condition holds of each tree on the way, under which it is well
+-- shaped
 abbrev pub ReachesKeepsBodies : (Position → Tree → Tree → Type 0) → Type 0
 ReachesKeepsBodies R =
     KeepsBodies R → (holds : Tree → Bool) → ((t : Tree) → holds t ≡ true → IsWellShaped t) → ((t u : Tree) → Step R Elsewhere t u → holds t ≡ true → holds u ≡ true) → (t u : Tree) → Reaches R Elsewhere t u → holds t ≡ true → BodiesKept (bodies_in t) (bodies_in u)

@@ -1,5 +1,5 @@
--- A program with the numbers and symbols of another: a number stands for a place in a list of numbers, a symbol for a place
--- in a list of symbols.
+-- A program with the numbers and symbols of another: a number stands for a place in a list of
+-- numbers, a symbol for a place in a list of symbols.
 use Rattle.std.specs.Prelude.{ℕ, zero, suc, ◌≡◌, List, [], ◌∷◌, ◌++◌, Option, Some, None}
 use Rattle.mini_model.specs.declared.name.SymbolId.{SymbolId}
 use Rattle.mini_model.specs.Tree.{Tree, Trees, node, none, ◌▸◌}

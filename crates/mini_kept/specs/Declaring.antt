@@ -1,4 +1,5 @@
--- The names that a tree declares: those of its binding identifiers (ECMA-262, "Static Semantics: BoundNames").
+-- The names that a tree declares: those of its binding identifiers (ECMA-262, "Static Semantics:
+-- BoundNames").
 use Rattle.std.specs.Prelude.{List, [], ◌++◌}
 use Rattle.mini_model.specs.declared.name.Name.{Name}
 use Rattle.mini_model.specs.declared.shape.Shape.{Shape}

@@ -9,7 +9,8 @@ use Rattle.mini_laws.specs.Value.{Variable, VariableSet}
 use Rattle.mini_laws.specs.Naming.{summary}
 use Rattle.mini_laws.specs.Fixity.{fixed_by, fixed_in}
 
--- what a relation has to keep of the nodes that it replaces: what their declarations say, and what a parent reads of them
+-- what a relation has to keep of the nodes that it replaces: what their declarations say, and what
+-- a parent reads of them
 pub record KeepsFixities (R : Position → Tree → Tree → Type 0) : Type 0 where
   pub reads : (p : Position) (n w : Tree) → R p n w → summary n ≡ summary w
   pub fixed : (p : Position) (n w : Tree) → R p n w → (x : Variable) → fixed_by n x ≡ fixed_by w x

@@ -44,7 +44,8 @@ function_left n = numbered n (shape.Function false false []) none
 abbrev function_outline : ℕ → Tree
 function_outline n = numbered n (shape.Function false false []) (absent ▸ listed none ▸ absent ▸ none)
 
--- `function f(a = 1, {b}, ...c) { g(); }`: in its frame the parameter with a default and the pattern stand by their numbers
+-- `function f(a = 1, {b}, ...c) { g(); }`: in its frame the parameter with a default and the
+-- pattern stand by their numbers
 abbrev with_parameters : Tree
 with_parameters =
     numbered 1 (shape.Function true false []) (bound 0 ▸ listed (numbered 2 shape.AssignmentPattern (bound 1 ▸ inner 3 (number 1) ▸ none) ▸ numbered 4 shape.ObjectPattern (listed (two (shape.BindingProperty true false) (label (codes "x")) (bound 2) ▸ none) ▸ none) ▸ one shape.RestElement (bound 3) ▸ none)
@@ -63,8 +64,8 @@ arrow : frames None (numbered 1 (shape.ArrowFunctionExpression []) (listed (boun
     framed 1 (numbered 1 (shape.ArrowFunctionExpression []) (listed (bound 0 ▸ none) ▸ absent ▸ none)) ∷ []
 arrow = refl
 
--- `class A extends B { [k]() {} m() {} static p = 1; #q; static { f(); } }`: each key, value, function and static block that
--- is code stands by its number
+-- `class A extends B { [k]() {} m() {} static p = 1; #q; static { f(); } }`: each key, value,
+-- function and static block that is code stands by its number
 class : frames None (numbered 1 (shape.Class true) (bound 0 ▸ inner 2 (global (codes "B")) ▸ one shape.ClassBody (listed (
     two (shape.MethodDefinition Method true false) (inner 3 (global (codes "k"))) (expression 4)
     ▸ two (shape.MethodDefinition Method false false) (label (codes "m")) (expression 5)
@@ -81,8 +82,9 @@ class : frames None (numbered 1 (shape.Class true) (bound 0 ▸ inner 2 (global 
     ∷ framed 7 (numbered 7 shape.StaticBlock (absent ▸ none)) ∷ []
 class = refl
 
--- `let { x: a } = ..`, `let { "x": a } = ..`: a name and a text are the same property. `let { 1: a } = ..`, `let { "1": a } = ..`: so
--- are a number and its text; `let { "01": a } = ..` has another
+-- `let { x: a } = ..`, `let { "x": a } = ..`: a name and a text are the same property.
+-- `let { 1: a } = ..`, `let { "1": a } = ..`: so are a number and its text; `let { "01": a } = ..`
+-- has another
 abbrev with_property : Tree → Tree
 with_property k = numbered 1 shape.ObjectPattern (listed (two (shape.BindingProperty false false) k (bound 0) ▸ none) ▸ none)
 
@@ -111,7 +113,8 @@ members_shown : frames None (with_members (number 1) (expression 2)) ≡ framed 
 unfolding digits
 members_shown = refl
 
--- `({ m() {}, get k() {}, f: function () {} })`: the frame of a function tells whether it is a method or an accessor
+-- `({ m() {}, get k() {}, f: function () {} })`: the frame of a function tells whether it is a
+-- method or an accessor
 object : frames None (one shape.ObjectExpression (listed (
     two (shape.ObjectProperty Init true false false) (label (codes "m")) (expression 1)
     ▸ two (shape.ObjectProperty Get false false false) (label (codes "k")) (expression 2)
@@ -150,8 +153,8 @@ shorthands : frames None (numbered 1 shape.ObjectAssignmentTarget (listed (two s
     ∷ inner_framed 2 ∷ []
 shorthands = refl
 
--- a script, `var a; { var b; let c; } f(); for (var d of o) ; function g() {}`: the names that `var` declares, and the
--- functions, stand in its frame
+-- a script, `var a; { var b; let c; } f(); for (var d of o) ; function g() {}`: the names that
+-- `var` declares, and the functions, stand in its frame
 script_names : frames_in (script (declaration Var (bound 0) absent ▸ block (declaration Var (bound 1) absent ▸ declaration Let (bound 2) absent ▸ none) ▸ does (called (global (codes "f")))
     ▸ three shape.ForOfStatement (declaration Var (bound 3) absent) (global (codes "o")) empty_statement ▸ function true 1 (bound 4) ▸ none)) ≡
     record (framed 0 (node (shape.Program false []) [] 0 (numbered 1 (shape.Function true false []) (bound 4 ▸ listed none ▸ absent ▸ none) ▸ none))) { globals = is_among (name 0 ∷ name 1 ∷ name 3 ∷ []) }
@@ -165,8 +168,10 @@ strict_block : frames_in (one (shape.Program false (codes "use strict" ∷ [])) 
 unfolding names_of
 strict_block = refl
 
--- a module, `import { a as b } from "m"; f(); export let c = f(); export { b as d }; export function g() {} export * from "n";`:
--- its imports and exports in order, and of a declaration its kind, its names and its number. `var` gives no global name
+-- a module,
+-- `import { a as b } from "m"; f(); export let c = f(); export { b as d }; export function g() {} export * from "n";`:
+-- its imports and exports in order, and of a declaration its kind, its names and its number. `var`
+-- gives no global name
 abbrev imported : Tree
 imported = two shape.ImportDeclaration (listed (two shape.ImportSpecifier (label (codes "a")) (bound 0) ▸ none)) (text (codes "m"))
 
@@ -184,7 +189,8 @@ module_ports : frames_in (one (shape.Program true []) (listed (imported ▸ does
 unfolding names_of body_names
 module_ports = refl
 
--- `export default f();` and `export default function () {}`: an expression is the program's body's, and a declaration isn't
+-- `export default f();` and `export default function () {}`: an expression is the program's body's,
+-- and a declaration isn't
 default_expression : frames_in (one (shape.Program true []) (listed (one shape.ExportDefaultDeclaration (called (global (codes "f"))) ▸ none))) ≡
     framed 0 (node (shape.Program true []) [] 0 (one shape.ExportDefaultDeclaration absent ▸ none)) ∷ []
 default_expression = refl

@@ -16,12 +16,14 @@ use Rattle.mini_kept.specs.ShownFrames.{KeyGiven, none_gone, FramesShown}
 use Rattle.mini_kept.specs.KeepsBodies.{KeepsBodies}
 use Rattle.mini_kept.specs.KeepsFrames.{KeepsFrames}
 
--- one step, at any place of a tree that fills a slot; that of a method or an accessor alone has a function of one
+-- one step, at any place of a tree that fills a slot; that of a method or an accessor alone has a
+-- function of one
 abbrev pub StepKeepsFrames : (Position → Tree → Tree → Type 0) → Type 0
 StepKeepsFrames R =
     KeepsFrames R → (p : Position) (t u : Tree) → Step R p t u → (strict : Bool) (s : Slot) → fits_place p s ≡ true → fits strict s t ≡ true → (a : Around) (k : Option PropertyKind) → (is_method_slot s ≡ false → k ≡ None) → FramesShown none_gone (KeyGiven nothing (bodies a t)) (frames k t) (frames k u)
 
--- any number of them, which keep bodies too, where some condition holds of each tree on the way, under which it is well shaped
+-- any number of them, which keep bodies too, where some condition holds of each tree on the way,
+-- under which it is well shaped
 abbrev pub ReachesKeepsFrames : (Position → Tree → Tree → Type 0) → Type 0
 ReachesKeepsFrames R =
     KeepsFrames R → KeepsBodies R → (holds : Tree → Bool) → ((t : Tree) → holds t ≡ true → IsWellShaped t) → ((t u : Tree) → Step R Elsewhere t u → holds t ≡ true → holds u ≡ true) → (t u : Tree) → Reaches R Elsewhere t u → holds t ≡ true → FramesShown none_gone (KeyGiven nothing (bodies_in t)) (frames_in t) (frames_in u)

@@ -1,8 +1,9 @@
--- What of a program stands in no body: the frame of each node that has a number. A function's has its kind, its directives,
--- its name and its parameters, and a carried node's all but the bodies in it; of a key it has the property that the key names, and of a shorthand
--- that is assigned to what it is short for. In both a node that has a number stands for
--- all that is in it, since it has a frame of its own. A program's has its imports and exports, and of a script the names
--- that it gives the global object.
+-- What of a program stands in no body: the frame of each node that has a number. A function's has
+-- its kind, its directives, its name and its parameters, and a carried node's all but the bodies in
+-- it; of a key it has the property that the key names, and of a shorthand that is assigned to what
+-- it is short for. In both a node that has a number stands for all that is in it, since it has a
+-- frame of its own. A program's has its imports and exports, and of a script the names that it
+-- gives the global object.
 use Rattle.std.specs.Prelude.{ℕ, zero, suc, Bool, true, false, not, List, [], ◌∷◌, ◌++◌, Contains, Option, Some, None, if◌then◌else◌}
 use Rattle.std.specs.Fmt.{signed_decimal}
 use Rattle.mini_model.specs.declared.kind.PropertyKind.{PropertyKind}
@@ -15,7 +16,8 @@ use Rattle.mini_laws.specs.declared.names.Declared.TheVariants as declared
 use Rattle.mini_kept.specs.SameNames.{is_among}
 use Rattle.mini_laws.specs.DeclaredNames.{all_names, body_names}
 
--- what a node's frame shows of a child: all in it, the names that it declares, or nothing, since it is a body
+-- what a node's frame shows of a child: all in it, the names that it declares, or nothing, since it
+-- is a body
 pub data Showing : Type 0 where
   Whole : Showing
   Named : Showing
@@ -30,15 +32,16 @@ showing shape.ExportNamedDeclaration zero = Named
 showing shape.ExportDefaultDeclaration i = Named
 showing h i = Whole
 
--- a key without brackets as the property that it names, in quotes: a name, a text and a number that give the same property key
--- are one (ECMA-262, "Runtime Semantics: Evaluation" of LiteralPropertyName). A private name is another
+-- a key without brackets as the property that it names, in quotes: a name, a text and a number that
+-- give the same property key are one (ECMA-262, "Runtime Semantics: Evaluation" of
+-- LiteralPropertyName). A private name is another
 abbrev pub property_key : Tree → Tree
 property_key (node (shape.IdentifierName s) xs n ts) = node (shape.StringLiteral s) xs n ts
 property_key (node (shape.NumericLiteral k) xs n ts) = node (shape.StringLiteral (signed_decimal k)) xs n ts
 property_key t = t
 
--- what has a key as its first child: a property of a pattern or of what is assigned to (a shorthand too), a method or a field. One in brackets is
--- an inner expression
+-- what has a key as its first child: a property of a pattern or of what is assigned to (a shorthand
+-- too), a method or a field. One in brackets is an inner expression
 abbrev pub has_key : Shape → Bool
 has_key (shape.BindingProperty is_shorthand is_computed) = true
 has_key (shape.AssignmentTargetPropertyProperty is_computed) = true
@@ -63,8 +66,8 @@ first_as_key (t ▸ ts) = property_key t ▸ ts
 abbrev pub keyed : Shape → Trees → Trees
 keyed h ts = if has_key h then first_as_key ts else ts
 
--- a property that is assigned to as it is in full: `x` stands for `x: x`, and `x = d` for `x: x = d` (ECMA-262, "Runtime Semantics:
--- PropertyDestructuringAssignmentEvaluation")
+-- a property that is assigned to as it is in full: `x` stands for `x: x`, and `x = d` for
+-- `x: x = d` (ECMA-262, "Runtime Semantics: PropertyDestructuringAssignmentEvaluation")
 abbrev pub in_full : Shape → Shape
 in_full shape.AssignmentTargetPropertyIdentifier = shape.AssignmentTargetPropertyProperty false
 in_full h = h
@@ -79,8 +82,8 @@ abbrev mutual
   parts none = none
   parts (t ▸ ts) = part t ▸ parts ts
 
--- what is exported by its declaration: its kind, the names that it declares, and its number, if it has one. An expression
--- that is exported is the program's body's (ECMA-262, "Exports")
+-- what is exported by its declaration: its kind, the names that it declares, and its number, if it
+-- has one. An expression that is exported is the program's body's (ECMA-262, "Exports")
 abbrev pub is_declaration : Shape → Bool
 is_declaration (shape.VariableDeclaration k) = true
 is_declaration (shape.Function is_declared is_generator directives) = is_declared
@@ -103,8 +106,8 @@ shown_from σ i (t ▸ ts) = shown (σ i) t ▸ shown_from σ (suc i) ts
 abbrev pub own : Tree → Tree
 own (node h xs n ts) = node h xs n (shown_from (showing h) 0 ts)
 
--- of the statements of a program its imports and exports, and of a script the functions that it declares (ECMA-262,
--- "Imports", "Exports" and "GlobalDeclarationInstantiation")
+-- of the statements of a program its imports and exports, and of a script the functions that it
+-- declares (ECMA-262, "Imports", "Exports" and "GlobalDeclarationInstantiation")
 abbrev pub is_port : Bool → Shape → Bool
 is_port is_module shape.ImportDeclaration = true
 is_port is_module shape.ExportNamedDeclaration = true
@@ -135,7 +138,8 @@ pub record Frame : Type 0 where
   -- the names that it gives the global object, in any order
   pub globals : Name → Bool
 
--- ECMA-262, "MethodDefinition": an object literal has no number, so the frame of the function tells it
+-- ECMA-262, "MethodDefinition": an object literal has no number, so the frame of the function tells
+-- it
 abbrev pub property_below : Shape → ℕ → Option PropertyKind
 property_below (shape.ObjectProperty Init false is_shorthand is_computed) i = None
 property_below (shape.ObjectProperty k is_method is_shorthand is_computed) (suc i) = Some k

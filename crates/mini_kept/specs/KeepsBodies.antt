@@ -1,4 +1,5 @@
--- What a relation of rewriting has to keep of the nodes that it replaces, for a program to keep its bodies.
+-- What a relation of rewriting has to keep of the nodes that it replaces, for a program to keep its
+-- bodies.
 use Rattle.std.specs.Prelude.{◌≡◌, Bool, true, false}
 use Rattle.mini_model.specs.declared.place.Position.{Position}
 use Rattle.mini_model.specs.Tree.{Tree, shape_of}
@@ -10,8 +11,9 @@ use Rattle.mini_kept.specs.Lifted.{is_piece}
 use Rattle.mini_kept.specs.AlikeBodies.{BodiesKept}
 use Rattle.mini_kept.specs.Standing.{Stands}
 
--- it replaces no text of a template, and what it writes means the same. Of a node that may stand where it does, an arrow
--- whose body it is keeps its kind of body, and the bodies in it are those that were there
+-- it replaces no text of a template, and what it writes means the same. Of a node that may stand
+-- where it does, an arrow whose body it is keeps its kind of body, and the bodies in it are those
+-- that were there
 pub record KeepsBodies (R : Position → Tree → Tree → Type 0) : Type 0 where
   pub means : MeansSame R
   pub pieces : (p : Position) (n w : Tree) → R p n w → is_piece (shape_of n) ≡ false

@@ -1,4 +1,5 @@
--- What a relation of rewriting has to keep of the nodes that it replaces, for a program to keep its frames.
+-- What a relation of rewriting has to keep of the nodes that it replaces, for a program to keep its
+-- frames.
 use Rattle.std.specs.Prelude.{◌≡◌, ◌⊎◌, ℕ, suc, Bool, true, false, List, [], None}
 use Rattle.mini_model.specs.declared.place.Position.{Position}
 use Rattle.mini_model.specs.declared.place.Position.TheVariants.{StatementList, BodyList}
@@ -12,7 +13,8 @@ use Rattle.mini_laws.specs.Bodies.{Around, bodies}
 use Rattle.mini_kept.specs.ShownFrames.{KeyGiven, Shows, Gone, none_gone, FramesShown}
 use Rattle.mini_kept.specs.Frames.{part, is_declaration, is_port, ports as ports_of, frames, FramesKept}
 
--- where a statement, a block, what handles a throw, a declarator or an expression of a body may stand, and what is assigned to in one
+-- where a statement, a block, what handles a throw, a declarator or an expression of a body may
+-- stand, and what is assigned to in one
 abbrev pub is_in_body : Class → Bool
 is_in_body (a_statement d) = true
 is_in_body a_block = true
@@ -40,8 +42,8 @@ is_body_slot StatementList (many (a_statement d)) = true
 is_body_slot BodyList (many (a_statement d)) = true
 is_body_slot p s = false
 
--- where what has a key may stand, other than in an object literal: a property of a pattern or of what is assigned to, a method
--- or a field
+-- where what has a key may stand, other than in an object literal: a property of a pattern or of
+-- what is assigned to, a method or a field
 abbrev pub is_keyed : Class → Bool
 is_keyed a_class_member = true
 is_keyed a_pattern_property = true
@@ -53,7 +55,8 @@ is_keyed_slot (one c) = is_keyed c
 is_keyed_slot (one_or_absent c) = is_keyed c
 is_keyed_slot s = false
 
--- the frame around it shows the same, or no brackets where the key in them gives the property that stands there then
+-- the frame around it shows the same, or no brackets where the key in them gives the property that
+-- stands there then
 abbrev pub IsShownAlike : Slot → Tree → Tree → Type 0
 IsShownAlike s n w = (is_keyed_slot s ≡ true) × ((a : Around) → Shows (KeyGiven nothing (bodies a n)) (part n) (part w))
 
@@ -64,10 +67,12 @@ NoPort is_module n w = (is_port is_module (shape_of n) ≡ false) × (is_port is
 abbrev pub NoDeclaration : Tree → Tree → Type 0
 NoDeclaration n w = (is_declaration (shape_of n) ≡ false) × (is_declaration (shape_of w) ≡ false)
 
--- It keeps names. Of a node that may stand where it does, it replaces one that stands where a statement or an expression of a
--- body may, or a list of statements, or what has a key, which the frame around it shows as before or without brackets. A statement that it replaces is no import, no export and no function, an expression that
--- is exported no declaration, and neither is what it writes there; a list that it writes has the imports, exports and
--- functions of the list that stood there. Each frame in what it writes was there, but for keys that lost their brackets
+-- It keeps names. Of a node that may stand where it does, it replaces one that stands where a
+-- statement or an expression of a body may, or a list of statements, or what has a key, which the
+-- frame around it shows as before or without brackets. A statement that it replaces is no import,
+-- no export and no function, an expression that is exported no declaration, and neither is what it
+-- writes there; a list that it writes has the imports, exports and functions of the list that stood
+-- there. Each frame in what it writes was there, but for keys that lost their brackets
 pub record KeepsFrames (R : Position → Tree → Tree → Type 0) : Type 0 where
   pub names : KeepsNames R
   pub slots : (p : Position) (n w : Tree) → R p n w → (strict : Bool) (s : Slot) → fits_place p s ≡ true → fits strict s n ≡ true → (is_body_slot p s ≡ true) ⊎ IsShownAlike s n w
@@ -80,8 +85,8 @@ pub record KeepsFrames (R : Position → Tree → Tree → Type 0) : Type 0 wher
 abbrev pub function_over : Bool → Bool → List (List ℕ) → ℕ → Tree → Tree → Tree → Tree
 function_over is_declared is_generator directives n name parameters body = node (shape.Function is_declared is_generator directives) [] n (name ▸ (parameters ▸ (body ▸ none)))
 
--- Another body in a function, of which all else stays, its number too: the frames around it and its own show the same, and each frame in
--- the body was there
+-- Another body in a function, of which all else stays, its number too: the frames around it and its
+-- own show the same, and each frame in the body was there
 pub record KeepsFunction (n w : Tree) : Type 0 where
   pub is_declared : Bool
   pub is_generator : Bool
@@ -99,8 +104,8 @@ pub record KeepsFunction (n w : Tree) : Type 0 where
 abbrev pub module_over : List (List ℕ) → ℕ → Tree → Tree
 module_over directives n list = node (shape.Program true directives) [] n (list ▸ none)
 
--- Another list of statements in a module, of which all else stays: its imports and exports are those that it had, and each frame in the
--- list was there
+-- Another list of statements in a module, of which all else stays: its imports and exports are
+-- those that it had, and each frame in the list was there
 pub record KeepsModule (n w : Tree) : Type 0 where
   pub directives : List (List ℕ)
   pub number : ℕ
@@ -115,8 +120,8 @@ pub record KeepsModule (n w : Tree) : Type 0 where
 abbrev pub KeepsHolder : Tree → Tree → Type 0
 KeepsHolder n w = KeepsFunction n w ⊎ KeepsModule n w
 
--- All of this but frames: where it replaces what, and that imports, exports and functions stay. Besides it may give a function another
--- body, wherever that stands, and a module other statements
+-- All of this but frames: where it replaces what, and that imports, exports and functions stay.
+-- Besides it may give a function another body, wherever that stands, and a module other statements
 pub record KeepsPlaces (R : Position → Tree → Tree → Type 0) : Type 0 where
   pub names : KeepsNames R
   pub slots : (p : Position) (n w : Tree) → R p n w → (strict : Bool) (s : Slot) → fits_place p s ≡ true → fits strict s n ≡ true → ((is_body_slot p s ≡ true) ⊎ IsShownAlike s n w) ⊎ KeepsHolder n w

@@ -1,4 +1,5 @@
--- What a tree keeps that stands for another, where what it hoists may be declared in another order, or once in place of twice.
+-- What a tree keeps that stands for another, where what it hoists may be declared in another order,
+-- or once in place of twice.
 use Rattle.std.specs.Prelude.{ℕ, ◌≡◌, ◌⊎◌, ◌≤◌, ◌&&◌, ◌||◌, not, Bool, true, false}
 use Rattle.mini_model.specs.declared.shape.Shape.{Shape}
 use Rattle.mini_model.specs.declared.shape.Shape.TheVariants as shape
@@ -17,9 +18,11 @@ use Rattle.mini_kept.specs.Frames.{unbracketed}
 use Rattle.mini_kept.specs.KeepsNames.{Stands, is_rewritten_place, NamesOnce, HasTargets, count_of}
 use Rattle.mini_kept.specs.SameNames.{SameNames, SameScope, NoMoreClash}
 
--- a statement (ECMA-262, "Statement"), an expression that holds others, a member of a class, a property that is assigned to, or what
--- declares names, which stands outside inner expressions. Among parameters there is none (ECMA-262, "FormalParameters"), where expressions
--- stand in defaults and in brackets alone, so what inner expressions stand in such a tree decides nothing about a function
+-- a statement (ECMA-262, "Statement"), an expression that holds others, a member of a class, a
+-- property that is assigned to, or what declares names, which stands outside inner expressions.
+-- Among parameters there is none (ECMA-262, "FormalParameters"), where expressions stand in
+-- defaults and in brackets alone, so what inner expressions stand in such a tree decides nothing
+-- about a function
 abbrev pub is_member : Shape → Bool
 is_member shape.ExpressionStatement = true
 is_member shape.EmptyStatement = true
@@ -84,7 +87,8 @@ pub record KeepsLoosely (p : Position) (t u : Tree) : Type 0 where
   -- the names that it binds, and those that it declares directly, in order
   pub bound : names_of Bound u ≡ names_of Bound t
   pub lexical : names_of Lexical u ≡ names_of Lexical t
-  -- those that it hoists, and of a body a scope of the same names, if each name in it has the symbol that the scopes around give
+  -- those that it hoists, and of a body a scope of the same names, if each name in it has the
+  -- symbol that the scopes around give
   pub hoisted : SameNames (names_of Hoisted u) (names_of Hoisted t)
   pub body : (v : Use) (env : Environment) → Stands p v t → Scoped v env t → SameScope (body_names u) (body_names t)
   -- as a parameter, whether an inner expression stands in it

@@ -1,5 +1,5 @@
--- What a tree keeps that stands for another: the names that it declares, the symbols of all names in it, the numbers of its
--- nodes, and that it has no early error.
+-- What a tree keeps that stands for another: the names that it declares, the symbols of all names
+-- in it, the numbers of its nodes, and that it has no early error.
 use Rattle.std.specs.Prelude.{ℕ, ◌≡◌, ◌+◌, ◌≤◌, ◌||◌, nat_eq, Bool, true, false, List, [], ◌∷◌, if◌then◌else◌}
 use Rattle.mini_model.specs.declared.place.Position.{Position}
 use Rattle.mini_model.specs.declared.place.Position.TheVariants.{Expr, Stmt, StatementList, BodyList, ArgumentList, SequenceList, TemplateList}
@@ -16,8 +16,8 @@ use Rattle.mini_laws.specs.Early.{Path, body_declarations, in_body, children_of_
 use Rattle.mini_kept.specs.Carried.{numbers}
 use Rattle.mini_kept.specs.Frames.{unbracketed}
 
--- the names of an expression are read, and those of a list of statements; a statement stands in such a list, or alone as a branch
--- or a body; what else stands at a place may be used in any way
+-- the names of an expression are read, and those of a list of statements; a statement stands in
+-- such a list, or alone as a branch or a body; what else stands at a place may be used in any way
 abbrev pub is_read : Use → Bool
 is_read Read = true
 is_read _ = false
@@ -41,7 +41,8 @@ is_used p u = true
 abbrev pub Stands : Position → Use → Tree → Type 0
 Stands p u t = (is_inner (shape_of t) || is_used p u) ≡ true
 
--- where rewrites are made, of expressions, of statements and of lists of statements: what else stands at a place keeps its root
+-- where rewrites are made, of expressions, of statements and of lists of statements: what else
+-- stands at a place keeps its root
 abbrev pub is_rewritten_place : Position → Bool
 is_rewritten_place (Expr s) = true
 is_rewritten_place (Stmt q) = true

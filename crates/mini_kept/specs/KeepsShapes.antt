@@ -1,4 +1,5 @@
--- What a relation of rewriting has to keep of the nodes that it replaces, for a program to stay one.
+-- What a relation of rewriting has to keep of the nodes that it replaces, for a program to stay
+-- one.
 use Rattle.std.specs.Prelude.{ℕ, ◌≡◌, Bool, true, false, not, ◌||◌, List, Some}
 use Rattle.mini_model.specs.declared.place.Position.{Position}
 use Rattle.mini_model.specs.declared.place.Position.TheVariants.{Elsewhere, Expr}
@@ -20,10 +21,10 @@ abbrev pub is_default : Shape → Bool
 is_default shape.AssignmentPattern = true
 is_default h = false
 
--- What a parent asks of a child beside that it fills its slot: whether it is absent, or the body of an arrow function
--- (ECMA-262, "ConciseBody"), or ends a chain (ECMA-262, "OptionalExpression"); that what `-` is applied to is no number that
--- is written with its sign; and how the value of a shorthand property is spelled (ECMA-262, "Object Initializer"), with or
--- without a default
+-- What a parent asks of a child beside that it fills its slot: whether it is absent, or the body of
+-- an arrow function (ECMA-262, "ConciseBody"), or ends a chain (ECMA-262, "OptionalExpression");
+-- that what `-` is applied to is no number that is written with its sign; and how the value of a
+-- shorthand property is spelled (ECMA-262, "Object Initializer"), with or without a default
 pub record AskedAlike (p : Position) (n w : Tree) : Type 0 where
   pub absent : is_absent n ≡ true → is_absent w ≡ true
   pub body : is_function_body n ≡ true → is_function_body w ≡ true

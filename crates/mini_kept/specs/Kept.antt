@@ -23,8 +23,8 @@ StepFits =
 abbrev pub ReachesWellShaped : Type 0
 ReachesWellShaped = (t u : Tree) → Reaches Contracts Elsewhere t u → IsWellShaped t → IsWellShaped u
 
--- the test holds of each node that a row writes: of `!`, `? :`, `||` and `&&`, of which one may become the other, as may `==`
--- and `!=`, `===` and `!==`, and of an expression statement
+-- the test holds of each node that a row writes: of `!`, `? :`, `||` and `&&`, of which one may
+-- become the other, as may `==` and `!=`, `===` and `!==`, and of an expression statement
 pub record AdmitsWritten (f : Test) : Type 0 where
   pub negation : f (shape.UnaryExpression LogicalNot) [] 0 ≡ true
   pub conditional : f shape.ConditionalExpression [] 0 ≡ true

@@ -1,4 +1,5 @@
--- A relation of rewriting that keeps all that a program has to keep, and what any number of its steps keep.
+-- A relation of rewriting that keeps all that a program has to keep, and what any number of its
+-- steps keep.
 use Rattle.std.specs.Prelude.{◌≡◌, ◌⊎◌, Bool, Contains}
 use Rattle.mini_model.specs.declared.name.Name.{Name}
 use Rattle.mini_model.specs.declared.place.Position.{Position}
@@ -20,7 +21,8 @@ use Rattle.mini_kept.specs.KeepsFrames.{KeepsFrames}
 use Rattle.mini_kept.specs.KeepsShapes.{KeepsShapes}
 use Rattle.mini_kept.specs.Lifted.{ProgramKeeps}
 
--- It keeps shapes, bodies, names and frames, and what it writes declares each name as what stood there does, and no other
+-- It keeps shapes, bodies, names and frames, and what it writes declares each name as what stood
+-- there does, and no other
 pub record Lawful (R : Position → Tree → Tree → Type 0) : Type 0 where
   pub shapes : KeepsShapes R
   pub bodies : KeepsBodies R

@@ -25,14 +25,15 @@ abbrev pub is_piece : Shape → Bool
 is_piece (shape.TemplateElement tail raw c) = true
 is_piece h = false
 
--- where a node may be replaced that keeps its root: elsewhere, as the property of a pattern, or as the value of a method
+-- where a node may be replaced that keeps its root: elsewhere, as the property of a pattern, or as
+-- the value of a method
 abbrev pub is_rooted_place : Position → Bool
 is_rooted_place Elsewhere = true
 is_rooted_place Method = true
 is_rooted_place p = false
 
--- the node over as many children, of which the second is the same: the first is its key, which may lose its brackets, and the third
--- of a function is its body
+-- the node over as many children, of which the second is the same: the first is its key, which may
+-- lose its brackets, and the third of a function is its body
 pub record KeepsRoot (p : Position) (n w : Tree) : Type 0 where
   pub place : is_rooted_place p ≡ true
   pub shape : unbracketed (shape_of n) ≡ unbracketed (shape_of w)
@@ -41,14 +42,15 @@ pub record KeepsRoot (p : Position) (n w : Tree) : Type 0 where
   pub counted : count (children n) ≡ count (children w)
   pub second : child_or_absent (children n) 1 ≡ child_or_absent (children w) 1
 
--- it replaces expressions, statements and lists of statements, or what keeps its root, and what it writes keeps what the node,
--- where it may stand, has
+-- it replaces expressions, statements and lists of statements, or what keeps its root, and what it
+-- writes keeps what the node, where it may stand, has
 pub record KeepsNames (R : Position → Tree → Tree → Type 0) : Type 0 where
   pub places : (p : Position) (n w : Tree) → R p n w → (is_rewritten_place p ≡ true) ⊎ KeepsRoot p n w
   pub pieces : (p : Position) (n w : Tree) → R p n w → is_piece (shape_of n) ≡ false
   pub keeps : (p : Position) (n w : Tree) → R p n w → (strict : Bool) (s : Slot) → fits_place p s ≡ true → fits strict s n ≡ true → KeepsLoosely p n w
 
--- where an initializer of a declarator stands (ECMA-262, "Variable Statement"), one is written, and where none stands, none
+-- where an initializer of a declarator stands (ECMA-262, "Variable Statement"), one is written, and
+-- where none stands, none
 abbrev pub InitStays : (Position → Tree → Tree → Type 0) → Type 0
 InitStays R = (n w : Tree) → R (Expr argument_seat) n w → (strict : Bool) → fits strict (one_or_absent an_expression) n ≡ true → is_absent n ≡ is_absent w
 
@@ -56,8 +58,9 @@ InitStays R = (n w : Tree) → R (Expr argument_seat) n w → (strict : Bool) �
 abbrev pub StepKeepsNames : (Position → Tree → Tree → Type 0) → Type 0
 StepKeepsNames R = KeepsNames R → InitStays R → (p : Position) (t u : Tree) → Step R p t u → (strict : Bool) (s : Slot) → fits_place p s ≡ true → fits strict s t ≡ true → KeepsLoosely p t u
 
--- What any number of rewrites keep of a program: it stays one, each name in it has the symbol that the scopes around it give,
--- no symbol is declared twice, no number stands in it more often, and it has no early error
+-- What any number of rewrites keep of a program: it stays one, each name in it has the symbol that
+-- the scopes around it give, no symbol is declared twice, no number stands in it more often, and it
+-- has no early error
 pub record ProgramKeeps (t u : Tree) : Type 0 where
   pub shaped : IsWellShaped t → IsWellShaped u
   pub scoped : IsWellShaped t → Scoped Read [] t → Scoped Read [] u

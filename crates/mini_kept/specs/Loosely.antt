@@ -1,5 +1,6 @@
--- A relation of rewriting that keeps all that a program has to keep but names that nothing mentions, where some variables can be
--- written, and something is known of some bodies, and what any number of its steps keep.
+-- A relation of rewriting that keeps all that a program has to keep but names that nothing
+-- mentions, where some variables can be written, and something is known of some bodies, and what
+-- any number of its steps keep.
 use Rattle.std.specs.Prelude.{ℕ, ◌≡◌, ◌+◌, ◌≤◌, ◌⊎◌, nat_eq, Bool, true, false, Contains, [], Option, None, Some}
 use Rattle.mini_model.specs.declared.name.Name.{Name}
 use Rattle.mini_model.specs.declared.name.SymbolId.{SymbolId}
@@ -46,14 +47,15 @@ abbrev pub symbol_for : Variable → Option SymbolId
 symbol_for (Declared k) = symbol k
 symbol_for (Global s) = None
 
--- the scopes in the later tree declare a variable, or names without a symbol, less often than those in the earlier
+-- the scopes in the later tree declare a variable, or names without a symbol, less often than those
+-- in the earlier
 pub record LessOften (v : Use) (x : Variable) (n w : Tree) : Type 0 where
   pub declared : Option SymbolId
   pub either : (declared ≡ symbol_for x) ⊎ (declared ≡ None)
   pub less : times declared (declared_in v w) + 1 ≤ times declared (declared_in v n)
 
--- What a write of each variable does stays, or one goes that declares it: where no symbol is declared twice, as in a program, nothing
--- declares that variable then
+-- What a write of each variable does stays, or one goes that declares it: where no symbol is
+-- declared twice, as in a program, nothing declares that variable then
 pub record FixedKept (p : Position) (n w : Tree) : Type 0 where
   pub by : (strict : Bool) (s : Slot) → fits_place p s ≡ true → fits strict s n ≡ true → (v : Use) (env : Bindings) → StandsAs p v n → Scoped v env n → (x : Variable) → (fixed_by n x ≡ fixed_by w x) ⊎ LessOften v x n w
 
@@ -61,8 +63,8 @@ pub record FixedKept (p : Position) (n w : Tree) : Type 0 where
 pub record SameWith (W : VariableSet) (p : Position) (n w : Tree) : Type 0 where
   pub by : (e : Environment) → Permits W nothing e → (q : Demand) → Fits p q → Same e nothing nothing q n w
 
--- one node in the place of another that means the same there, with its bodies and frames, and what a write of each variable does that is
--- still declared
+-- one node in the place of another that means the same there, with its bodies and frames, and what
+-- a write of each variable does that is still declared
 pub record StaysWith (W : VariableSet) (p : Position) (n w : Tree) : Type 0 where
   pub same : SameWith W p n w
   pub fixed : FixedKept p n w
@@ -73,12 +75,14 @@ pub record StaysWith (W : VariableSet) (p : Position) (n w : Tree) : Type 0 wher
 abbrev pub Stays : Position → Tree → Tree → Type 0
 Stays = StaysWith nothing
 
--- One without a name that a scope in the other declares: the names that are seen around it are those, in order, and the
--- symbol is declared in it once less. Where nobody else sees that variable it means the same but for what the variable
--- holds afterwards, and it has the bodies, and the frames but for that name, where it is the own one of a function or class that
--- K lets lose it, where the variables W can be written and S says what is known of each body. What a write of any other variable does stays.
--- That nothing in the later program mentions the symbol follows, where each name of the program has the symbol that the scopes around it
--- give and no symbol is declared twice
+-- One without a name that a scope in the other declares: the names that are seen around it are
+-- those, in order, and the symbol is declared in it once less. Where nobody else sees that variable
+-- it means the same but for what the variable holds afterwards, and it has the bodies, and the
+-- frames but for that name, where it is the own one of a function or class that K lets lose it,
+-- where the variables W can be written and S says what is known of each body. What a write of any
+-- other variable does stays. That nothing in the later program mentions the symbol follows, where
+-- each name of the program has the symbol that the scopes around it give and no symbol is declared
+-- twice
 pub record DropsUnder (K : Shape → Bool) (W : VariableSet) (S : BodySets) (k : ℕ) (p : Position) (n w : Tree) : Type 0 where
   pub kept : Kept n w
   pub less : (v : Use) → times (symbol k) (declared_in v w) + 1 ≤ times (symbol k) (declared_in v n)
@@ -95,14 +99,16 @@ DropsWith K W = DropsUnder K W none_steady
 abbrev pub Drops : (Shape → Bool) → ℕ → Position → Tree → Tree → Type 0
 Drops K = DropsWith K nothing
 
--- One node in the place of another that means the same there, of which bodies may rest on what S says of a body with a number
+-- One node in the place of another that means the same there, of which bodies may rest on what S
+-- says of a body with a number
 pub record SteadiesWith (W : VariableSet) (S : BodySets) (p : Position) (n w : Tree) : Type 0 where
   pub same : SameWith W p n w
   pub fixed : FixedKept p n w
   pub frames : (strict : Bool) (s : Slot) → fits_place p s ≡ true → fits strict s n ≡ true → (a : Around) → FramesShown none_gone (KeyGiven nothing (bodies a n)) (frames None n) (frames None w)
   pub bodies : (strict : Bool) (s : Slot) → fits_place p s ≡ true → fits strict s n ≡ true → (a : Around) → Stands s p a → BodiesUnder W S nothing (bodies a n) (bodies a w)
 
--- It keeps shapes, names and places, a parent reads alike what it writes, and that declares no other name; and each instance is one of I
+-- It keeps shapes, names and places, a parent reads alike what it writes, and that declares no
+-- other name; and each instance is one of I
 pub record LawfulBy (I : Position → Tree → Tree → Type 0) (R : Position → Tree → Tree → Type 0) : Type 0 where
   pub shapes : KeepsShapes R
   pub places : KeepsPlaces R
@@ -111,7 +117,8 @@ pub record LawfulBy (I : Position → Tree → Tree → Type 0) (R : Position �
   pub declared : (p : Position) (n w : Tree) → R p n w → (x : Name) → Contains (declared w) x → Contains (declared n) x
   pub instances : (p : Position) (n w : Tree) → R p n w → I p n w
 
--- each instance stays or drops one name, where the variables W can be written. K says which functions and classes may lose their own name
+-- each instance stays or drops one name, where the variables W can be written. K says which
+-- functions and classes may lose their own name
 abbrev pub LawfulWith : (Shape → Bool) → VariableSet → (Position → Tree → Tree → Type 0) → Type 0
 LawfulWith K W = LawfulBy (λ p n w. StaysWith W p n w ⊎ ((k : ℕ) × DropsWith K W k p n w))
 
@@ -128,9 +135,10 @@ abbrev pub undeclared : Tree → VariableSet
 undeclared u (Declared k) = nat_eq (times (symbol k) (declared_symbols u)) 0
 undeclared u (Global s) = false
 
--- what any number of steps keep of a program whose names are resolved: each body runs as before where nobody else sees a
--- variable that the later program doesn't declare, those of W can be written, and that is so which S says of it; what a write of each
--- variable that it does declare does stays
+-- what any number of steps keep of a program whose names are resolved: each body runs as before
+-- where nobody else sees a variable that the later program doesn't declare, those of W can be
+-- written, and that is so which S says of it; what a write of each variable that it does declare
+-- does stays
 pub record ProgramIsKeptUnder (K : Shape → Bool) (W : VariableSet) (S : BodySets) (t u : Tree) : Type 0 where
   pub names : ProgramKeeps t u
   pub bodies : Scoped Read [] t → Distinct (declared_symbols t) → BodiesUnder W S (undeclared u) (bodies_in t) (bodies_in u)

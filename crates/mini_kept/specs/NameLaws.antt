@@ -12,12 +12,14 @@ use Rattle.mini_kept.specs.Carried.{renumbered, numbers, number_at, number_of, N
 abbrev pub ResolvedRenumbered : Type 0
 ResolvedRenumbered = (f : ℕ → ℕ) (t : Tree) → resolved_program (renumbered f t) ≡ renumbered f (resolved_program t)
 
--- a program numbered in preorder, with the numbers of another that differs from it in numbers alone, is that
+-- a program numbered in preorder, with the numbers of another that differs from it in numbers
+-- alone, is that
 abbrev pub NumbersCarried : Type 0
 NumbersCarried = (t u : Tree) (n : ℕ) → next_after t 0 ≡ Some n → number_of u ≡ 0 → NumberedAlike t u → (renumbered (number_at (0 ∷ numbers u)) t ≡ u) × (n ≡ suc (length (numbers u)))
 
--- so a program that is written, read again and resolved is, with the numbers and the symbols that it stands for, the program
--- that was written: for t read of what is written for u, which differs from it in symbols and numbers alone
+-- so a program that is written, read again and resolved is, with the numbers and the symbols that
+-- it stands for, the program that was written: for t read of what is written for u, which differs
+-- from it in symbols and numbers alone
 abbrev pub ProgramCarried : Type 0
 ProgramCarried =
     (t u : Tree) (n : ℕ) → next_after t 0 ≡ Some n → number_of u ≡ 0 → NumberedAlike t (bare u) → Scoped Read [] u → Distinct (declared_symbols u) → carried (0 ∷ numbers u) (declared_symbols u) (resolved_program t) ≡ u

@@ -1,5 +1,5 @@
--- Where a node stands, its place tells what its slot is: where an expression stands it is one of expressions, and where
--- statements stand (ECMA-262, "StatementList") it is one of statements.
+-- Where a node stands, its place tells what its slot is: where an expression stands it is one of
+-- expressions, and where statements stand (ECMA-262, "StatementList") it is one of statements.
 use Rattle.std.specs.Prelude.{Bool, true, false, ◌&&◌, ◌||◌, not, nat_eq}
 use Rattle.mini_model.specs.declared.place.Position.{Position}
 use Rattle.mini_model.specs.declared.place.Position.TheVariants.{Expr, StatementList, BodyList, ArgumentList, SequenceList, TemplateList}
@@ -13,8 +13,8 @@ is_statement_list StatementList = true
 is_statement_list BodyList = true
 is_statement_list p = false
 
--- what may stand where an expression does: no tag's template, no target and no method's value. An inner expression hands its place
--- on to what it holds
+-- what may stand where an expression does: no tag's template, no target and no method's value. An
+-- inner expression hands its place on to what it holds
 abbrev pub is_expression_class : Class → Bool
 is_expression_class an_init = true
 is_expression_class an_arrow_body = true
@@ -29,7 +29,8 @@ is_expression_class (an_inner_key is_computed) = is_computed
 is_expression_class a_default_export = true
 is_expression_class c = false
 
--- the call or the member that a chain holds stands in a seat of the tightest level, and is no object
+-- the call or the member that a chain holds stands in a seat of the tightest level, and is no
+-- object
 abbrev pub is_chain_class : Class → Bool
 is_chain_class a_chain = true
 is_chain_class (an_inner c) = is_chain_class c

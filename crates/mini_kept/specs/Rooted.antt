@@ -1,6 +1,8 @@
--- A relation of rewriting that may give a program other statements by what is known of its body, and so a static block, or an inner
--- expression another value. No node that is evaluated asks these, so that it has to keep no meaning at a place, but what a program has to keep.
--- So may it give a function another body by what holds of the program alone, as that each name has the symbol that the scopes around give.
+-- A relation of rewriting that may give a program other statements by what is known of its body,
+-- and so a static block, or an inner expression another value. No node that is evaluated asks
+-- these, so that it has to keep no meaning at a place, but what a program has to keep. So may it
+-- give a function another body by what holds of the program alone, as that each name has the symbol
+-- that the scopes around give.
 use Rattle.std.specs.Prelude.{ℕ, ◌≡◌, ◌⊎◌, Bool, true, false}
 use Rattle.mini_model.specs.declared.place.Position.{Position}
 use Rattle.mini_model.specs.declared.place.Position.TheVariants.{Elsewhere}

@@ -1,4 +1,5 @@
--- The same names in another order, or once in place of twice; and declarations of which no more clash.
+-- The same names in another order, or once in place of twice; and declarations of which no more
+-- clash.
 use Rattle.std.specs.Prelude.{ℕ, ◌+◌, ◌≤◌, ◌≡◌, Bool, true, false, ◌&&◌, ◌||◌, List, [], ◌∷◌, Option, Some, None, if◌then◌else◌}
 use Rattle.mini_model.specs.declared.name.Name.{Name}
 use Rattle.mini_model.specs.declared.name.SymbolId.{SymbolId}

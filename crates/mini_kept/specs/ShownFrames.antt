@@ -1,8 +1,10 @@
--- Frames that show what others do, where some keys have lost their brackets, and some functions and classes their own name. A key in
--- brackets is a body of its own; where it gives one property key and does nothing else, it may stand without them, as that property
--- (ECMA-262, "Runtime Semantics: Evaluation" of ComputedPropertyName and of LiteralPropertyName). Its number is then in no frame any more.
--- The name of a function or class expression is declared for what stands in it alone (ECMA-262,
--- "InstantiateOrdinaryFunctionExpression", "ClassDefinitionEvaluation"); where nothing mentions it, it may go.
+-- Frames that show what others do, where some keys have lost their brackets, and some functions and
+-- classes their own name. A key in brackets is a body of its own; where it gives one property key
+-- and does nothing else, it may stand without them, as that property (ECMA-262, "Runtime Semantics:
+-- Evaluation" of ComputedPropertyName and of LiteralPropertyName). Its number is then in no frame
+-- any more. The name of a function or class expression is declared for what stands in it alone
+-- (ECMA-262, "InstantiateOrdinaryFunctionExpression", "ClassDefinitionEvaluation"); where nothing
+-- mentions it, it may go.
 use Rattle.std.specs.Prelude.{◌≡◌, ◌⊎◌, ◌&&◌, ℕ, Bool, true, false, not, List, [], ◌∷◌, Contains, None, Some}
 use Rattle.mini_model.specs.declared.name.Name.{Name}
 use Rattle.mini_model.specs.declared.shape.Shape.{Shape}
@@ -20,8 +22,8 @@ use Rattle.mini_kept.specs.Frames.{has_key, unbracketed, Frame}
 
 -- ---- what a key gives
 
--- a run from these variables that has no event, changes no variable and ends with a value that is this property key (ECMA-262,
--- "ToPropertyKey")
+-- a run from these variables that has no event, changes no variable and ends with a value that is
+-- this property key (ECMA-262, "ToPropertyKey")
 pub record OnlyGives (e : Environment) (vars : Variable → Slot) (s : List ℕ) (r : Ran) : Type 0 where
   pub value : Value
   pub events : r.events ≡ []
@@ -29,8 +31,8 @@ pub record OnlyGives (e : Environment) (vars : Variable → Slot) (s : List ℕ)
   pub outcome : r.outcome ≡ NormalOf value
   pub key : to_text value ≡ makes s
 
--- from each start the run is outside the model, or only gives that key; in any environment in which nobody else sees D and the variables W
--- can be written, and where that is so which V says
+-- from each start the run is outside the model, or only gives that key; in any environment in which
+-- nobody else sees D and the variables W can be written, and where that is so which V says
 pub record GivesKeyUnder (W : VariableSet) (V : Assured) (D : VariableSet) (n : Tree) (s : List ℕ) : Type 0 where
   pub by : (e : Environment) → Permits W D e → Steadies V e → (vars : Variable → Slot) (this : Value) (answers : List Answer) (turns : ℕ) → Initialised V.initial (start_of vars this answers turns) → (Run e InnerValue n vars this answers turns ≡ None) ⊎ ((r : Ran) × (Run e InnerValue n vars this answers turns ≡ Some r) × OnlyGives e vars s r)
 
@@ -98,7 +100,8 @@ is_named_expression (shape.Function false is_generator directives) = true
 is_named_expression (shape.Class false) = true
 is_named_expression h = false
 
--- whose names may go, where those of function expressions are kept or not, and those of class expressions
+-- whose names may go, where those of function expressions are kept or not, and those of class
+-- expressions
 abbrev pub loses_name : Bool → Bool → Shape → Bool
 loses_name functions_kept classes_kept (shape.Function false is_generator directives) = not functions_kept
 loses_name functions_kept classes_kept (shape.Class false) = not classes_kept

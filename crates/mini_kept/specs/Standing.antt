@@ -1,5 +1,6 @@
--- What the slot of a node tells of its place: that an inner expression there is asked for its value or as a target, as which it
--- stands where no expression does, and that a function there is no constructor's unless it is a method's value.
+-- What the slot of a node tells of its place: that an inner expression there is asked for its value
+-- or as a target, as which it stands where no expression does, and that a function there is no
+-- constructor's unless it is a method's value.
 use Rattle.std.specs.Prelude.{◌≡◌, Bool, true, false, ◌&&◌, ◌||◌, not}
 use Rattle.mini_model.specs.declared.place.Position.{Position}
 use Rattle.mini_model.specs.declared.place.Position.TheVariants.{Expr, Stmt, StatementList, BodyList, ArgumentList, SequenceList, TemplateList}
@@ -43,7 +44,8 @@ stands_whole (many_and_rest c rest) p = not (takes_inner c || takes_inner rest) 
 stands_whole (many_or_holes_and_rest c rest) p = not (takes_inner c || takes_inner rest) || are_asked_whole p
 stands_whole (quasis g) p = true
 
--- no expression stands there, and none is an item of a list there: so stands what a pattern assigns to
+-- no expression stands there, and none is an item of a list there: so stands what a pattern assigns
+-- to
 abbrev pub is_unseated : Position → Bool
 is_unseated (Expr s) = false
 is_unseated ArgumentList = false

@@ -1,5 +1,6 @@
--- Bodies that stand for others where some variables are gone, some can be written, and something is known of each body's run: they run
--- alike where nobody else sees the first, a write of the second writes, and that is so.
+-- Bodies that stand for others where some variables are gone, some can be written, and something is
+-- known of each body's run: they run alike where nobody else sees the first, a write of the second
+-- writes, and that is so.
 use Rattle.std.specs.Prelude.{ℕ, ◌≡◌, ◌⊎◌, Bool, true, false, List, [], ◌∷◌}
 use Rattle.mini_model.specs.declared.place.Position.{Position}
 use Rattle.mini_model.specs.Rewriting.{Step}
@@ -21,7 +22,8 @@ pub record Unseen (D : VariableSet) (e : Environment) : Type 0 where
   pub shared : Apart e D
   pub foreign : (x : Variable) → D x ≡ true → e.foreign x ≡ false
 
--- besides, a write of each variable of W writes, as of what no `const` declares (ECMA-262, "SetMutableBinding")
+-- besides, a write of each variable of W writes, as of what no `const` declares (ECMA-262,
+-- "SetMutableBinding")
 pub record Permits (W D : VariableSet) (e : Environment) : Type 0 where
   pub unseen : Unseen D e
   pub writable : (x : Variable) → W x ≡ true → e.fixed x ≡ Writes
@@ -64,8 +66,8 @@ pub record Steadies (V : Assured) (e : Environment) : Type 0 where
 abbrev pub Begins : Assured → VariableSet → Type 0
 Begins V X = (x : Variable) → V.initial x ≡ true → X x ≡ true
 
--- an earlier body and a later one, without the variables D, where those of W can be written, and what S says is known of the body with
--- a number
+-- an earlier body and a later one, without the variables D, where those of W can be written, and
+-- what S says is known of the body with a number
 pub record AlikeUnder (W : VariableSet) (S : BodySets) (D : VariableSet) (b c : Body) : Type 0 where
   pub number : b.number ≡ c.number
   pub kind : KindKept b.kind c.kind
@@ -95,9 +97,9 @@ BodiesWith W D = BodiesUnder W none_steady D
 abbrev pub BodiesWithout : VariableSet → List Body → List Body → Type 0
 BodiesWithout D = BodiesWith nothing D
 
--- what a relation of rewriting has to keep of the nodes that it replaces, for a program to keep its bodies without the variables D,
--- where those of W can be written and what S says is known: each instance means the same where nobody else sees the former, and is read
--- alike
+-- what a relation of rewriting has to keep of the nodes that it replaces, for a program to keep its
+-- bodies without the variables D, where those of W can be written and what S says is known: each
+-- instance means the same where nobody else sees the former, and is read alike
 pub record KeepsBodiesUnder (W : VariableSet) (S : BodySets) (D : VariableSet) (R : Position → Tree → Tree → Type 0) : Type 0 where
   pub means : (e : Environment) → Permits W D e → KeepsMeaning R e D
   pub reads : (p : Position) (n w : Tree) → R p n w → summary n ≡ summary w
@@ -105,7 +107,8 @@ pub record KeepsBodiesUnder (W : VariableSet) (S : BodySets) (D : VariableSet) (
   pub kind : (p : Position) (n w : Tree) → R p n w → (strict : Bool) (s : Slot) → fits strict s n ≡ true → arrow_kind (shape_of n) ≡ arrow_kind (shape_of w)
   pub bodies : (p : Position) (n w : Tree) → R p n w → (strict : Bool) (s : Slot) → fits_place p s ≡ true → fits strict s n ≡ true → (a : Around) → Stands s p a → BodiesUnder W S D (bodies a n) (bodies a w)
 
--- so does one step, at any place of a tree that fills a slot, where the tree that it gives mentions none of the variables D
+-- so does one step, at any place of a tree that fills a slot, where the tree that it gives mentions
+-- none of the variables D
 abbrev pub StepKeepsUnder : VariableSet → BodySets → VariableSet → (Position → Tree → Tree → Type 0) → Type 0
 StepKeepsUnder W S D R =
     KeepsBodiesUnder W S D R → (p : Position) (t u : Tree) → Step R p t u → Avoids D u → (strict : Bool) (s : Slot) → fits_place p s ≡ true → fits strict s t ≡ true → (a : Around) → Stands s p a → BodiesUnder W S D (bodies a t) (bodies a u)

@@ -84,7 +84,8 @@ abbrev pub do_demand : ℕ → Demand
 do_demand zero = Stat (Some LoopTail)
 do_demand (suc i) = As Test
 
--- the head of a `for`, and that of a `for..in` or `for..of`: a declaration, or an expression or a target
+-- the head of a `for`, and that of a `for..in` or `for..of`: a declaration, or an expression or a
+-- target
 abbrev pub head_demand : Option Declared → Demand
 head_demand (Some (Variables k)) = Stat None
 head_demand _ = As Unused

@@ -14,7 +14,8 @@ use Rattle.mini_laws.specs.Body.{BodyKind, Program, FunctionStatements, ArrowExp
 pub record Around : Type 0 where
   -- their code is strict
   pub strict : Bool
-  -- `this` is asked of the world: in the constructor of a class with a superclass, and in arrows there
+  -- `this` is asked of the world: in the constructor of a class with a superclass, and in arrows
+  -- there
   pub asks_this : Bool
   -- the class around has a superclass, and the function here is its constructor
   pub extends : Bool
@@ -25,7 +26,8 @@ pub record Around : Type 0 where
 abbrev pub outermost : Around
 outermost = record { strict = false; asks_this = false; extends = false; constructs = false; is_assigned = false }
 
--- ECMA-262, "ResolveThisBinding": functions have a `this` of their own, and so have fields and static blocks
+-- ECMA-262, "ResolveThisBinding": functions have a `this` of their own, and so have fields and
+-- static blocks
 abbrev pub asks_below : Around → Shape → ℕ → Bool
 asks_below a (shape.Function is_declaration is_generator directives) i = a.constructs
 asks_below a (shape.PropertyDefinition is_computed is_static) (suc i) = false
@@ -40,7 +42,8 @@ abbrev pub constructs_below : Around → Shape → ℕ → Bool
 constructs_below a (shape.MethodDefinition method.Constructor is_computed is_static) (suc i) = a.extends
 constructs_below a h i = false
 
--- ECMA-262, "Destructuring Assignment": the elements of a pattern and the values of its properties, without their defaults
+-- ECMA-262, "Destructuring Assignment": the elements of a pattern and the values of its properties,
+-- without their defaults
 abbrev pub is_assigned_below : Around → Shape → ℕ → Bool
 is_assigned_below a shape.ObjectAssignmentTarget i = true
 is_assigned_below a shape.ArrayAssignmentTarget i = true
@@ -89,6 +92,7 @@ abbrev mutual
 abbrev pub bodies_in : Tree → List Body
 bodies_in t = bodies outermost t
 
--- what a run of a body of this program rests on, with the variables that its events show and those that an answer may change
+-- what a run of a body of this program rests on, with the variables that its events show and those
+-- that an answer may change
 abbrev pub environment_for : Tree → VariableSet → VariableSet → Body → Environment
 environment_for t shared foreign b = environment_in t shared foreign b.strict b.asks_this

@@ -12,8 +12,9 @@ use Rattle.mini_laws.specs.Fixity.{is_strict_in, fixed_in}
 use Rattle.mini_laws.specs.Step.{means}
 use Rattle.mini_laws.specs.Same.{Initialised}
 
--- a program's statements, those of a function or a static block, an arrow's body that is an expression, and an inner
--- expression of a carried node: one whose value is asked, or the member that a pattern assigns to
+-- a program's statements, those of a function or a static block, an arrow's body that is an
+-- expression, and an inner expression of a carried node: one whose value is asked, or the member
+-- that a pattern assigns to
 pub data BodyKind : Type 0 where
   Program : BodyKind
   FunctionStatements : BodyKind
@@ -116,7 +117,8 @@ abbrev pub is_global : Variable → Bool
 is_global (Variable.Global s) = true
 is_global (Variable.Declared n) = false
 
--- what events show: the unresolved names. Which declared names another body may see is said where scopes are
+-- what events show: the unresolved names. Which declared names another body may see is said where
+-- scopes are
 abbrev pub shared_of : Tree → VariableSet
 shared_of t x = is_global x && is_in x (mentioned t)
 
@@ -124,8 +126,8 @@ shared_of t x = is_global x && is_in x (mentioned t)
 abbrev pub foreign_of : Tree → VariableSet
 foreign_of t x = is_global x && is_in x (mentioned t)
 
--- of a body in this program, with the variables that its events show, those that an answer may change, whether its code is
--- strict, and whether it asks the world for `this`
+-- of a body in this program, with the variables that its events show, those that an answer may
+-- change, whether its code is strict, and whether it asks the world for `this`
 abbrev pub environment_in : Tree → VariableSet → VariableSet → Bool → Bool → Environment
 environment_in t shared foreign strict asks_this = record { shared = shared; foreign = foreign; fixed = fixed_in strict t; asks_this = asks_this }
 

@@ -1,4 +1,5 @@
--- What bodies share and what is foreign to them, their scopes, `this` and `arguments`, in small programs, worked out by hand.
+-- What bodies share and what is foreign to them, their scopes, `this` and `arguments`, in small
+-- programs, worked out by hand.
 use Rattle.std.specs.Prelude.{◌≡◌, refl, true, false, [], ◌∷◌, map, length, codes}
 use Rattle.mini_model.specs.declared.kind.VariableDeclarationKind.TheVariants.{Var, Let, Const}
 use Rattle.mini_model.specs.declared.shape.Shape.TheVariants as shape
@@ -176,7 +177,8 @@ a_written_parameter_is_foreign_to_an_arrow : is_foreign (resolved_program (scrip
 unfolding resolved scopes_by body_names names_of with_names has_inner symbols has_eval scope_list mentions module_names names_arguments reached_by_arguments caught var_writes pattern_writes imported_names pattern_names lexical_variables switched moments has_number params_around bodies fixed_names
 a_written_parameter_is_foreign_to_an_arrow = refl
 
--- function f() { try { } catch (e) { var e = null } () => e }: this arrow reads the `var`, which nothing writes
+-- function f() { try { } catch (e) { var e = null } () => e }: this arrow reads the `var`, which
+-- nothing writes
 an_arrow_reads_the_var : is_foreign (resolved_program (script (function 1 (binding f) none (catches (binding e) (declares Var (binding e) (zero_literal) ▸ none) ▸ said (arrow 2 none (reference e)) ▸ none) ▸ none))) 2 (known 1 e) ≡ false
 unfolding resolved scopes_by body_names names_of with_names has_inner symbols has_eval scope_list mentions module_names names_arguments reached_by_arguments caught var_writes pattern_writes imported_names pattern_names lexical_variables switched moments has_number params_around bodies fixed_names
 an_arrow_reads_the_var = refl
@@ -205,7 +207,8 @@ a_lexical_pattern : is_foreign (resolved_program (script (function 1 (binding f)
 unfolding resolved scopes_by body_names names_of with_names has_inner symbols has_eval scope_list mentions module_names names_arguments reached_by_arguments caught var_writes pattern_writes imported_names pattern_names lexical_variables switched moments has_number params_around bodies fixed_names
 a_lexical_pattern = refl
 
--- function f() { try { } catch (e) { try { } catch (e) { var [e] = null } } }: the innermost parameter
+-- function f() { try { } catch (e) { try { } catch (e) { var [e] = null } } }: the innermost
+-- parameter
 a_pattern_under_two : is_foreign (resolved_program (script (function 1 (binding f) none (catches (binding e) (catches (binding e) (declares Var (array_pattern 2 (binding e ▸ none)) (zero_literal) ▸ none) ▸ none) ▸ none) ▸ none))) 1 (known 3 e) ≡ true
 unfolding resolved scopes_by body_names names_of with_names has_inner symbols has_eval scope_list mentions module_names names_arguments reached_by_arguments caught var_writes pattern_writes imported_names pattern_names lexical_variables switched moments has_number params_around bodies fixed_names
 a_pattern_under_two = refl
@@ -331,7 +334,8 @@ a_class_expression : is_writable (resolved_program (script (said (class_with fal
 unfolding resolved scopes_by body_names names_of with_names has_inner symbols has_eval scope_list mentions module_names names_arguments reached_by_arguments caught var_writes pattern_writes imported_names pattern_names lexical_variables switched moments has_number params_around bodies fixed_names
 a_class_expression = refl
 
--- class a extends b { constructor() { () => this; (function() { }); import(this) } m() { } m = () => this; static { } }
+-- class a extends b { constructor() { () => this; (function() { }); import(this) } m() { } m = ()
+-- => this; static { } }
 this_in_a_constructor : this_has_event (module_of (class_with true 1 (binding a) (binding a) (inner 2 (reference b)) (constructor_of (function_expression 3 absent none (said (arrow 4 none (leaf shape.ThisExpression)) ▸ said (function_expression 5 absent none none) ▸ said (plain shape.ImportExpression (inner 6 (leaf shape.ThisExpression) ▸ none)) ▸ none)) ▸ method_of (function_expression 7 absent none none) ▸ field_of (inner 8 (arrow 9 none (leaf shape.ThisExpression))) ▸ static_block 10 none ▸ none) ▸ none)) 3 ≡ true
 unfolding resolved scopes_by body_names names_of with_names has_inner symbols has_eval scope_list mentions module_names names_arguments reached_by_arguments caught var_writes pattern_writes imported_names pattern_names lexical_variables switched moments has_number params_around bodies fixed_names
 this_in_a_constructor = refl
@@ -398,7 +402,8 @@ arguments_in_a_static_block : has_arguments (script (said (arrow 1 none zero_lit
 unfolding resolved scopes_by body_names names_of with_names has_inner symbols has_eval scope_list mentions module_names names_arguments reached_by_arguments caught var_writes pattern_writes imported_names pattern_names lexical_variables switched moments has_number params_around bodies fixed_names
 arguments_in_a_static_block = refl
 
--- function f(p) { let a; { let b; } { } }: the program, the parameters, the body, the block; a block without names is none
+-- function f(p) { let a; { let b; } { } }: the program, the parameters, the body, the block; a
+-- block without names is none
 four_scopes : map (λ s. length s.names) (scopes_of (script (function 1 (binding f) (binding p ▸ none) (let_of a ▸ block (let_of b ▸ none) ▸ block none ▸ none) ▸ none))) ≡ 1 ∷ 1 ∷ 1 ∷ 1 ∷ []
 unfolding resolved scopes_by body_names names_of with_names has_inner symbols has_eval scope_list mentions module_names names_arguments reached_by_arguments caught var_writes pattern_writes imported_names pattern_names lexical_variables switched moments has_number params_around bodies fixed_names
 four_scopes = refl

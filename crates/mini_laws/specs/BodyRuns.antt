@@ -28,7 +28,8 @@ function_of n directives ts = numbered n (shape.Function false false directives)
 nested : told (bodies_in (script (does (function_of 1 (codes "use strict" ∷ []) (does (numbered 2 (shape.ArrowFunctionExpression []) (listed none ▸ null ▸ none)) ▸ none)) ▸ none))) ≡ (0, (Program, (false, false))) ∷ (1, (FunctionStatements, (true, false))) ∷ (2, (ArrowExpression, (true, false))) ∷ []
 nested = refl
 
--- a class with a superclass: its constructor, and an arrow there, ask for `this`, and a method doesn't; all is strict
+-- a class with a superclass: its constructor, and an arrow there, ask for `this`, and a method
+-- doesn't; all is strict
 abbrev arrow : ℕ → Tree
 arrow n = numbered n (shape.ArrowFunctionExpression []) (listed none ▸ leaf shape.ThisExpression ▸ none)
 

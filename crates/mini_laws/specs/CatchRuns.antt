@@ -1,5 +1,5 @@
--- Runs of a `var` under a parameter of `catch` of its name, from the text of a program, computed: the `var` has the symbol 0
--- and the parameter the symbol 1.
+-- Runs of a `var` under a parameter of `catch` of its name, from the text of a program, computed:
+-- the `var` has the symbol 0 and the parameter the symbol 1.
 use Rattle.std.specs.Prelude.{◌≡◌, refl, ℕ, true, false, List, [], ◌∷◌, Option, Some, None, codes, pos}
 use Rattle.std.specs.Fmt.{digits}
 use Rattle.mini_model.specs.declared.kind.VariableDeclarationKind.TheVariants.{Var}

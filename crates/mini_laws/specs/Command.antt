@@ -1,17 +1,18 @@
--- Commands over the children of a node, and what they do. A command names no variable but by its place in the node's
--- naming, so that the command of a node is the same whatever its variables are.
+-- Commands over the children of a node, and what they do. A command names no variable but by its
+-- place in the node's naming, so that the command of a node is the same whatever its variables are.
 use Rattle.std.specs.Prelude.{ℕ, zero, suc, Bool, true, false, List, [], ◌∷◌, Option, Some, None}
 use Rattle.mini_laws.specs.Value.{Value, Undefined, Boolean, Object, Variable, Declared, Global, Slot, Holds, Missing, Uninitialised, choose, variable_eq, is_in, nth}
 use Rattle.mini_laws.specs.State.{Label, Coerce, DeleteOf, NewOf, InOf, InstanceOf, ArrayOf, ObjectOf, Create, NodeOf, PlaceOf, BindOf, ThisOf, IteratorOf, KeysOf, NextOf, YieldOf, ReferenceError, Raise, FreshOf, ABoolean, AnObject, InChain, Entry, Item, Given, Normal, Throws, Finished, Returning, Shortens, Answer, State, Stop, Thrown, Returned, Short, NoAnswers, NoTurns, Completion, ok, stop, halt, out, Ends, done, ended, either, Writing, Environment, with_vars, seen, news_of}
 use Rattle.mini_laws.specs.Demand.{Demand, Request, Reply}
 
--- a function that is created where its block or body is entered: its name, if it has one, and its number
+-- a function that is created where its block or body is entered: its name, if it has one, and its
+-- number
 pub record Hoisted : Type 0 where
   pub name : Option Variable
   pub number : ℕ
 
--- the variables and the number of a node: those that it reads, those that it writes or initialises, those that its
--- pattern binds, those of the scope that it opens, and the functions that it creates
+-- the variables and the number of a node: those that it reads, those that it writes or initialises,
+-- those that its pattern binds, those of the scope that it opens, and the functions that it creates
 pub record Naming : Type 0 where
   pub own : List Variable
   pub written : List Variable
@@ -59,8 +60,8 @@ Gets self = Value
 Gets fuel = ℕ
 Gets _ = Unit {0}
 
--- a command over children of whom q is asked: it replies, ends abruptly, has no meaning, or goes on after an action or
--- after a child
+-- a command over children of whom q is asked: it replies, ends abruptly, has no meaning, or goes on
+-- after an action or after a child
 pub data Command (q : ℕ → Demand) (A : Type 0) : Type 0 where
   ret : A → Command q A
   fails : Stop → Command q A

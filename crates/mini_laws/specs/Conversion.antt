@@ -1,5 +1,5 @@
--- Conversions of values to texts and numbers (ECMA-262, "Type Conversion"). An object is made primitive before, by an
--- event.
+-- Conversions of values to texts and numbers (ECMA-262, "Type Conversion"). An object is made
+-- primitive before, by an event.
 use Rattle.std.specs.Prelude.{ℕ, zero, suc, ◌+◌, ◌-◌, ◌*◌, nat_le, nat_lt, nat_eq, nat_abs, Bool, true, false, ◌&&◌, ◌||◌, List, [], ◌∷◌, reverse, length, codes, Option, Some, None, ℤ, pos, negsuc}
 use Rattle.std.specs.Fmt.{signed_decimal}
 use Rattle.mini_model.specs.Weight.{same_text}
@@ -103,7 +103,8 @@ to_number (String s) = read_trimmed (trimmed s)
 to_number (Symbol n) = raises
 to_number (Object n is_function) = outside
 
--- a key of a member: a Num, Bool, Null or Undefined is its text, and an object stays one (ECMA-262, "ToPropertyKey")
+-- a key of a member: a Num, Bool, Null or Undefined is its text, and an object stays one (ECMA-262,
+-- "ToPropertyKey")
 abbrev pub key_value : Value → Value
 key_value Undefined = String (codes "undefined")
 key_value Null = String (codes "null")
@@ -111,7 +112,8 @@ key_value (Boolean b) = String (text_of_boolean b)
 key_value (Number n) = String (signed_decimal n)
 key_value v = v
 
--- what a text holds at a key without an event: its length, and its units (ECMA-262, "String Exotic Objects")
+-- what a text holds at a key without an event: its length, and its units (ECMA-262, "String Exotic
+-- Objects")
 
 abbrev pub unit_at : List ℕ → ℕ → Option Value
 unit_at [] i = None

@@ -16,8 +16,8 @@ pub record FellBy (p : Use → Bool) (rs : List Reference) (old new : List ℕ) 
   pub symbols : length new ≡ length old
   pub each : (s : ℕ) → slice_index new s + times_of p s rs ≡ slice_index old s
 
--- where the counts are those of references of which some are a part's, and they fall by those of the part, they are those
--- of the references that are left
+-- where the counts are those of references of which some are a part's, and they fall by those of
+-- the part, they are those of the references that are left
 abbrev pub AreTimes : (Use → Bool) → List Reference → ℕ → List ℕ → Type 0
 AreTimes p rs n counts = (s : ℕ) → s < n → slice_index counts s ≡ times_of p s rs
 

@@ -1,5 +1,5 @@
--- A tree without the bodies that are nested in it: of a function its name and its number are left, and of an inner
--- expression of a carried node its number, and whether a chain may end in it.
+-- A tree without the bodies that are nested in it: of a function its name and its number are left,
+-- and of an inner expression of a carried node its number, and whether a chain may end in it.
 use Rattle.std.specs.Prelude.{Bool, true, false, []}
 use Rattle.mini_model.specs.declared.shape.Shape.{Shape}
 use Rattle.mini_model.specs.declared.shape.Shape.TheVariants as shape
@@ -54,7 +54,8 @@ abbrev mutual
   bare_all none = none
   bare_all (t ▸ ts) = bare t ▸ bare_all ts
 
--- what is left of a node's children, which are these without the bodies in them; and these as parts of a carried node
+-- what is left of a node's children, which are these without the bodies in them; and these as parts
+-- of a carried node
 abbrev pub cut_by : Shape → Trees → Trees → Trees → Trees
 cut_by (shape.Function is_declaration is_generator directives) ts us bares = first_child ts
 cut_by (shape.ArrowFunctionExpression directives) ts us bares = none

@@ -88,7 +88,8 @@ imported : run_of Program (script ((two shape.ImportDeclaration (listed (one sha
 unfolding means meaning step either act at_variable read_slot read_any write_slot take_turn answered answered_binds heard this_of digits
 imported = refl
 
--- what a write does, by the declaration: `const x = 1;`, `let x = 1;`, `import { y as x } from "m";`
+-- what a write does, by the declaration: `const x = 1;`, `let x = 1;`,
+-- `import { y as x } from "m";`
 fixed_const : fixed_in false (script (declaration Const (bound 6) (number 1) ▸ none)) (Declared 6) ≡ Refuses
 fixed_const = refl
 

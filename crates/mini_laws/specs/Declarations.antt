@@ -10,8 +10,9 @@ use Rattle.mini_laws.specs.Asking.{first_demand, declaration_demand, lexically, 
 use Rattle.mini_laws.specs.Replies.{merged, put_own}
 use Rattle.mini_laws.specs.Targets.{put_carried}
 
--- a name takes a value: a lexical one is initialised by it (ECMA-262, "InitializeReferencedBinding"), and a `var` is written as
--- an assignment does it (ECMA-262, "Variable Statement", Evaluation: PutValue)
+-- a name takes a value: a lexical one is initialised by it (ECMA-262,
+-- "InitializeReferencedBinding"), and a `var` is written as an assignment does it (ECMA-262,
+-- "Variable Statement", Evaluation: PutValue)
 abbrev pub name_takes : {σ : ℕ → Demand} → Bool → Value → Command σ (Unit {0})
 name_takes true v = op (init 0 v) (then ret)
 name_takes false v = put_own v
@@ -45,7 +46,8 @@ abbrev pub declares_by : (lexical : Bool) → Bool → Command (first_demand (Bi
 declares_by lexical true = uninitialised lexical
 declares_by lexical false = kid 1 tt (then (λ v. kid 0 v (then ret)))
 
--- a `var` whose declarator has a name of its own writes that (ECMA-262, "VariableStatements in Catch Clauses")
+-- a `var` whose declarator has a name of its own writes that (ECMA-262, "VariableStatements in
+-- Catch Clauses")
 abbrev pub gives_by : (has_name : Bool) → Value → Command (first_demand (Binds false) (As Val)) (Unit {0})
 gives_by true v = put_own v
 gives_by false v = kid 0 v (then ret)
@@ -67,7 +69,8 @@ declarator_step has_name has_no_init Heads (Some v) = gives_by has_name v
 declarator_step has_name has_no_init Heads None = var_by has_name has_no_init
 declarator_step has_name has_no_init q r = stuck
 
--- ECMA-262, "BindingClassDeclarationEvaluation": the world makes the class, and then its name is initialised
+-- ECMA-262, "BindingClassDeclarationEvaluation": the world makes the class, and then its name is
+-- initialised
 abbrev pub class_step : Command (λ i. Binds true) Value
 class_step = bind (emit_mine (NodeOf AnObject) []) (λ v. kid 0 v (then (λ u. ret v)))
 

@@ -1,4 +1,5 @@
--- Which names are declared where (ECMA-262, "Static Semantics: BoundNames, LexicallyDeclaredNames, VarDeclaredNames").
+-- Which names are declared where (ECMA-262, "Static Semantics: BoundNames, LexicallyDeclaredNames,
+-- VarDeclaredNames").
 use Rattle.std.specs.Prelude.{ℕ, Bool, true, false, ◌||◌, List, [], ◌∷◌, ◌++◌, if◌then◌else◌}
 use Rattle.mini_model.specs.declared.kind.VariableDeclarationKind.TheVariants.{Var}
 use Rattle.mini_model.specs.declared.name.Name.{Name}
@@ -38,7 +39,8 @@ lexical_place shape.SwitchCase = place.Below
 lexical_place shape.Listed = place.Below
 lexical_place _ = place.Nowhere
 
--- `var`s stand in statements, and so in what is made of them (ECMA-262, "Static Semantics: VarDeclaredNames")
+-- `var`s stand in statements, and so in what is made of them (ECMA-262, "Static Semantics:
+-- VarDeclaredNames")
 abbrev pub hoisted_place : Shape → Place
 hoisted_place (shape.VariableDeclaration Var) = place.Bound
 hoisted_place shape.Listed = place.Below
@@ -90,7 +92,8 @@ is_statement_list shape.Listed = true
 is_statement_list shape.FunctionBody = true
 is_statement_list _ = false
 
--- the names that a body of statements declares: of each statement those that it declares directly, and the `var`s in it
+-- the names that a body of statements declares: of each statement those that it declares directly,
+-- and the `var`s in it
 unfoldable mutual
   pub body_names : Tree → List Name
   body_names (node h xs n ts) = if is_statement_list h then all_body_names ts else names_of declared.Lexical (node h xs n ts) ++ names_of declared.Hoisted (node h xs n ts)

@@ -9,21 +9,23 @@ pub data Want : Type 0 where
   Test : Want
   Unused : Want
 
--- a statement after which its parent ends a turn of a loop, or a function: there running off the end and jumping to it
--- are one thing
+-- a statement after which its parent ends a turn of a loop, or a function: there running off the
+-- end and jumping to it are one thing
 pub data Tail : Type 0 where
   LoopTail : Tail
   FunctionTail : Tail
 
 pub data Demand : Type 0 where
-  -- an expression; the callee of a call; the operand of `typeof`, and of `delete`; what is assigned to; an item of a list
+  -- an expression; the callee of a call; the operand of `typeof`, and of `delete`; what is assigned
+  -- to; an item of a list
   As : Want → Demand
   Callee : Demand
   OfType : Demand
   Deleted : Demand
   Target : Demand
   AnEntry : Demand
-  -- lists of expressions: of arguments, elements or properties; of the parts of a sequence; of those of a template
+  -- lists of expressions: of arguments, elements or properties; of the parts of a sequence; of
+  -- those of a template
   Items : Demand
   Parts : Want → Demand
   Texts : Demand
@@ -45,9 +47,10 @@ pub data Demand : Type 0 where
 abbrev pub LabelSet : Type 0
 LabelSet = List (List ℕ)
 
--- a reference (ECMA-262, "The Reference Record Specification Type"): of a name, which stays with its node; of a member,
--- with its base and its key, which is a property key or an object; of one that was read, so that its key is no object any
--- more; of a carried node; or a value that is no reference
+-- a reference (ECMA-262, "The Reference Record Specification Type"): of a name, which stays with
+-- its node; of a member, with its base and its key, which is a property key or an object; of one
+-- that was read, so that its key is no object any more; of a carried node; or a value that is no
+-- reference
 pub data Reference : Type 0 where
   AName : Reference
   AMember : Value → Value → Reference
@@ -66,7 +69,8 @@ pub data CaseRequest : Type 0 where
   AskTest : CaseRequest
   AskBody : CaseRequest
 
--- what a parent tells a child: the head of a loop that its initializer is evaluated, if it has one, or that it takes a value
+-- what a parent tells a child: the head of a loop that its initializer is evaluated, if it has one,
+-- or that it takes a value
 abbrev pub Request : Demand → Type 0
 Request Target = TargetRequest
 Request (Stat t) = LabelSet

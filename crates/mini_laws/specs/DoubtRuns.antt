@@ -1,5 +1,5 @@
--- Runs that a sceptic would doubt, computed: what comes first, what is converted when, what an end skips. Each is worked out
--- by hand from ECMA-262.
+-- Runs that a sceptic would doubt, computed: what comes first, what is converted when, what an end
+-- skips. Each is worked out by hand from ECMA-262.
 use Rattle.std.specs.Prelude.{◌≡◌, refl, true, false, [], ◌∷◌, Some, None, codes, pos, negsuc}
 use Rattle.std.specs.Fmt.{digits}
 use Rattle.mini_model.specs.declared.kind.PropertyKind.TheVariants.{Init}

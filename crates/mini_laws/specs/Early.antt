@@ -1,5 +1,5 @@
--- Early errors: names that are declared twice, and jumps without a target (ECMA-262, "Static Semantics: Early Errors"), each
--- at the path of its node.
+-- Early errors: names that are declared twice, and jumps without a target (ECMA-262, "Static
+-- Semantics: Early Errors"), each at the path of its node.
 use Rattle.std.specs.Prelude.{ℕ, zero, suc, Bool, true, false, ◌&&◌, ◌||◌, not, List, [], ◌∷◌, ◌++◌, map, Option, Some, None, unwrap_or, if◌then◌else◌}
 use Rattle.mini_model.specs.declared.name.Name.{Name}
 use Rattle.mini_model.specs.declared.shape.Shape.{Shape}
@@ -168,7 +168,8 @@ abbrev pub is_labeled : Shape → Bool
 is_labeled shape.LabeledStatement = true
 is_labeled _ = false
 
--- whether a statement is a loop, labels aside: a labeled one is one where its body is, its last child
+-- whether a statement is a loop, labels aside: a labeled one is one where its body is, its last
+-- child
 unfoldable mutual
   pub is_loop : Tree → Bool
   is_loop (node h xs n ts) = if is_labeled h then last_is_loop ts else is_loop_shape h

@@ -1,4 +1,5 @@
--- The early errors of small programs, each by its place, worked out by hand: the indices of children from the root on.
+-- The early errors of small programs, each by its place, worked out by hand: the indices of
+-- children from the root on.
 use Rattle.std.specs.Prelude.{◌≡◌, refl, true, false, [], ◌∷◌}
 use Rattle.mini_model.specs.declared.shape.Shape.TheVariants as shape
 use Rattle.mini_model.specs.Tree.{none, ◌▸◌, absent, leaf}

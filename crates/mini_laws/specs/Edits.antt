@@ -10,7 +10,8 @@ use Rattle.mini_laws.specs.DeclaredNames.{names_of, all_names, body_names, with_
 use Rattle.mini_laws.specs.NameMoves.{let_alone, block}
 use Rattle.mini_laws.specs.Symbols.{declared as declared_in, Distinct, Within}
 
--- a tree that declares the same names to the scopes around it, and in its own scopes no symbol more often
+-- a tree that declares the same names to the scopes around it, and in its own scopes no symbol more
+-- often
 pub record Kept (t t' : Tree) : Type 0 where
   pub names : (d : Declared) → names_of d t' ≡ names_of d t
   pub body : body_names t' ≡ body_names t

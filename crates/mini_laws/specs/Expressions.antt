@@ -21,8 +21,8 @@ use Rattle.mini_laws.specs.Replies.{reply, raise, of_made, primitive, numeric, o
 
 -- Names
 
--- ECMA-262, "Identifiers": `undefined` is not read where it is unresolved, and numbers that are not whole are outside
--- the model
+-- ECMA-262, "Identifiers": `undefined` is not read where it is unresolved, and numbers that are not
+-- whole are outside the model
 abbrev pub get_identifier : {σ : ℕ → Demand} → NameKind → Command σ Value
 get_identifier UndefinedName = ret Undefined
 get_identifier NumberName = stuck
@@ -52,8 +52,9 @@ not_step = kid 0 tt (then (λ b. ret (Boolean (not b))))
 abbrev pub typeof_step : Command (λ i. OfType) Value
 typeof_step = kid 0 tt (then (λ v. ret (String (type_text v))))
 
--- ECMA-262, "The delete Operator": what is no reference gives true. Of a name it is outside the model; of a private member
--- it is an early error ("Static Semantics: Early Errors" there), and so has no meaning
+-- ECMA-262, "The delete Operator": what is no reference gives true. Of a name it is outside the
+-- model; of a private member it is an early error ("Static Semantics: Early Errors" there), and so
+-- has no meaning
 abbrev pub delete_of : {σ : ℕ → Demand} → Reference → Command σ Value
 delete_of (AMember object key) = choose (is_nullish object) raise (bind (emit DeleteOf (Item object ∷ Item key ∷ [])) (λ b. ret (Boolean b)))
 delete_of (AValue v) = ret (Boolean true)
@@ -125,8 +126,8 @@ sequence_step w = kid 0 tt (then ret)
 
 -- Calls and members
 
--- ECMA-262, "Function Calls": the callee is read before the arguments are, and a call whose callee is spelled `eval` is a
--- direct eval, but not an optional one
+-- ECMA-262, "Function Calls": the callee is read before the arguments are, and a call whose callee
+-- is spelled `eval` is a direct eval, but not an optional one
 abbrev pub call_event : {σ : ℕ → Demand} → Bool → Called → List Entry → Command σ Value
 call_event is_optional f vs = choose (f.direct && not is_optional) (emit DirectEval (Item f.value ∷ vs)) (emit CallOf (Item f.value ∷ Item f.this_value ∷ vs))
 
@@ -138,8 +139,8 @@ call_step is_optional = kid 0 tt (then (λ f. choose (is_optional && is_nullish 
 abbrev pub new_step : Command (first_demand (As Val) Items) Value
 new_step = kid 0 tt (then (λ f. kid 1 tt (then (λ vs. emit NewOf (Item f ∷ vs)))))
 
--- ECMA-262, "Property Accessors" and "Optional Chains": the object, then the key. A key that is an object is converted where
--- the member is read or written, and so by the event
+-- ECMA-262, "Property Accessors" and "Optional Chains": the object, then the key. A key that is an
+-- object is converted where the member is read or written, and so by the event
 abbrev pub member_step : Bool → Command (λ i. As Val) Reference
 member_step is_optional = kid 0 tt (then (λ object. choose (is_optional && is_nullish object) (fails Short) (kid 1 tt (then (λ key. ret (AMember object (key_value key)))))))
 
@@ -193,7 +194,8 @@ property_entry property.Init sets_prototype key v = init_entry sets_prototype ke
 property_entry property.Get sets_prototype key v = Getter key v
 property_entry property.Set sets_prototype key v = Setter key v
 
--- ECMA-262, "PropertyDefinitionEvaluation": a computed key is converted before the value is evaluated
+-- ECMA-262, "PropertyDefinitionEvaluation": a computed key is converted before the value is
+-- evaluated
 abbrev pub property_key : {σ : ℕ → Demand} → Bool → Value → Command σ Value
 property_key true v = bind (primitive ForString v) (λ key. ret (key_value key))
 property_key false v = ret (key_value v)

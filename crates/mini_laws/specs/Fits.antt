@@ -5,9 +5,10 @@ use Rattle.mini_model.specs.declared.place.Position.TheVariants.{Expr, Stmt, Sta
 use Rattle.mini_model.specs.declared.seat.Guard.TheVariants as guard
 use Rattle.mini_laws.specs.Demand.{Test, Unused, FunctionTail, Demand, As, Callee, OfType, Deleted, Target, Items, Parts, Texts, Stat}
 
--- in a seat with no mark anything may be asked but a reference: a callee, the operand of `typeof` and that of `delete` have a
--- guard, and what is assigned to stands at a place of its own. An unused seat, in the head of a `for`, may hold a declaration. A
--- function's body ends where its statements do. What no parent asks counts as a statement
+-- in a seat with no mark anything may be asked but a reference: a callee, the operand of `typeof`
+-- and that of `delete` have a guard, and what is assigned to stands at a place of its own. An
+-- unused seat, in the head of a `for`, may hold a declaration. A function's body ends where its
+-- statements do. What no parent asks counts as a statement
 abbrev pub Fits : Position → Demand → Type 0
 Fits (Expr s) (As w) = (s.boolean ≡ true → w ≡ Test) × (s.unused ≡ true → (w ≡ Unused) ⊎ (w ≡ Test))
 Fits (Expr s) (Stat t) = s.boolean ≡ false

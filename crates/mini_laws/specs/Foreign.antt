@@ -1,5 +1,5 @@
--- The variables that are foreign to a body: others may change them while it runs, or they may be uninitialised where it
--- reads them.
+-- The variables that are foreign to a body: others may change them while it runs, or they may be
+-- uninitialised where it reads them.
 use Rattle.std.specs.Prelude.{ℕ, suc, nat_eq, Bool, true, false, ◌&&◌, ◌||◌, not, List, [], ◌∷◌, ◌++◌, map, is_none, if◌then◌else◌}
 use Rattle.std.specs.List.{list_any}
 use Rattle.mini_model.specs.declared.kind.VariableDeclarationKind.TheVariants.{Var}
@@ -33,7 +33,8 @@ unfoldable mutual
   all_imported_names none = []
   all_imported_names (t ▸ ts) = imported_names t ++ all_imported_names ts
 
--- the names that patterns bind: a parameter with a default that is carried stands for a pattern of its name
+-- the names that patterns bind: a parameter with a default that is carried stands for a pattern of
+-- its name
 abbrev pub own_pattern_names : Shape → ℕ → Trees → List Name
 own_pattern_names shape.ObjectPattern n ts = all_names declared.Bound ts
 own_pattern_names shape.ArrayPattern n ts = all_names declared.Bound ts
@@ -50,7 +51,8 @@ unfoldable mutual
 
 -- ---- what may be uninitialised (ECMA-262, "let and const Declarations": the temporal dead zone)
 
--- where a statement stands directly in the body of a script or a function, in which functions are no lexical names
+-- where a statement stands directly in the body of a script or a function, in which functions are
+-- no lexical names
 abbrev pub is_body_by : Shape → Bool → Bool
 is_body_by (shape.Program is_module ds) b = not is_module
 is_body_by shape.FunctionBody b = true
@@ -60,8 +62,8 @@ is_body_by shape.ExportNamedDeclaration b = b
 is_body_by shape.ExportDefaultDeclaration b = b
 is_body_by h b = false
 
--- the lexical names that a node declares: every name but a `var`, a function directly in such a body, and a parameter of a
--- function
+-- the lexical names that a node declares: every name but a `var`, a function directly in such a
+-- body, and a parameter of a function
 abbrev pub own_lexical : Bool → Shape → Trees → List Name
 own_lexical b (shape.VariableDeclaration Var) ts = []
 own_lexical b (shape.VariableDeclaration k) ts = all_names declared.Bound ts
@@ -118,8 +120,8 @@ abbrev pub joined : {A : Type 0} → List (List A) → List A
 joined [] = []
 joined (l ∷ ls) = l ++ joined ls
 
--- the moments of the children and the ends that follow, in order: the right side of a `for..in` or `for..of` is evaluated
--- before its head
+-- the moments of the children and the ends that follow, in order: the right side of a `for..in` or
+-- `for..of` is evaluated before its head
 abbrev pub in_order : {A : Type 0} → Shape → List (List A) → List A → List A
 in_order shape.ForInStatement (left ∷ (right ∷ rest)) ends = right ++ left ++ joined rest ++ ends
 in_order shape.ForOfStatement (left ∷ (right ∷ rest)) ends = right ++ left ++ joined rest ++ ends
@@ -188,8 +190,9 @@ is_foreign_always t x =
     is_none x.symbol || is_among x (imported_names t) || is_among x (script_tops t) || is_among x (seen_by_eval t) || is_among x (reached_by_arguments false t)
     || is_among x (pattern_names t) || is_among x (program_pattern_writes t)
 
--- whether a variable is foreign to a body: it is so always; or it is shared and written elsewhere; or it is declared outside
--- the body and written by any; or it may be uninitialised where the body reads it
+-- whether a variable is foreign to a body: it is so always; or it is shared and written elsewhere;
+-- or it is declared outside the body and written by any; or it may be uninitialised where the body
+-- reads it
 abbrev pub is_foreign : Tree → ℕ → Name → Bool
 is_foreign t b x = is_variable x && (
     is_foreign_always t x

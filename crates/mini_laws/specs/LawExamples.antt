@@ -1,4 +1,5 @@
--- The two exceptions of the weight's law on parts, worked out: each grows by as much as the law allows.
+-- The two exceptions of the weight's law on parts, worked out: each grows by as much as the law
+-- allows.
 use Rattle.std.specs.Prelude.{◌≡◌, refl, ◌+◌, false, [], codes, pos}
 use Rattle.mini_model.specs.declared.operator.BinaryOperator.TheVariants.{StrictEquality}
 use Rattle.mini_model.specs.declared.operator.UnaryOperator.TheVariants.{Void}

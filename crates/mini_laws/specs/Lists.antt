@@ -52,8 +52,8 @@ abbrev pub the_head : ℕ → Option Value → Command (λ i. Heads) (Unit {0})
 the_head (suc zero) r = kid 0 r (then ret)
 the_head n r = stuck
 
--- ECMA-262, "The switch Statement", CaseBlockEvaluation: the tests in order up to one that equals the value, then the
--- statements from there, or from `default`
+-- ECMA-262, "The switch Statement", CaseBlockEvaluation: the tests in order up to one that equals
+-- the value, then the statements from there, or from `default`
 
 abbrev pub is_case : Value → Option Value → Bool
 is_case v (Some w) = strictly_equal v w

@@ -88,12 +88,14 @@ for_of_const : run_of Program (script ((three shape.ForOfStatement (declaration 
 unfolding means meaning step either act at_variable read_slot read_any write_slot take_turn answered answered_binds heard this_of digits
 for_of_const = refl
 
--- `for (const x of o);` with a shared x, which is not initialised where the iterator is asked: Iter, Next, Fresh, Next
+-- `for (const x of o);` with a shared x, which is not initialised where the iterator is asked:
+-- Iter, Next, Fresh, Next
 for_of_names : slots_in (Declared 7) (script (three shape.ForOfStatement (declaration Const (bound 7) absent) (global (codes "o")) (leaf shape.EmptyStatement) ▸ none)) (gives (Object 9 false) ∷ gives (Number (pos 1)) ∷ answer Finished ∷ []) ≡ Uninitialised ∷ Uninitialised ∷ Uninitialised ∷ Uninitialised ∷ []
 unfolding means meaning step either act at_variable write_slot take_turn answered heard read_slot
 for_of_names = refl
 
--- and in a `for` with a `let` it keeps its value from turn to turn: Fresh before it has one, and at two copies
+-- and in a `for` with a `let` it keeps its value from turn to turn: Fresh before it has one, and at
+-- two copies
 for_let_names : slots_in (Declared 7) (script (for_loop (declaration Let (bound 7) (number 0)) (binary binary.LessThan (local 7) (number 1)) (update Increment false (local 7)) (leaf shape.EmptyStatement) ▸ none)) [] ≡ Uninitialised ∷ Holds (Number (pos 0)) ∷ Holds (Number (pos 0)) ∷ []
 unfolding means meaning step either act at_variable write_slot take_turn answered heard read_slot
 for_let_names = refl

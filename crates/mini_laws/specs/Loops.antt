@@ -1,5 +1,5 @@
--- Loops: what each does over its children. A turn is taken before each test of `while` and `for`, each run of the body of a
--- `do`, and each step of an iterator.
+-- Loops: what each does over its children. A turn is taken before each test of `while` and `for`,
+-- each run of the body of a `do`, and each step of an iterator.
 use Rattle.std.specs.Prelude.{ℕ, Bool, true, false, List, [], ◌∷◌, Option, Some, None}
 use Rattle.mini_model.specs.Weight.{same_text}
 use Rattle.mini_model.specs.declared.kind.VariableDeclarationKind.TheVariants.{Var, Let}
@@ -84,12 +84,14 @@ next_of iterator turn = bind (emit NextOf (Item iterator ∷ [])) (on_next turn)
 abbrev pub keys_in : (d : Option Declared) → LabelSet → Value → Command (each_demand d) (Unit {0})
 keys_in d labels v = choose (is_nullish v) (ret tt) (bind (emit KeysOf (Item v ∷ [])) (λ iterator. loop (next_of iterator (turn_of d labels))))
 
--- ECMA-262, "Initializers in ForIn Statement Heads": a `var` is initialised before the right side is evaluated
+-- ECMA-262, "Initializers in ForIn Statement Heads": a `var` is initialised before the right side
+-- is evaluated
 abbrev pub begin_left : (d : Option Declared) → Command (each_demand d) (Unit {0}) → Command (each_demand d) (Unit {0})
 begin_left (Some (Variables Var)) c = kid 0 None (then (λ u. c))
 begin_left d c = c
 
--- ECMA-262, "ForIn/OfHeadEvaluation": lexical names of the head are uninitialised while the right side is evaluated
+-- ECMA-262, "ForIn/OfHeadEvaluation": lexical names of the head are uninitialised while the right
+-- side is evaluated
 abbrev pub for_in_step : (d : Option Declared) → LabelSet → Command (each_demand d) (Unit {0})
 for_in_step d labels = scoped (begin_left d (kid 1 tt (then (keys_in d labels))))
 

@@ -14,8 +14,8 @@ use Rattle.mini_laws.specs.declared.names.Numbering.TheVariants.{Body, Carried, 
 use Rattle.mini_laws.specs.declared.names.Around.{Around}
 use Rattle.mini_laws.specs.Scopes.{use_of}
 
--- how a node of a shape and a number stands: a program, a function, a static block and an inner expression have a body, and
--- every other numbered node is carried
+-- how a node of a shape and a number stands: a program, a function, a static block and an inner
+-- expression have a body, and every other numbered node is carried
 abbrev pub numbering_of : Shape → ℕ → Numbering
 numbering_of (shape.Program is_module ds) n = Body
 numbering_of (shape.Function d g ds) n = Body
@@ -30,7 +30,8 @@ around_by Body a n = record { number = n; carried = false }
 around_by Carried a n = record { number = n; carried = true }
 around_by Unnumbered a n = a
 
--- the innermost numbered node around a child: the `id` of a declaration stands in what is around the declaration
+-- the innermost numbered node around a child: the `id` of a declaration stands in what is around
+-- the declaration
 abbrev pub around_child : Shape → Around → ℕ → ℕ → Around
 around_child (shape.Function true g ds) a n zero = a
 around_child (shape.Class true) a n zero = a

@@ -1,4 +1,5 @@
--- An expression that moves past another: one that has the same value before that is evaluated and after.
+-- An expression that moves past another: one that has the same value before that is evaluated and
+-- after.
 use Rattle.std.specs.Prelude.{◌≡◌, ℕ, List, ℤ, false}
 use Rattle.mini_model.specs.Tree.{Tree}
 use Rattle.mini_laws.specs.Value.{Value, Declared, Holds}

@@ -13,9 +13,10 @@ use Rattle.mini_laws.specs.declared.names.Numbering.{Numbering}
 use Rattle.mini_laws.specs.declared.names.Numbering.TheVariants as numbering
 use Rattle.mini_laws.specs.Mentions.{numbering_of, is_among}
 
--- what holds of a place: whether the class right around it has a superclass; whether it is a constructor of such a class;
--- whether `this` is bound by `super()` there (ECMA-262, "BindThisValue"); and whether the body around it has an
--- `arguments` (ECMA-262, "FunctionDeclarationInstantiation")
+-- what holds of a place: whether the class right around it has a superclass; whether it is a
+-- constructor of such a class; whether `this` is bound by `super()` there (ECMA-262,
+-- "BindThisValue"); and whether the body around it has an `arguments` (ECMA-262,
+-- "FunctionDeclarationInstantiation")
 pub record Frame : Type 0 where
   pub extends : Bool
   pub constructs : Bool
@@ -62,13 +63,13 @@ unfoldable mutual
   bodies_from frames i none = []
   bodies_from frames i (t ▸ ts) = bodies (frames i) t ++ bodies_from frames (suc i) ts
 
--- whether `this` in a body is the event of reading what `super()` binds: in the constructors of classes with a superclass,
--- arrows and inner expressions in them included
+-- whether `this` in a body is the event of reading what `super()` binds: in the constructors of
+-- classes with a superclass, arrows and inner expressions in them included
 abbrev pub this_has_event : Tree → ℕ → Bool
 this_has_event t b = list_any (λ r. nat_eq r.number b && r.frame.binds_this) (bodies no_frame t)
 
--- whether a body is that of a function that is neither an arrow nor a static block, or of an arrow which stands in such a
--- body by arrows alone
+-- whether a body is that of a function that is neither an arrow nor a static block, or of an arrow
+-- which stands in such a body by arrows alone
 abbrev pub has_arguments : Tree → ℕ → Bool
 has_arguments t b = list_any (λ r. nat_eq r.number b && r.frame.has_arguments) (bodies no_frame t)
 

@@ -1,4 +1,5 @@
--- The symbols of the names of small programs, and their counts, worked out by hand. A text stands over each.
+-- The symbols of the names of small programs, and their counts, worked out by hand. A text stands
+-- over each.
 use Rattle.std.specs.Prelude.{◌≡◌, refl, true, false, [], ◌∷◌, codes}
 use Rattle.mini_model.specs.declared.kind.VariableDeclarationKind.TheVariants.{Var, Let}
 use Rattle.mini_model.specs.declared.shape.Shape.TheVariants as shape
@@ -60,7 +61,8 @@ a_pattern_is_merged : given (resolved_program (script (function 1 (binding f) (o
 unfolding given resolved scopes_by body_names names_of with_names has_inner symbols references counted
 a_pattern_is_merged = refl
 
--- function f() { function g() { } } function a() { }: the names of a scope before those of the scopes in it
+-- function f() { function g() { } } function a() { }: the names of a scope before those of the
+-- scopes in it
 an_outer_scope_first : given (resolved_program (script (function 1 (binding f) none (function 2 (binding g) none none ▸ none) ▸ function 3 (binding a) none none ▸ none))) ≡ is 0 ∷ is 2 ∷ is 1 ∷ []
 unfolding given resolved scopes_by body_names names_of with_names has_inner symbols references counted
 an_outer_scope_first = refl

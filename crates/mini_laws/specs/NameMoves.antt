@@ -31,7 +31,8 @@ let_alone x = node (shape.VariableDeclaration Let) [] 0 (listed (node shape.Vari
 abbrev pub block : Trees → Tree
 block ts = node shape.BlockStatement [] 0 (listed ts ▸ none)
 
--- a block loses its first statement `let x;`, x being declared there alone and mentioned nowhere else in it
+-- a block loses its first statement `let x;`, x being declared there alone and mentioned nowhere
+-- else in it
 abbrev pub DropLet : Type 0
 DropLet = (u : Use) (env : Environment) (x : Name) (rest : Trees) → with_names (x ∷ []) (all_names declared.Lexical rest) ≡ x ∷ with_names [] (all_names declared.Lexical rest) → AllUnmentioned (record { name = x; hoists = false }) rest → Scoped u env (block (let_alone x ▸ rest)) → Scoped u env (block rest)
 

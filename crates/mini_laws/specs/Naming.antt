@@ -1,5 +1,5 @@
--- What is read of a node's text besides its shape: the kind of its names, what its parent reads of it, and the variables
--- that its command names by place.
+-- What is read of a node's text besides its shape: the kind of its names, what its parent reads of
+-- it, and the variables that its command names by place.
 use Rattle.std.specs.Prelude.{ℕ, zero, suc, Bool, true, false, ◌||◌, List, [], ◌∷◌, ◌++◌, Option, Some, None, is_none, codes, if◌then◌else◌}
 use Rattle.mini_model.specs.declared.kind.VariableDeclarationKind.{VariableDeclarationKind}
 use Rattle.mini_model.specs.declared.kind.VariableDeclarationKind.TheVariants.{Var}
@@ -13,7 +13,8 @@ use Rattle.mini_laws.specs.Value.{Variable, choose, variables}
 use Rattle.mini_laws.specs.Demand.{Demand, Target, Declares, Binds, Heads}
 use Rattle.mini_laws.specs.Command.{Hoisted, Naming}
 
--- a name by its spelling: the last two are unresolved (ECMA-262, "Value Properties of the Global Object")
+-- a name by its spelling: the last two are unresolved (ECMA-262, "Value Properties of the Global
+-- Object")
 pub data NameKind : Type 0 where
   PlainName : NameKind
   EvalName : NameKind
@@ -43,14 +44,16 @@ pub data Declared : Type 0 where
   Variables : VariableDeclarationKind → Declared
   AClass : Declared
 
--- a function that is declared: with a name; with one and exported as default; or exported without a name
+-- a function that is declared: with a name; with one and exported as default; or exported without a
+-- name
 pub data FunctionFact : Type 0 where
   Named : FunctionFact
   NamedDefault : FunctionFact
   BareDefault : FunctionFact
 
--- what a parent's command reads of a child's text: whether it is absent, whether a link of it in a chain is optional, what
--- it declares, the functions that are created where the block or the body around it is entered, and the texts of a template
+-- what a parent's command reads of a child's text: whether it is absent, whether a link of it in a
+-- chain is optional, what it declares, the functions that are created where the block or the body
+-- around it is entered, and the texts of a template
 pub record Facts : Type 0 where
   pub absent : Bool
   pub shortens : Bool
@@ -58,8 +61,8 @@ pub record Facts : Type 0 where
   pub functions : List FunctionFact
   pub texts : List (List ℕ)
 
--- and the variables that go with it: those that it declares in the scope around it, or binds, that of a name that is
--- declared, and the functions
+-- and the variables that go with it: those that it declares in the scope around it, or binds, that
+-- of a name that is declared, and the functions
 pub record Summary : Type 0 where
   pub facts : Facts
   pub lets : List Variable
@@ -215,8 +218,8 @@ abbrev pub function_names : List Hoisted → List Variable
 function_names [] = []
 function_names (f ∷ fs) = named_in f.name ++ function_names fs
 
--- the variables of the scope that a node opens. Functions directly in a script's or a function's body are not lexical
--- (ECMA-262, "TopLevelLexicallyDeclaredNames"), and those of a module are
+-- the variables of the scope that a node opens. Functions directly in a script's or a function's
+-- body are not lexical (ECMA-262, "TopLevelLexicallyDeclaredNames"), and those of a module are
 abbrev pub scope_of : Shape → List Summary → List Variable
 scope_of (shape.Program false directives) is = lets_all is
 scope_of (shape.Program true directives) is = lets_all is ++ function_names (functions_all is)

@@ -1,6 +1,7 @@
--- Programs that nearly do the same, and don't: each pair is told apart by one run from the start of the computed examples, in
--- which f, g and h are functions, o is an object, and a is undefined and may be changed by an answer. The symbol 7, x below,
--- is seen by others; y is the symbol 1, and c the constant 8.
+-- Programs that nearly do the same, and don't: each pair is told apart by one run from the start of
+-- the computed examples, in which f, g and h are functions, o is an object, and a is undefined and
+-- may be changed by an answer. The symbol 7, x below, is seen by others; y is the symbol 1, and c
+-- the constant 8.
 use Rattle.std.specs.Prelude.{true, false, codes}
 use Rattle.mini_model.specs.declared.kind.VariableDeclarationKind.TheVariants.{Var, Let, Const}
 use Rattle.mini_model.specs.declared.operator.AssignmentOperator.TheVariants as assignment
@@ -111,7 +112,8 @@ abbrev pub ConstantWritten : Type 0
 ConstantWritten =
     Unlike Program (script (declaration Const (bound 8) (number 1) ▸ does (assign assignment.LogicalOr (local 8) (number 1)) ▸ none)) (script (declaration Const (bound 8) (number 1) ▸ does (assign assignment.Assign (local 8) (logical Or (local 8) (number 1))) ▸ none))
 
--- `o.#k = f()`, a node with the number 2, evaluates o before f is called, and `y = f(), o.#k = y` after
+-- `o.#k = f()`, a node with the number 2, evaluates o before f is called, and `y = f(), o.#k = y`
+-- after
 abbrev pub PrivateTargetMoves : Type 0
 PrivateTargetMoves =
     Unlike ArrowExpression (assign assignment.Assign (numbered 2 (shape.PrivateFieldExpression false) none) f) (sequence (assign assignment.Assign y f ▸ assign assignment.Assign (numbered 2 (shape.PrivateFieldExpression false) none) y ▸ none))
@@ -149,7 +151,8 @@ ContinueDropped =
 abbrev pub BreakDropped : Type 0
 BreakDropped = Unlike Program (script (two shape.DoWhileStatement (block (breaks ▸ none)) f ▸ none)) (script (two shape.DoWhileStatement (block none) f ▸ none))
 
--- `while (y = f()) { let x = 1; g(); }` and `let x; while (y = f()) { x = 1; g(); }`: a new x at each turn
+-- `while (y = f()) { let x = 1; g(); }` and `let x; while (y = f()) { x = 1; g(); }`: a new x at
+-- each turn
 abbrev pub FreshLost : Type 0
 FreshLost =
     Unlike Program (script (two shape.WhileStatement f (block (declaration Let (bound 7) (number 1) ▸ does g ▸ none)) ▸ none)) (script (declaration Let (bound 7) absent ▸ two shape.WhileStatement f (block (does (assign assignment.Assign x (number 1)) ▸ does g ▸ none)) ▸ none))

@@ -1,4 +1,5 @@
--- Operators on primitive values: what is not exact, -0, or no whole safe number is outside the model.
+-- Operators on primitive values: what is not exact, -0, or no whole safe number is outside the
+-- model.
 use Rattle.std.specs.Prelude.{ℕ, zero, suc, ◌+◌, ◌-◌, ◌*◌, ◌/◌, ◌%◌, ◌^◌, nat_le, nat_lt, nat_eq, nat_abs, bit_and, bit_or, bit_xor, Bool, true, false, not, ◌&&◌, ◌||◌, List, [], ◌∷◌, ◌++◌, codes, Option, Some, None, ℤ, pos, negsuc, ◌+ℤ◌, ◌-ℤ◌}
 use Rattle.mini_model.specs.declared.operator.BinaryOperator.{BinaryOperator}
 use Rattle.mini_model.specs.declared.operator.BinaryOperator.TheVariants as binary
@@ -47,7 +48,8 @@ is_odd n = nat_eq (n % 2) 1
 abbrev pub small_exponent : ℕ → ℕ
 small_exponent n = choose (nat_lt n 54) n (n % 2 + 2)
 
--- ECMA-262, "Number::exponentiate": with a negative exponent only 1 and -1 have powers that are whole
+-- ECMA-262, "Number::exponentiate": with a negative exponent only 1 and -1 have powers that are
+-- whole
 abbrev pub power : ℤ → ℤ → Made Value
 power a (pos n) = choose (nat_le (nat_abs a) 1 || nat_lt n 54) (number (signed (is_negative a && is_odd n) (nat_abs a ^ small_exponent n))) outside
 power a (negsuc n) = choose (nat_eq (nat_abs a) 1) (number (signed (is_negative a && is_odd (suc n)) 1)) outside

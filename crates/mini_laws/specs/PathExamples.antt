@@ -1,4 +1,5 @@
--- Small trees read by paths, computed. a, b, c, d and e are names, and a text stands over each tree.
+-- Small trees read by paths, computed. a, b, c, d and e are names, and a text stands over each
+-- tree.
 use Rattle.std.specs.Prelude.{◌≡◌, refl, true, false, [], ◌∷◌, Some, None, codes}
 use Rattle.mini_model.specs.declared.operator.LogicalOperator.TheVariants.{And}
 use Rattle.mini_model.specs.declared.shape.Shape.TheVariants as shape

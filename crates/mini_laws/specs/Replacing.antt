@@ -31,7 +31,8 @@ PutAbove = (p q : Path) (w t u : Tree) → is_node w ≡ true → replace_at (p 
 abbrev pub PutElsewhere : Type 0
 PutElsewhere = (p q : Path) (w t u : Tree) → begins_with q p ≡ false → begins_with p q ≡ false → is_node w ≡ true → replace_at p w t ≡ Some u → node_at q u ≡ node_at q t
 
--- neither at the path nor below it: a node with the same shape, names and number as before, or nothing as before
+-- neither at the path nor below it: a node with the same shape, names and number as before, or
+-- nothing as before
 abbrev pub HeadKept : Type 0
 HeadKept = (p q : Path) (w t u : Tree) → begins_with q p ≡ false → is_node w ≡ true → replace_at p w t ≡ Some u → head_at q u ≡ head_at q t
 
@@ -43,7 +44,8 @@ RootKept = (i : ℕ) (p : Path) (w t u : Tree) → replace_at (i ∷ p) w t ≡ 
 abbrev pub StillLeads : Type 0
 StillLeads = (p q : Path) (w t u : Tree) → begins_with q p ≡ false → is_node w ≡ true → replace_at p w t ≡ Some u → is_some (node_at q u) ≡ is_some (node_at q t)
 
--- one path after another: the part is replaced in the node that the first leads to, and that in the whole
+-- one path after another: the part is replaced in the node that the first leads to, and that in the
+-- whole
 abbrev pub PutFurther : Type 0
 PutFurther = (p q : Path) (w t : Tree) → replace_at (p ++ q) w t ≡ option_and_then (λ c. option_and_then (λ d. replace_at p d t) (replace_at q w c)) (node_at p t)
 

@@ -103,8 +103,9 @@ is_of_primitives binary.LessEqualThan = true
 is_of_primitives binary.GreaterEqualThan = true
 is_of_primitives o = false
 
--- ECMA-262, "ApplyStringOrNumericBinaryOperator" and "IsLessThan": the left side is made primitive and then the right one,
--- or, of any operator but `+` and those that compare, the left one a number and then the right one
+-- ECMA-262, "ApplyStringOrNumericBinaryOperator" and "IsLessThan": the left side is made primitive
+-- and then the right one, or, of any operator but `+` and those that compare, the left one a number
+-- and then the right one
 abbrev pub operate : {σ : ℕ → Demand} → BinaryOperator → Value → Value → Command σ Value
 operate o a b =
     choose (is_of_primitives o) (bind (primitive (hint_of o) a) (λ x. bind (primitive (hint_of o) b) (λ y. of_made (of_primitives o x y))))

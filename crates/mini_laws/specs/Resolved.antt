@@ -16,7 +16,8 @@ use Rattle.mini_laws.specs.Symbols.{is_same}
 abbrev pub Environment : Type 0
 Environment = List Binding
 
--- a `var` declares its name in the nearest function or program; every other use finds it in any scope
+-- a `var` declares its name in the nearest function or program; every other use finds it in any
+-- scope
 abbrev pub serves : Use → Binding → Bool
 serves Hoisted b = b.hoists
 serves Headed b = b.hoists
@@ -42,8 +43,8 @@ with_symbol u env x = record { spelling = x.spelling; symbol = symbol_of u x.spe
 
 -- ---- what a `var` writes
 
--- whether a declarator that is used like this gives its name a value: a `var` with an initializer does, and one in the head of a
--- `for..in` or `for..of`
+-- whether a declarator that is used like this gives its name a value: a `var` with an initializer
+-- does, and one in the head of a `for..in` or `for..of`
 abbrev pub gives_value : Use → Bool → Bool
 gives_value Headed has_no_init = true
 gives_value Hoisted has_no_init = not has_no_init
@@ -54,9 +55,9 @@ abbrev pub plain_name : Tree → List Name
 plain_name (node shape.BindingIdentifier xs n ts) = xs
 plain_name t = []
 
--- A `var` writes the innermost variable of its name (ECMA-262, "Variable Statement", Evaluation: ResolveBinding), which under a
--- parameter of `catch` is that ("VariableStatements in Catch Clauses"). The name of that variable, where it is another than the
--- one that is declared
+-- A `var` writes the innermost variable of its name (ECMA-262, "Variable Statement", Evaluation:
+-- ResolveBinding), which under a parameter of `catch` is that ("VariableStatements in Catch
+-- Clauses"). The name of that variable, where it is another than the one that is declared
 abbrev pub other_name : Use → Environment → List Name → List Name
 other_name u env [] = []
 other_name u env (x ∷ xs) = if is_same (symbol_of Read x.spelling env) (symbol_of u x.spelling env) then [] else with_symbol Read env x ∷ []

@@ -1,5 +1,6 @@
--- Rewriting keeps what a tree means. What may be made of which tree at a place is a relation, and each law holds of every
--- relation whose instances mean the same where they stand and are read alike by a parent.
+-- Rewriting keeps what a tree means. What may be made of which tree at a place is a relation, and
+-- each law holds of every relation whose instances mean the same where they stand and are read
+-- alike by a parent.
 use Rattle.std.specs.Prelude.{◌≡◌}
 use Rattle.mini_model.specs.Tree.{Tree}
 use Rattle.mini_model.specs.declared.place.Position.{Position}

@@ -1,5 +1,6 @@
--- When two trees mean the same where this is asked of them: on the events, the answers and turns that are left, the
--- reply or the end, and all variables but those that are dead, from each state in which some variables are initialised.
+-- When two trees mean the same where this is asked of them: on the events, the answers and turns
+-- that are left, the reply or the end, and all variables but those that are dead, from each state
+-- in which some variables are initialised.
 use Rattle.std.specs.Prelude.{◌≡◌, Bool, true, false}
 use Rattle.mini_model.specs.Tree.{Tree}
 use Rattle.mini_laws.specs.Value.{Variable, VariableSet, Slot, Holds, Missing, Uninitialised}
@@ -14,8 +15,8 @@ abbrev pub Weak : Bool → Type 0
 Weak true = Unit {0}
 Weak false = ⊥
 
--- completions that go together: a relation after a reply, after an abrupt end, and where a run is cut off. Where the
--- first is outside the model, a weak one lets the second be anything
+-- completions that go together: a relation after a reply, after an abrupt end, and where a run is
+-- cut off. Where the first is outside the model, a weak one lets the second be anything
 unfoldable pub Goes : {A : Type 0} → Bool → (A → Relation) → Relation → Relation → Completion A → Completion A → Type 0
 Goes w N S H (ok a s) (ok b t) = (a ≡ b) × N a s t
 Goes w N S H (stop e s) (stop f t) = (e ≡ f) × S s t

@@ -84,7 +84,8 @@ template s a t = two shape.TemplateLiteral (listed (leaf (shape.TemplateElement 
 abbrev pub function : Bool → ℕ → Tree → Tree
 function is_declaration n name = numbered n (shape.Function is_declaration false []) (name ▸ listed none ▸ one shape.FunctionBody (listed none) ▸ none)
 
--- a class with this number, this name or none, these members, and the name that it holds once more or none
+-- a class with this number, this name or none, these members, and the name that it holds once more
+-- or none
 abbrev pub class_of : Bool → ℕ → Tree → Trees → Tree → Tree
 class_of is_declaration n name members again = numbered n (shape.Class is_declaration) (name ▸ absent ▸ one shape.ClassBody (listed members) ▸ again ▸ none)
 
@@ -114,8 +115,8 @@ for_loop init test next body = node shape.ForStatement [] 0 (init ▸ test ▸ n
 
 -- Runs
 
--- f, g and h are functions, o an object, and a is undefined; the symbols 0 to 4 are undefined, and the others have no
--- value yet
+-- f, g and h are functions, o an object, and a is undefined; the symbols 0 to 4 are undefined, and
+-- the others have no value yet
 abbrev pub known_global : Variable → Slot
 known_global x =
     choose (variable_eq x (Global (codes "f"))) (Holds (Object 4 true)) (choose (variable_eq x (Global (codes "g"))) (Holds (Object 5 true)) (choose (variable_eq x (Global (codes "h"))) (Holds (Object 6 true)) (choose (variable_eq x (Global (codes "o"))) (Holds (Object 7 false)) (choose (variable_eq x (Global (codes "a"))) (Holds Undefined)

@@ -1,5 +1,6 @@
--- The scopes of a program, in the order in which they are entered (ECMA-262, "Environment Records"): what they declare,
--- whether their code is strict, and whether a direct eval stands in them.
+-- The scopes of a program, in the order in which they are entered (ECMA-262, "Environment
+-- Records"): what they declare, whether their code is strict, and whether a direct eval stands in
+-- them.
 use Rattle.std.specs.Prelude.{ℕ, zero, suc, Bool, false, ◌||◌, List, [], ◌∷◌, ◌++◌, map, codes, Some, if◌then◌else◌}
 use Rattle.mini_model.specs.declared.name.Name.{Name}
 use Rattle.mini_model.specs.declared.shape.Shape.{Shape}
@@ -13,7 +14,8 @@ use Rattle.mini_laws.specs.Scopes.{use_of, opened}
 use Rattle.mini_laws.specs.Mentions.{is_among}
 use Rattle.mini_laws.specs.Strict.{is_strict_in}
 
--- a scope: its names, whether its code is strict, and whether a direct eval stands in it, nested functions included
+-- a scope: its names, whether its code is strict, and whether a direct eval stands in it, nested
+-- functions included
 pub record Scope : Type 0 where
   pub names : List Name
   pub strict : Bool
@@ -45,8 +47,9 @@ unfoldable mutual
   any_has_eval none = false
   any_has_eval (t ▸ ts) = has_eval t || any_has_eval ts
 
--- how many scopes a node opens before its child at an index even where they declare no name: that of a program, and those
--- of a function's parameters and of its body; a static block is a function without parameters
+-- how many scopes a node opens before its child at an index even where they declare no name: that
+-- of a program, and those of a function's parameters and of its body; a static block is a function
+-- without parameters
 abbrev pub least_scopes : Shape → ℕ → ℕ
 least_scopes (shape.Program is_module ds) zero = 1
 least_scopes shape.StaticBlock zero = 2
@@ -86,8 +89,9 @@ unfoldable mutual
 abbrev pub scopes_of : Tree → List Scope
 scopes_of t = scope_list Read false t
 
--- the scope that declares a symbol: the last of which it is a name, or the first of all. Symbols are told apart by their numbers
--- alone, so this is also the scope of a symbol in a program that was rewritten, where symbols keep their numbers
+-- the scope that declares a symbol: the last of which it is a name, or the first of all. Symbols
+-- are told apart by their numbers alone, so this is also the scope of a symbol in a program that
+-- was rewritten, where symbols keep their numbers
 abbrev pub by_symbol : ℕ → Name
 by_symbol s = record { spelling = []; symbol = Some (record { 0 = s }) }
 

@@ -21,14 +21,14 @@ AreNames [] (y ∷ ys) = ⊥
 AreNames (x ∷ xs) [] = ⊥
 AreNames (x ∷ xs) (y ∷ ys) = (x ≡ y) × AreNames xs ys
 
--- the names that stand in a node: a declarator has that of the variable that it writes, where it is another than the one that is
--- declared, and no other
+-- the names that stand in a node: a declarator has that of the variable that it writes, where it is
+-- another than the one that is declared, and no other
 abbrev pub OwnScoped : Use → Environment → Shape → List Name → Trees → Type 0
 OwnScoped u env shape.VariableDeclarator xs ts = AreNames xs (written_name u env ts)
 OwnScoped u env h xs ts = NamesScoped u env xs
 
--- a tree all of whose names have the symbols that the scopes around them give: those around the tree, and those that its
--- nodes open, with the symbols that the declared names carry
+-- a tree all of whose names have the symbols that the scopes around them give: those around the
+-- tree, and those that its nodes open, with the symbols that the declared names carry
 unfoldable mutual
   pub Scoped : Use → Environment → Tree → Type 0
   Scoped u env (node h xs n ts) = OwnScoped u env h xs ts × AllScoped (opened u h ts) (use_of h u) 0 env ts

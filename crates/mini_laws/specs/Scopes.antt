@@ -19,7 +19,8 @@ abbrev pub hoisted_by : Use → Use
 hoisted_by Write = Headed
 hoisted_by u = Hoisted
 
--- how a part of an `if` or a loop, an operand or a part of a declaration uses names; every other part reads
+-- how a part of an `if` or a loop, an operand or a part of a declaration uses names; every other
+-- part reads
 abbrev pub use_of : Shape → Use → ℕ → Use
 -- what stands for its parts
 use_of shape.Listed u i = u
@@ -58,18 +59,21 @@ abbrev pub is_alone : Use → Bool
 is_alone Alone = true
 is_alone _ = false
 
--- a scope of lexical names, and one of a program or a function, which has none of the names given with it
+-- a scope of lexical names, and one of a program or a function, which has none of the names given
+-- with it
 abbrev pub lexical_scope : List Name → List Binding
 lexical_scope xs = map (λ x. record { name = x; hoists = false }) (with_names [] xs)
 
 abbrev pub body_scope : List Name → List Name → List Binding
 body_scope params xs = map (λ x. record { name = x; hoists = true }) (drop (length params) (with_names params xs))
 
--- the names of parameters that are those of the body too: of all, where no default and no bracketed key stands among them
+-- the names of parameters that are those of the body too: of all, where no default and no bracketed
+-- key stands among them
 abbrev pub merged : Tree → List Name
 merged params = if has_inner params then [] else bound_names params
 
--- which scopes a node opens: a declaration has its name in the scope around, but where it stands alone
+-- which scopes a node opens: a declaration has its name in the scope around, but where it stands
+-- alone
 abbrev pub variable_opening : Use → VariableDeclarationKind → Opening
 variable_opening u Var = opening.Nothing
 variable_opening u k = if is_alone u then opening.Bound else opening.Nothing
@@ -92,8 +96,8 @@ opening_of u h = opening.Nothing
 abbrev pub name_if : Bool → Tree → List Name
 name_if b id = if b then bound_names id else []
 
--- the scopes, the first of them before the first child, the second before the second, the third before the third; each
--- holds for all children from there on
+-- the scopes, the first of them before the first child, the second before the second, the third
+-- before the third; each holds for all children from there on
 unfoldable pub scopes_by : Opening → Trees → List (List Binding)
 scopes_by opening.Body (body ▸ ts) = body_scope [] (body_names body) ∷ []
 scopes_by (opening.Function own) (id ▸ params ▸ body ▸ ts) = lexical_scope (name_if own id) ∷ body_scope [] (bound_names params) ∷ body_scope (merged params) (body_names body) ∷ []

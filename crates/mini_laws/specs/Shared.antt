@@ -23,8 +23,8 @@ abbrev pub script_tops : Tree → List Name
 script_tops (node (shape.Program false ds) xs n ts) = names_in (opened Read (shape.Program false ds) ts 0)
 script_tops t = []
 
--- what a module imports and exports (ECMA-262, "ImportEntries", "ExportEntries"): of an `export` what it declares, and the
--- names of its specifiers
+-- what a module imports and exports (ECMA-262, "ImportEntries", "ExportEntries"): of an `export`
+-- what it declares, and the names of its specifiers
 abbrev pub module_names_by : Shape → List Name → List Name → List Name → List Name → List Name
 module_names_by shape.Listed own lexical hoisted below = below
 module_names_by (shape.Program is_module ds) own lexical hoisted below = below
@@ -43,8 +43,9 @@ unfoldable mutual
   all_module_names none = []
   all_module_names (t ▸ ts) = module_names t ++ all_module_names ts
 
--- whether a function's own `arguments` is named in a part of it, whatever the name is then: arrows included, and other
--- functions, static blocks and the values of fields not (ECMA-262, "ContainsArguments")
+-- whether a function's own `arguments` is named in a part of it, whatever the name is then: arrows
+-- included, and other functions, static blocks and the values of fields not (ECMA-262,
+-- "ContainsArguments")
 abbrev pub is_arguments : List Name → Bool
 is_arguments [] = false
 is_arguments (x ∷ xs) = same_text x.spelling (codes "arguments")
@@ -82,8 +83,8 @@ unfoldable mutual
   all_reached_by_arguments strict none = []
   all_reached_by_arguments strict (t ▸ ts) = reached_by_arguments strict t ++ all_reached_by_arguments strict ts
 
--- the `var`s of which a declarator stands under a parameter of `catch` of their name (ECMA-262, "VariableStatements in Catch
--- Clauses")
+-- the `var`s of which a declarator stands under a parameter of `catch` of their name (ECMA-262,
+-- "VariableStatements in Catch Clauses")
 abbrev pub spelled_among : List Name → List Name → List Name
 spelled_among xs [] = []
 spelled_among xs (y ∷ ys) = if is_spelled y.spelling xs then y ∷ spelled_among xs ys else spelled_among xs ys
@@ -102,8 +103,8 @@ unfoldable mutual
 
 -- ---- what a `var` writes
 
--- A `var` gives a value where it has an initializer, and in the head of a `for..in` or `for..of`. A declarator that has a name of
--- its own writes that one, and every other the names that it declares
+-- A `var` gives a value where it has an initializer, and in the head of a `for..in` or `for..of`. A
+-- declarator that has a name of its own writes that one, and every other the names that it declares
 abbrev pub written_by : List Name → Tree → List Name
 written_by [] id = bound_names id
 written_by (x ∷ xs) id = x ∷ xs
@@ -126,9 +127,10 @@ unfoldable mutual
 abbrev pub program_var_writes : Tree → List Mention
 program_var_writes t = var_writes Read outermost t
 
--- A declarator of a pattern has no name of its own, and the names in the pattern are those of the `var`s. Each value goes to the
--- innermost variable of its name, which under a parameter of `catch` is that (ECMA-262, "Runtime Semantics: BindingInitialization"
--- without an environment: ResolveBinding; "VariableStatements in Catch Clauses")
+-- A declarator of a pattern has no name of its own, and the names in the pattern are those of the
+-- `var`s. Each value goes to the innermost variable of its name, which under a parameter of `catch`
+-- is that (ECMA-262, "Runtime Semantics: BindingInitialization" without an environment:
+-- ResolveBinding; "VariableStatements in Catch Clauses")
 abbrev pub is_pattern : Shape → Bool
 is_pattern shape.ObjectPattern = true
 is_pattern shape.ArrayPattern = true
@@ -158,6 +160,7 @@ program_pattern_writes t = pattern_writes Read [] t
 abbrev pub is_shared_always : Tree → Name → Bool
 is_shared_always t x = is_none x.symbol || is_among x (script_tops t) || is_among x (module_names t) || is_among x (seen_by_eval t) || is_among x (reached_by_arguments false t) || is_among x (caught t) || is_among x (program_pattern_writes t)
 
--- whether a body shares a variable: it is shared always, or another body or a carried node mentions it
+-- whether a body shares a variable: it is shared always, or another body or a carried node mentions
+-- it
 abbrev pub is_shared : Tree → ℕ → Name → Bool
 is_shared t b x = is_variable x && (is_shared_always t x || list_any (λ m. same_variable x m.name && is_elsewhere b m.around) (program_mentions t))

@@ -38,8 +38,8 @@ abbrev mutual
   hidden_all none = []
   hidden_all (t ▸ ts) = hidden t ++ hidden_all ts
 
--- those that a node leaves initialised where it ends normally, of those that it declares: a statement in no tail, and
--- what is lexical
+-- those that a node leaves initialised where it ends normally, of those that it declares: a
+-- statement in no tail, and what is lexical
 abbrev pub kept : Demand → List Variable → List Variable
 kept (Stat None) xs = xs
 kept (Declares true) xs = xs
@@ -53,7 +53,8 @@ lets_at none i = []
 lets_at (t ▸ ts) zero = (summary t).lets
 lets_at (t ▸ ts) (suc i) = lets_at ts i
 
--- in a list of statements: from S, at each child also what those before it declare, where no scope in the list hides it
+-- in a list of statements: from S, at each child also what those before it declare, where no scope
+-- in the list hides it
 abbrev pub along : List Variable → VariableSet → Trees → ℕ → VariableSet
 along H S none i = S
 along H S (t ▸ ts) zero = S
@@ -96,8 +97,9 @@ gain names (bind_names v) k = plus k names.bound
 gain names hide k = minus k names.scope
 gain names o k = k
 
--- what the variables known along a command rest on: the node's naming, those that each child needs and those that it
--- gives where it ends normally, those of the scopes in the children, and those that an abrupt end has to keep
+-- what the variables known along a command rest on: the node's naming, those that each child needs
+-- and those that it gives where it ends normally, those of the scopes in the children, and those
+-- that an abrupt end has to keep
 pub record Flow : Type 0 where
   pub names : Naming
   pub need : ℕ → VariableSet
@@ -131,8 +133,8 @@ pub record Sound (u : Rules) : Type 0 where
 abbrev pub Both : Relation → VariableSet → Relation
 Both A k s t = A s t × Initialised k s
 
--- two trees that go together in a demand: from related states in which at least X, and no variable of a scope in the
--- tree, are known to be initialised, and with what is known after
+-- two trees that go together in a demand: from related states in which at least X, and no variable
+-- of a scope in the tree, are known to be initialised, and with what is known after
 unfoldable pub TreesGo : Rules → VariableSet → Demand → Tree → Tree → Type 0
 TreesGo u X q n w =
     (r : Request q) (l : VariableSet) → Within X l → Off (hidden n) l → (s t : State) → Both u.A l s t → Goes u.weak (λ a. Both u.A (minus (plus l (kept q (summary n).lets)) (hidden n))) (Both u.A l) u.A (means u.left n q r s) (means u.right w q r t)
@@ -165,8 +167,8 @@ abbrev mutual
   rights no_pairs = none
   rights (pairs p ps) = right_of p ▸ rights ps
 
--- what is asked of a pair: namings that go together, names of the same kinds, children that a parent reads alike, and
--- trees in holes that go together
+-- what is asked of a pair: namings that go together, names of the same kinds, children that a
+-- parent reads alike, and trees in holes that go together
 unfoldable mutual
   pub PairGoes : Rules → VariableSet → Demand → Pair → Type 0
   PairGoes u X q (both h xs ys m n ps) =

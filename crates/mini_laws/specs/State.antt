@@ -8,7 +8,8 @@ pub data Hint : Type 0 where
   ForNumber : Hint
   ForString : Hint
 
--- what the world answers to a carried node: anything, a boolean, an object, or in a chain also its end
+-- what the world answers to a carried node: anything, a boolean, an object, or in a chain also its
+-- end
 pub data Carries : Type 0 where
   Anything : Carries
   ABoolean : Carries
@@ -20,9 +21,10 @@ pub data ErrorKind : Type 0 where
   TypeError : ErrorKind
   ReferenceError : ErrorKind
 
--- what is asked of the world around the program. `Fresh` alone takes no answer: it comes before a shared lexical name is
--- initialised, and at each copy of one for a turn of a loop. `PlaceOf` is of a private or a `super` member that is called
--- or assigned to, and of a `super` member that is deleted: its parts are evaluated, and the answer is its object
+-- what is asked of the world around the program. `Fresh` alone takes no answer: it comes before a
+-- shared lexical name is initialised, and at each copy of one for a turn of a loop. `PlaceOf` is of
+-- a private or a `super` member that is called or assigned to, and of a `super` member that is
+-- deleted: its parts are evaluated, and the answer is its object
 pub data Label : Type 0 where
   GetOf : Label
   SetOf : Label
@@ -51,8 +53,8 @@ pub data Label : Type 0 where
   DebuggerOf : Label
   ExportDefaultOf : Label
 
--- an operand of an event, or an entry of a list or of an object. `Converted` is a key that was an object and that the read
--- before has made a property key
+-- an operand of an event, or an entry of a list or of an object. `Converted` is a key that was an
+-- object and that the read before has made a property key
 pub data Entry : Type 0 where
   Item : Value → Entry
   Converted : Value → Entry
@@ -63,8 +65,8 @@ pub data Entry : Type 0 where
   Getter : Value → Value → Entry
   Setter : Value → Value → Entry
 
--- what a run asks of the world: a label, the number of the node if it has one, its operands, the variable of a Fresh, and
--- the shared variables at that moment
+-- what a run asks of the world: a label, the number of the node if it has one, its operands, the
+-- variable of a Fresh, and the shared variables at that moment
 pub record Event : Type 0 where
   pub label : Label
   pub number : Option ℕ
@@ -89,7 +91,8 @@ pub record Answer : Type 0 where
   pub news : Variable → Option Value
   pub binds : Variable → Value
 
--- the variables, `this`, the answers and the turns of loops that are left, and the events so far, the last one first
+-- the variables, `this`, the answers and the turns of loops that are left, and the events so far,
+-- the last one first
 pub record State : Type 0 where
   pub vars : Variable → Slot
   pub self : Value
@@ -97,8 +100,8 @@ pub record State : Type 0 where
   pub turns : ℕ
   pub events : List Event
 
--- an abrupt end (ECMA-262, "The Completion Record Specification Type"): `break` and `continue` with the label's text,
--- and the end of an optional chain whose base is undefined or null
+-- an abrupt end (ECMA-262, "The Completion Record Specification Type"): `break` and `continue` with
+-- the label's text, and the end of an optional chain whose base is undefined or null
 pub data Stop : Type 0 where
   Thrown : Value → Stop
   Returned : Value → Stop
@@ -136,16 +139,18 @@ pub data Fixed : Type 0 where
   Constant : Fixed
   KeepsOld : Fixed
 
--- what a write of a variable does (ECMA-262, "PutValue"): it writes, and adds the name where that is absent; it writes a name
--- that is there, and raises a ReferenceError where it is absent; it raises a TypeError; or it keeps the old value
+-- what a write of a variable does (ECMA-262, "PutValue"): it writes, and adds the name where that
+-- is absent; it writes a name that is there, and raises a ReferenceError where it is absent; it
+-- raises a TypeError; or it keeps the old value
 pub data Writing : Type 0 where
   Writes : Writing
   WritesPresent : Writing
   Refuses : Writing
   Keeps : Writing
 
--- what a run rests on besides the text: the variables that an event shows, those that an answer may change, what a write
--- of each does, and whether `this` is asked of the world, as in a constructor of a class with a superclass
+-- what a run rests on besides the text: the variables that an event shows, those that an answer may
+-- change, what a write of each does, and whether `this` is asked of the world, as in a constructor
+-- of a class with a superclass
 pub record Environment : Type 0 where
   pub shared : VariableSet
   pub foreign : VariableSet

@@ -15,19 +15,21 @@ use Rattle.mini_laws.specs.Replies.{as_ended, merged}
 abbrev pub scoped : {σ : ℕ → Demand} {A : Type 0} → Command σ A → Command σ A
 scoped c = op hide (then (λ u. attempt c (λ e. op hide (then (λ u. as_ended e)))))
 
--- ECMA-262, "InstantiateFunctionObject", and "Exports" of a function, which is exported where it is created
+-- ECMA-262, "InstantiateFunctionObject", and "Exports" of a function, which is exported where it is
+-- created
 abbrev pub create_function : {σ : ℕ → Demand} → Bool → FunctionFact → ℕ → Command σ (Unit {0})
 create_function is_lexical Named i = op (event Create (OfFunction i) []) (then (λ v. op (init_function is_lexical i v) (then ret)))
 create_function is_lexical NamedDefault i = op (event Create (OfFunction i) []) (then (λ v. op (init_function is_lexical i v) (then (λ u. bind (emit ExportDefaultOf (Item v ∷ [])) (λ w. ret tt)))))
 create_function is_lexical BareDefault i = op (event Create (OfFunction i) []) (then (λ v. bind (emit ExportDefaultOf (Item v ∷ [])) (λ w. ret tt)))
 
--- ECMA-262, "BlockDeclarationInstantiation", "FunctionDeclarationInstantiation": the functions, in order, from this one on
+-- ECMA-262, "BlockDeclarationInstantiation", "FunctionDeclarationInstantiation": the functions, in
+-- order, from this one on
 abbrev pub create_functions : {σ : ℕ → Demand} → Bool → List FunctionFact → ℕ → Command σ (Unit {0})
 create_functions is_lexical [] i = ret tt
 create_functions is_lexical (f ∷ fs) i = bind (create_function is_lexical f i) (λ u. create_functions is_lexical fs (suc i))
 
--- ECMA-262, "GlobalDeclarationInstantiation", "FunctionDeclarationInstantiation": the lexical names are uninitialised, the
--- functions are created, and the statements are run
+-- ECMA-262, "GlobalDeclarationInstantiation", "FunctionDeclarationInstantiation": the lexical names
+-- are uninitialised, the functions are created, and the statements are run
 abbrev pub body_step : Bool → (t : Option Tail) → List Facts → Command (λ i. Stat t) (Unit {0})
 body_step has_lexical_functions t fs = op hide (then (λ u. bind (create_functions has_lexical_functions (function_facts fs) 0) (λ u. kid 0 [] (then ret))))
 

@@ -17,7 +17,8 @@ use Rattle.mini_laws.specs.Statements.{body_step, block_in, if_in, switch_step, 
 use Rattle.mini_laws.specs.Loops.{while_step, do_step, for_step, for_in_step, for_of_step}
 use Rattle.mini_laws.specs.Declarations.{binding_name, binding_pattern, declaration_step, declarator_step, class_declaration, default_step}
 
--- an absent part: a value that isn't there is undefined, an element a hole, and a handler lets the throw go on
+-- an absent part: a value that isn't there is undefined, an element a hole, and a handler lets the
+-- throw go on
 abbrev pub absent_step : {σ : ℕ → Demand} (q : Demand) (r : Request q) → Command σ (Reply q r)
 absent_step (As w) r = ret (says w Undefined)
 absent_step AnEntry r = ret Hole
@@ -112,7 +113,8 @@ step (shape.MetaProperty k) ks fs q r = carried Anything q r
 step shape.ImportExpression ks fs q r = carried Anything q r
 step shape.ObjectAssignmentTarget ks fs q r = pattern_target q r
 step shape.ArrayAssignmentTarget ks fs q r = pattern_target q r
--- functions and classes that are values (ECMA-262, "InstantiateOrdinaryFunctionExpression", "ClassDefinitionEvaluation")
+-- functions and classes that are values (ECMA-262, "InstantiateOrdinaryFunctionExpression",
+-- "ClassDefinitionEvaluation")
 step (shape.Function false is_generator directives) ks fs q r = valued q r (emit_mine Create [])
 step (shape.ArrowFunctionExpression directives) ks fs q r = valued q r (emit_mine Create [])
 step (shape.Class false) ks fs q r = carried AnObject q r

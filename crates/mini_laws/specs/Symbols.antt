@@ -39,7 +39,8 @@ unfoldable mutual
   all_mapped f none = none
   all_mapped f (t ▸ ts) = mapped f t ▸ all_mapped f ts
 
--- a tree as it is written, without symbols, and without what a declarator's name tells of the scopes around
+-- a tree as it is written, without symbols, and without what a declarator's name tells of the
+-- scopes around
 abbrev pub no_symbol : Option SymbolId → Option SymbolId
 no_symbol s = None
 

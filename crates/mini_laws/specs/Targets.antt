@@ -65,7 +65,8 @@ put_carried v = op (event BindOf Mine (Item v ∷ [])) (then (λ u. ret tt))
 abbrev pub called_with : {σ : ℕ → Demand} → Value → Value → Command σ Called
 called_with this v = ret (record { value = v; this_value = this; direct = false })
 
--- as a target: its parts are evaluated first (ECMA-262, "Assignment Operators"), and it is written last
+-- as a target: its parts are evaluated first (ECMA-262, "Assignment Operators"), and it is written
+-- last
 abbrev pub carried_target : {σ : ℕ → Demand} → Carries → (q : Demand) (r : Request q) → Command σ (Reply q r)
 carried_target what Deleted r = ret ACarried
 carried_target what Target Prepare = bind (emit_mine (PlaceOf Anything) []) (λ v. ret ACarried)
@@ -78,11 +79,13 @@ abbrev pub private_member : {σ : ℕ → Demand} → Carries → (q : Demand) (
 private_member what Callee r = bind (emit_mine (PlaceOf what) []) (λ this. bind (emit_mine (NodeOf Anything) []) (called_with this))
 private_member what q r = carried_target what q r
 
--- ECMA-262, "The delete Operator": of a `super` member it raises, once the parts of that are evaluated
+-- ECMA-262, "The delete Operator": of a `super` member it raises, once the parts of that are
+-- evaluated
 abbrev pub deleted_super : {σ : ℕ → Demand} → Command σ Reference
 deleted_super = bind (emit_mine (PlaceOf Anything) []) (λ v. raise_reference)
 
--- a `super` member: where it is called, the `this` of the code around is (ECMA-262, "The super Keyword")
+-- a `super` member: where it is called, the `this` of the code around is (ECMA-262, "The super
+-- Keyword")
 abbrev pub super_member : {σ : ℕ → Demand} → (q : Demand) (r : Request q) → Command σ (Reply q r)
 super_member Callee r = op self (then (λ this. bind (emit_mine (NodeOf Anything) []) (called_with this)))
 super_member Deleted r = deleted_super
@@ -135,13 +138,14 @@ AssignDemand = first_demand Target (As Val)
 abbrev pub put_target : Reference → Value → Command AssignDemand Value
 put_target reference v = kid 0 (Put reference v) (then (λ u. ret v))
 
--- a member that was read has a property key since then (ECMA-262, "GetValue"), so that its key is converted once
+-- a member that was read has a property key since then (ECMA-262, "GetValue"), so that its key is
+-- converted once
 abbrev pub after_read : Reference → Reference
 after_read (AMember object key) = AFetched object key
 after_read reference = reference
 
--- ECMA-262, "Assignment Operators": the target, its value if the operator reads it, the right side, and the write. A
--- logical one may leave out the two last
+-- ECMA-262, "Assignment Operators": the target, its value if the operator reads it, the right side,
+-- and the write. A logical one may leave out the two last
 abbrev pub assign_by : AssignmentKind → Reference → Command AssignDemand Value
 assign_by Plainly reference = kid 1 tt (then (put_target reference))
 assign_by (Computing o) reference = kid 0 (Fetch reference) (then (λ a. kid 1 tt (then (λ b. bind (operate o a b) (put_target (after_read reference))))))

@@ -10,8 +10,8 @@ abbrev pub is_open : Fixed → Bool
 is_open Writable = true
 is_open f = false
 
--- the variables with a symbol that no declaration of a tree forbids to write; what a write of an unresolved name does,
--- the state says
+-- the variables with a symbol that no declaration of a tree forbids to write; what a write of an
+-- unresolved name does, the state says
 abbrev pub writable_by : Tree → VariableSet
 writable_by t (Declared k) = is_open (fixed_by t (Declared k))
 writable_by t (Global s) = false

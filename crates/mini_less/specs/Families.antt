@@ -1,4 +1,5 @@
--- Families of which each row asks less, so that Shared and Foreign only shrink by any number of their steps.
+-- Families of which each row asks less, so that Shared and Foreign only shrink by any number of
+-- their steps.
 use Rattle.std.specs.Prelude.{ℕ, ◌≡◌, ◌⊎◌, Bool, true, false, []}
 use Rattle.mini_model.specs.declared.place.Position.TheVariants.{Elsewhere, Expr, Stmt}
 use Rattle.mini_model.specs.declared.seat.Seat.{Seat}
@@ -53,8 +54,8 @@ TurnsShrink =
     Lawful TurnContracts → (t u : Tree) → Reaches TurnContracts Elsewhere t u → IsWellShaped t → Scoped Read [] t → Distinct (declared_symbols t)
     → (f : Fact) (b s : ℕ) → undeclared u (Declared s) ≡ false → AtMost (pace (question f b s) at_program [] u) (pace (question f b s) at_program [] t)
 
--- what is written for a node holds a direct eval, names `arguments` and has a number only where the node does, and where it is called it becomes the name
--- `eval` only if it was
+-- what is written for a node holds a direct eval, names `arguments` and has a number only where the
+-- node does, and where it is called it becomes the name `eval` only if it was
 pub record FewerAt (p : Position) (n w : Tree) : Type 0 where
   pub eval : has_eval w ≡ true → has_eval n ≡ true
   pub flags : FlagsLess n w

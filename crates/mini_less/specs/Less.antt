@@ -1,4 +1,5 @@
--- An expression that is built anew of the parts of another holds nothing of which the other has nothing, whatever is asked of plain heads.
+-- An expression that is built anew of the parts of another holds nothing of which the other has
+-- nothing, whatever is asked of plain heads.
 use Rattle.std.specs.Prelude.{ℕ, ◌≡◌, Bool, true, false, List, [], ◌∷◌}
 use Rattle.mini_laws.specs.declared.names.Declared.TheVariants as declared
 use Rattle.mini_laws.specs.DeclaredNames.{names_of}
@@ -51,8 +52,9 @@ headed AWhile i = []
 headed ADo i = []
 headed f i = names_of declared.Lexical i
 
--- plain heads tell nothing, what an unscoped statement tells doesn't depend on where it stands as one, and a name that is updated tells no more than
--- one that is assigned to and one that is read; whether a property is a method or an accessor isn't asked; and of a loop no more than whether a
+-- plain heads tell nothing, what an unscoped statement tells doesn't depend on where it stands as
+-- one, and a name that is updated tells no more than one that is assigned to and one that is read;
+-- whether a property is a method or an accessor isn't asked; and of a loop no more than whether a
 -- direct eval stands under the names of its head
 pub record TellsPlainly (o : Own) : Type 0 where
   pub plain : (c : Setting) (env : Environment) (h : Head) (ts : Trees) → Plain h ts → o c env (shape_by h) [] 0 ts ≡ false

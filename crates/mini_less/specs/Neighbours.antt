@@ -1,4 +1,5 @@
--- Of neighbours in a list that are rewritten, only these are asked: what stands before and after them stays.
+-- Of neighbours in a list that are rewritten, only these are asked: what stands before and after
+-- them stays.
 use Rattle.std.specs.Prelude.{◌≡◌, Bool, true, false, ◌&&◌, []}
 use Rattle.mini_model.specs.declared.shape.Shape.TheVariants as shape
 use Rattle.mini_model.specs.Tree.{Trees, none, ◌▸◌, listed}

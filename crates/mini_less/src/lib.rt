@@ -1,4 +1,5 @@
-//! What each family of rewrites has to show for Shared and Foreign to shrink. Each function's contract is a law, and its body is empty.
+//! What each family of rewrites has to show for Shared and Foreign to shrink. Each function's
+//! contract is a law, and its body is empty.
 #![tactic(auto)]
 
 ghost use Rattle.mini_less.specs.Families.{ConstantsReadLess, SequencesReadLess, TemplatesReadLess, BooleansReadLess, NegationsReadLess, ChoicesReadLess, WritesReadLess, KeysReadLess, FoldingsReadLess, DeMorganReadsLess, WholeFamiliesReadLess, IfRowsLess, BodyRowsLess, BodyRowsOfThisLess, FirstRowsReadLess, OperandsReadLess, SpellingsReadLess, ReadsLessJoins, ReadsLessNarrows, ListRowsLess, MoreRowsLess, TurnsReadLess, TurnsShrink};
@@ -6,12 +7,14 @@ ghost use Rattle.mini_less.specs.Rebuilt.{ListsAskLess, StatementsAskLess};
 
 use mini_laws::Rewrites;
 
-/// A statement that is built anew of the same parts answers at most what that did, of every fact, and whatever their order.
+/// A statement that is built anew of the same parts answers at most what that did, of every fact,
+/// and whatever their order.
 pub fn statements_ask_less()
     ensures { StatementsAskLess }
 {}
 
-/// Neighbours in a list that are built anew of the parts of others, none of which is a mere part, answer at most what those did, of every fact.
+/// Neighbours in a list that are built anew of the parts of others, none of which is a mere part,
+/// answer at most what those did, of every fact.
 pub fn lists_ask_less()
     ensures { ListsAskLess }
 {}
@@ -68,7 +71,8 @@ pub fn templates_read_less()
     ensures { TemplatesReadLess }
 {}
 
-/// Rows of which only the truth is asked, and of conditionals one of whose branches is a boolean: 24 to 26, 47 and 48.
+/// Rows of which only the truth is asked, and of conditionals one of whose branches is a boolean:
+/// 24 to 26, 47 and 48.
 pub fn booleans_read_less()
     ensures { BooleansReadLess }
 {}

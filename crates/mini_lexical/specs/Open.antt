@@ -1,4 +1,5 @@
--- Each row reads what has neither a body nor a number, and what it writes is read alike, declares no name that what stood there didn't and no symbol more often, and is lighter.
+-- Each row reads what has neither a body nor a number, and what it writes is read alike, declares
+-- no name that what stood there didn't and no symbol more often, and is lighter.
 use Rattle.std.proofs.Common.{ap, inl, inr}
 use Rattle.mini_model.specs.declared.place.Position.TheVariants.{Stmt}
 use Rattle.mini_rows.specs.Steady.{LexicalRows}

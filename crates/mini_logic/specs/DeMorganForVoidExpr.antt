@@ -1,5 +1,6 @@
--- 50, `de_morgan_for_void_expr`: `!a && b;` becomes `a || b;`, and `!a || b;` `a && b;`, where that is lighter; and so of what a `for` begins
--- with or does after each turn, of the last part of a sequence that stands in one of these places, and of a part of any sequence but the last.
+-- 50, `de_morgan_for_void_expr`: `!a && b;` becomes `a || b;`, and `!a || b;` `a && b;`, where that
+-- is lighter; and so of what a `for` begins with or does after each turn, of the last part of a
+-- sequence that stands in one of these places, and of a part of any sequence but the last.
 use Rattle.std.specs.Prelude.{◌≡◌, ◌<◌, ◌^◌, ◌-◌, ℕ, Bool, false, not, ◌&&◌, ◌||◌, Option, Some, None, nat_lt, if◌then◌else◌}
 use Rattle.mini_model.specs.declared.operator.LogicalOperator.{LogicalOperator}
 use Rattle.mini_model.specs.declared.place.Position.{Position}

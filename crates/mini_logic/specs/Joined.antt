@@ -1,4 +1,5 @@
--- The rules one after another make what the rows contract, and where all have nothing to do nothing is to be rewritten.
+-- The rules one after another make what the rows contract, and where all have nothing to do nothing
+-- is to be rewritten.
 use Rattle.std.specs.Prelude.{◌⊎◌, ◌<◌, ◌^◌, ℕ}
 use Rattle.mini_model.specs.declared.place.Position.{Position}
 use Rattle.mini_model.specs.declared.place.Position.TheVariants.{Expr, Stmt}

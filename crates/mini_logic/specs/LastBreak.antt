@@ -1,5 +1,5 @@
--- 78 of a `do` that is run once, `remove_last_break`: `do { a(); break; } while (0);` becomes `do { a(); } while (0);`, and
--- `do break; while (0);` becomes `do ; while (0);`.
+-- 78 of a `do` that is run once, `remove_last_break`: `do { a(); break; } while (0);` becomes
+-- `do { a(); } while (0);`, and `do break; while (0);` becomes `do ; while (0);`.
 use Rattle.std.specs.Prelude.{Bool, true, false, not, ◌&&◌, ◌||◌, Option, Some, None, if◌then◌else◌}
 use Rattle.mini_model.specs.declared.shape.Shape.{Shape}
 use Rattle.mini_model.specs.declared.shape.Shape.TheVariants as shape

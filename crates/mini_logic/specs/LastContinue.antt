@@ -1,5 +1,5 @@
--- 78 of loops, `remove_last_continue`: `while (a) { b(); continue; }` becomes `while (a) { b(); }`, and `while (a) continue;`
--- becomes `while (a);`.
+-- 78 of loops, `remove_last_continue`: `while (a) { b(); continue; }` becomes `while (a) { b(); }`,
+-- and `while (a) continue;` becomes `while (a);`.
 use Rattle.std.specs.Prelude.{ℕ, Bool, true, false, ◌&&◌, ◌||◌, Option, Some, None, option_map, if◌then◌else◌}
 use Rattle.mini_model.specs.declared.shape.Shape.{Shape}
 use Rattle.mini_model.specs.declared.shape.Shape.TheVariants as shape

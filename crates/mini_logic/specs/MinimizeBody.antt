@@ -1,4 +1,5 @@
--- Branches and bodies of loops, `minimize_body`: 79, and where it does nothing 78 of loops, then of a `do` that is run once, and then 84.
+-- Branches and bodies of loops, `minimize_body`: 79, and where it does nothing 78 of loops, then of
+-- a `do` that is run once, and then 84.
 use Rattle.std.specs.Prelude.{◌<◌, Option, Some, None}
 use Rattle.mini_model.specs.declared.place.Position.{Position}
 use Rattle.mini_model.specs.declared.place.Position.TheVariants.{Stmt}

@@ -1,4 +1,5 @@
--- 40, `minimize_conditional_expression`: `!a ? b : c` becomes `a ? c : b`, and `a != b ? c : d` becomes `a == b ? d : c`.
+-- 40, `minimize_conditional_expression`: `!a ? b : c` becomes `a ? c : b`, and `a != b ? c : d`
+-- becomes `a == b ? d : c`.
 use Rattle.std.specs.Prelude.{◌⊎◌, ◌<◌, Bool, ◌&&◌, Option, Some, None, option_map, if◌then◌else◌}
 use Rattle.mini_model.specs.declared.operator.BinaryOperator.{BinaryOperator}
 use Rattle.mini_model.specs.declared.operator.BinaryOperator.TheVariants.{Equality, Inequality, StrictEquality, StrictInequality}

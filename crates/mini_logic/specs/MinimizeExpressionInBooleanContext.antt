@@ -1,6 +1,6 @@
--- 24, 25 and 26, `minimize_expression_in_boolean_context`, and 47 and 48: where only the truth is asked, `!0` becomes `1`, `a && 1`
--- becomes `a`, and `a ? 1 : b` becomes `a || b`; and where the value is, `a ? false : b` becomes `!a && b`, `a ? true : false` `!!a`, and
--- `a ? 0 : 1` `+!a`.
+-- 24, 25 and 26, `minimize_expression_in_boolean_context`, and 47 and 48: where only the truth is
+-- asked, `!0` becomes `1`, `a && 1` becomes `a`, and `a ? 1 : b` becomes `a || b`; and where the
+-- value is, `a ? false : b` becomes `!a && b`, `a ? true : false` `!!a`, and `a ? 0 : 1` `+!a`.
 use Rattle.std.specs.Prelude.{◌≡◌, ◌<◌, ◌^◌, ℤ, pos, zero, suc, Bool, true, false, not, ◌&&◌, ◌||◌, Option, Some, None, nat_lt, if◌then◌else◌}
 use Rattle.mini_model.specs.declared.operator.LogicalOperator.{LogicalOperator}
 use Rattle.mini_model.specs.declared.operator.UnaryOperator.TheVariants.{LogicalNot}
@@ -120,7 +120,8 @@ digit_truth _ = None
 abbrev pub counted_truth : Tree → Option Bool
 counted_truth t = opposite (digit_truth (number (part t 1))) (digit_truth (number (part t 2)))
 
--- the test as a boolean, or its negation, as far as 64 bits tell the lighter one, as the operand of `+`
+-- the test as a boolean, or its negation, as far as 64 bits tell the lighter one, as the operand of
+-- `+`
 abbrev pub as_boolean : Bool → Tree → Tree
 as_boolean true a = truth_of true a
 as_boolean false a = lighter_negation plus_seat a

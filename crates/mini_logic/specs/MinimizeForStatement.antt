@@ -1,4 +1,5 @@
--- 84, `minimize_for_statement`: `for (i; t; u) { if (x) break; s }` becomes `for (i; t && !x; u) { s }`.
+-- 84, `minimize_for_statement`: `for (i; t; u) { if (x) break; s }` becomes
+-- `for (i; t && !x; u) { s }`.
 use Rattle.std.specs.Prelude.{Bool, true, false, ◌&&◌, ◌||◌, Option, Some, None, [], if◌then◌else◌}
 use Rattle.mini_model.specs.declared.operator.LogicalOperator.TheVariants.{And}
 use Rattle.mini_model.specs.declared.shape.Shape.{Shape}

@@ -1,6 +1,7 @@
--- 82 and 83, `try_minimize_if`: `if (a) b; else c;` becomes `a ? b : c;`, `if (a) b;` becomes `a && b;`, and `if (!a) b;`
--- becomes `a || b;`, also where a sequence ends in the `!`; an empty consequent goes, `if (a) if (b) c;` becomes `if (a && b) c;`, an `if` with `else` as a
--- consequent gets a block, and `if (!a) return b; else throw c;` becomes `if (a) throw c; else return b;`.
+-- 82 and 83, `try_minimize_if`: `if (a) b; else c;` becomes `a ? b : c;`, `if (a) b;` becomes
+-- `a && b;`, and `if (!a) b;` becomes `a || b;`, also where a sequence ends in the `!`; an empty
+-- consequent goes, `if (a) if (b) c;` becomes `if (a && b) c;`, an `if` with `else` as a consequent
+-- gets a block, and `if (!a) return b; else throw c;` becomes `if (a) throw c; else return b;`.
 use Rattle.std.specs.Prelude.{◌⊎◌, ◌<◌, ◌^◌, ◌==◌, Bool, ◌&&◌, ◌||◌, not, nat_lt, Option, Some, None, if◌then◌else◌}
 use Rattle.mini_model.specs.declared.operator.LogicalOperator.TheVariants.{Or, And}
 use Rattle.mini_model.specs.declared.place.Position.{Position}

@@ -1,5 +1,5 @@
--- 23, of what is read inside the operand too, `minimize_negation`: `!(a && typeof x < "u")` becomes `!a || typeof x > "u"`, and
--- `!(a, b == c)` becomes `a, b != c`, where that is lighter.
+-- 23, of what is read inside the operand too, `minimize_negation`: `!(a && typeof x < "u")` becomes
+-- `!a || typeof x > "u"`, and `!(a, b == c)` becomes `a, b != c`, where that is lighter.
 use Rattle.std.specs.Prelude.{◌≡◌, ◌+◌, ◌<◌, ◌^◌, ℕ, zero, suc, Bool, ◌&&◌, ◌||◌, nat_lt, Option, Some, None, if◌then◌else◌}
 use Rattle.mini_model.specs.declared.operator.LogicalOperator.{LogicalOperator}
 use Rattle.mini_model.specs.declared.operator.LogicalOperator.TheVariants.{Or, And}

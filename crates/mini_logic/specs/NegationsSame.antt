@@ -6,7 +6,8 @@ use Rattle.mini_laws.specs.Rows.{SameAt}
 use Rattle.mini_logic.specs.Negating.{lighter_negation}
 use Rattle.mini_logic.specs.MinimizeNegation.{told_lightest}
 
--- the lighter one, as far as 64 bits tell it, means what `!` over the expression does, in every seat
+-- the lighter one, as far as 64 bits tell it, means what `!` over the expression does, in every
+-- seat
 abbrev pub LighterSame : Type 0
 LighterSame = (s : Seat) (a : Tree) → SameAt (Expr s) (negation a) (lighter_negation s a)
 

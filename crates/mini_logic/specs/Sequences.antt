@@ -1,5 +1,5 @@
--- `last_expression_in_sequence`, `pop_expression_from_sequence` and `has_negated_result`: the last expression of a sequence, which may end in
--- a sequence in turn.
+-- `last_expression_in_sequence`, `pop_expression_from_sequence` and `has_negated_result`: the last
+-- expression of a sequence, which may end in a sequence in turn.
 use Rattle.std.specs.Prelude.{◌≡◌, refl, ℕ, Bool, true, false, not, ◌&&◌, ◌==◌, Option, Some, None, if◌then◌else◌}
 use Rattle.mini_model.specs.Tree.{Tree, Trees, node, none, ◌▸◌, absent, empty_statement, children, count, negation}
 use Rattle.mini_model.specs.Terms.{has_negated_result}
@@ -8,7 +8,8 @@ use Rattle.mini_node.specs.Kinds.{sequence, is_sequence, is_negation}
 
 -- ---- the end
 
--- the last part of a sequence, however many sequences it ends in; an empty one, and any other expression, is its own end
+-- the last part of a sequence, however many sequences it ends in; an empty one, and any other
+-- expression, is its own end
 abbrev mutual
   pub end_of : Tree → Tree
   end_of (node h xs n ts) = if is_sequence (node h xs n ts) then end_below (node h xs n ts) ts else node h xs n ts

@@ -1,5 +1,5 @@
--- 79 of branches and bodies, `unwrap_block`: `if (a) { b(); } else { c(); }` becomes `if (a) b(); else c();`, a branch at a time,
--- and `while (a) { b(); }` becomes `while (a) b();`.
+-- 79 of branches and bodies, `unwrap_block`: `if (a) { b(); } else { c(); }` becomes
+-- `if (a) b(); else c();`, a branch at a time, and `while (a) { b(); }` becomes `while (a) b();`.
 use Rattle.std.specs.Prelude.{ℕ, Bool, ◌&&◌, not, Option, Some, None, option_map, if◌then◌else◌}
 use Rattle.mini_model.specs.declared.shape.Shape.{Shape}
 use Rattle.mini_model.specs.declared.shape.Shape.TheVariants as shape
@@ -42,7 +42,8 @@ abbrev pub held_at : Tree → Option ℕ → Option ℕ
 held_at t None = None
 held_at t (Some i) = some_if (holds_one (part t i)) i
 
--- the branch of an `if` that is a block of one: the consequent, if it holds no `if` with `else`, or the alternate
+-- the branch of an `if` that is a block of one: the consequent, if it holds no `if` with `else`, or
+-- the alternate
 abbrev pub branch_place : Tree → Option ℕ
 branch_place t = if holds_bare (part t 1) then Some 1 else some_if (holds_one (part t 2)) 2
 

@@ -1,5 +1,6 @@
--- Small trees with what the definitions say of them, worked out by hand: two for each character and what the comments
--- of `Weight` add. a, b, c, d and e are names, and a text stands over each example.
+-- Small trees with what the definitions say of them, worked out by hand: two for each character and
+-- what the comments of `Weight` add. a, b, c, d and e are names, and a text stands over each
+-- example.
 use Rattle.std.specs.Prelude.{◌≡◌, refl, ℕ, true, false, Some, List, [], ◌∷◌, codes, ℤ, pos, negsuc}
 use Rattle.std.specs.Fmt.{digits}
 use Rattle.std.proofs.Common.{inl, inr, lit<}
@@ -157,7 +158,8 @@ weight_of_conditional_statement = refl
 weight_of_if_alone : weight item (if_alone a (call_statement b)) ≡ 26
 weight_of_if_alone = refl
 
--- `if (a) if (b) c; else d;`: 14 and 2 round 24 + 2 + 6 + 6, which is one heavier than it would be in a list
+-- `if (a) if (b) c; else d;`: 14 and 2 round 24 + 2 + 6 + 6, which is one heavier than it would be
+-- in a list
 weight_of_bare_if : weight item (if_alone a (if_else b (expression_statement c) (expression_statement d))) ≡ 55
 weight_of_bare_if = refl
 
@@ -241,7 +243,8 @@ negation_of_and = refl
 negation_of_and_value : neg value_seat (logical And (negation a) b) ≡ logical Or (negation (negation a)) (negation b)
 negation_of_and_value = refl
 
--- `!a && !b` as a statement: `a || !!b`, since only the truth of the left operand is asked for there
+-- `!a && !b` as a statement: `a || !!b`, since only the truth of the left operand is asked for
+-- there
 negation_of_and_statement : neg statement_expression_seat (logical And (negation a) (negation b)) ≡ logical Or a (negation (negation b))
 negation_of_and_statement = refl
 
@@ -359,7 +362,8 @@ weight_of_powers = refl
 weight_of_powers_from_the_left : weight value (says binary.Exponential (says binary.Exponential a b) c) ≡ 18
 weight_of_powers_from_the_left = refl
 
--- `a ?? (b || c)`, and `a ?? b ?? c`: one is in parentheses for its level, the other for what stands in it
+-- `a ?? (b || c)`, and `a ?? b ?? c`: one is in parentheses for its level, the other for what
+-- stands in it
 weight_of_a_mixture : weight value (logical Coalesce (logical Or b c) a) ≡ 18
 weight_of_a_mixture = refl
 
@@ -424,7 +428,8 @@ weight_of_a_property = refl
 weight_of_a_shorthand : weight value (object (node (shape.ObjectProperty Init false true false) [] 0 (leaf (shape.IdentifierName (codes "a")) ▸ a ▸ none))) ≡ 6
 weight_of_a_shorthand = refl
 
--- as a consequent, `{ if (a) b(); else c(); }` has no braces of its own, and the bare `if` is one heavier
+-- as a consequent, `{ if (a) b(); else c(); }` has no braces of its own, and the bare `if` is one
+-- heavier
 weight_of_a_block_round_if : weight (Stmt stmt_seat.Consequent) (block (if_else a (call_statement b) (call_statement c) ▸ none)) ≡ 46
 weight_of_a_block_round_if = refl
 

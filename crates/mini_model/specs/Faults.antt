@@ -34,8 +34,8 @@ fault_of (TooDeep at) = Some (record { defect = too_deep; at = pointer_text at }
 fault_of (EarlyName at) = Some (record { defect = early_name; at = pointer_text at })
 fault_of (EarlyJump at) = Some (record { defect = early_jump; at = pointer_text at })
 
--- The same defect, seen from the node above, whose step leads here. RFC 6901 writes `~` and `/` in a step as `~0` and
--- `~1`: no key of the table has either.
+-- The same defect, seen from the node above, whose step leads here. RFC 6901 writes `~` and `/` in
+-- a step as `~0` and `~1`: no key of the table has either.
 abbrev pub fault_under : List ℕ → Fault → Fault
 fault_under step f = record { defect = f.defect; at = 47 ∷ (step ++ f.at) }
 

@@ -31,9 +31,9 @@ ending_from ending (u ∷ us) = ending_from (ending_with ending u) us
 abbrev pub ending_of : List ℕ → Ending
 ending_of raw = ending_from Other raw
 
--- a raw text with this ending, made ready for a unit behind: before a digit `\0` becomes `\x00`, which else would be
--- malformed, and between `$` and `{` stands a backslash, since both together would begin a substitution (ECMA-262,
--- NotEscapeSequence and TemplateHead)
+-- a raw text with this ending, made ready for a unit behind: before a digit `\0` becomes `\x00`,
+-- which else would be malformed, and between `$` and `{` stands a backslash, since both together
+-- would begin a substitution (ECMA-262, NotEscapeSequence and TemplateHead)
 abbrev pub readied : Ending → List ℕ → ℕ → List ℕ
 readied Null raw u = cond (is_digit u) (take (length raw - 1) raw ++ codes "x00") raw
 readied Dollar raw u = cond (u == 123) (raw ++ 92 ∷ []) raw
@@ -53,8 +53,9 @@ with_parts raw (part ∷ parts) = with_parts (with_part raw part) parts
 abbrev pub joined : List (List ℕ) → List ℕ
 joined parts = with_parts [] parts
 
--- a unit may stand behind a raw text with this ending in a template: unless a backslash escapes it, it is no backtick,
--- which would end the template, and no `{` behind `$`, which would begin a substitution (ECMA-262, TemplateCharacter)
+-- a unit may stand behind a raw text with this ending in a template: unless a backslash escapes it,
+-- it is no backtick, which would end the template, and no `{` behind `$`, which would begin a
+-- substitution (ECMA-262, TemplateCharacter)
 abbrev pub may_follow : Ending → ℕ → Bool
 may_follow Backslash u = true
 may_follow Null u = not (u == 96)
@@ -73,6 +74,7 @@ abbrev pub are_characters_from : Ending → List ℕ → Bool
 are_characters_from ending [] = is_closed ending
 are_characters_from ending (u ∷ us) = may_follow ending u && are_characters_from (ending_with ending u) us
 
--- a raw text may stand between a template's ends, whether it is malformed or not (ECMA-262, TemplateCharacters)
+-- a raw text may stand between a template's ends, whether it is malformed or not (ECMA-262,
+-- TemplateCharacters)
 abbrev pub are_characters : List ℕ → Bool
 are_characters raw = are_characters_from Other raw

@@ -1,12 +1,12 @@
--- Reading a tree by paths, as a user of ESTree does: by the nodes of ESTree below a node, from its first field to its
--- last.
+-- Reading a tree by paths, as a user of ESTree does: by the nodes of ESTree below a node, from its
+-- first field to its last.
 use Rattle.std.specs.Prelude.{ℕ, zero, suc, ◌+◌, ◌-◌, nat_eq, nat_lt, Bool, true, false, ◌&&◌, if◌then◌else◌, List, [], ◌∷◌, ◌++◌, map, Option, Some, None, option_map, option_and_then}
 use Rattle.mini_model.specs.declared.shape.Shape.{Shape}
 use Rattle.mini_model.specs.declared.shape.Shape.TheVariants as shape
 use Rattle.mini_model.specs.Tree.{Tree, Trees, node, none, ◌▸◌, count, Head}
 
--- what a tree is among the children of the node above it: a node of ESTree; what stands for those that it holds, as a
--- list field does; or nothing, as a part that is absent
+-- what a tree is among the children of the node above it: a node of ESTree; what stands for those
+-- that it holds, as a list field does; or nothing, as a part that is absent
 pub data Standing : Type 0 where
   Node : Standing
   Holder : Standing
@@ -37,7 +37,8 @@ abbrev pub append : Trees → Trees → Trees
 append none us = us
 append (t ▸ ts) us = t ▸ append ts us
 
--- the nodes of ESTree that a tree is among the children of the node above it, and that some trees are
+-- the nodes of ESTree that a tree is among the children of the node above it, and that some trees
+-- are
 abbrev mutual
   pub stands_for : Tree → Trees
   stands_for (node h xs n ts) = by_standing (standing h) (node h xs n ts ▸ none) (spread ts) none
@@ -46,8 +47,8 @@ abbrev mutual
   spread none = none
   spread (t ▸ ts) = append (stands_for t) (spread ts)
 
--- the nodes of ESTree directly below a node, in ESTree's order: the items of lists one after another, and no part that
--- is absent
+-- the nodes of ESTree directly below a node, in ESTree's order: the items of lists one after
+-- another, and no part that is absent
 abbrev pub children_of : Tree → Trees
 children_of (node h xs n ts) = spread ts
 

@@ -1,5 +1,5 @@
--- Where a node stands: the place of every child by its parent's shape, the parent's own place, how many children there
--- are, and the child's index.
+-- Where a node stands: the place of every child by its parent's shape, the parent's own place, how
+-- many children there are, and the child's index.
 use Rattle.std.specs.Prelude.{ℕ, zero, suc, ◌+◌, nat_eq, Bool, true, false, ◌||◌, ◌&&◌, if◌then◌else◌}
 use Rattle.mini_model.specs.declared.kind.PropertyKind.{PropertyKind}
 use Rattle.mini_model.specs.declared.kind.PropertyKind.TheVariants.{Init}
@@ -86,12 +86,13 @@ statement_expression_seat = record (seat_of_level 0) { unused = true }
 abbrev pub if_test_seat : Seat
 if_test_seat = record (seat_of_level 0) { boolean = true }
 
--- what else stands in the parentheses, brackets or braces of a statement or an expression, or before a semicolon
+-- what else stands in the parentheses, brackets or braces of a statement or an expression, or
+-- before a semicolon
 abbrev pub whole_seat : Seat
 whole_seat = seat_of_level 0
 
--- an argument, an element, a property's value, a computed key, an initializer, a default, the right side of an
--- assignment, what is spread, an arrow's body
+-- an argument, an element, a property's value, a computed key, an initializer, a default, the right
+-- side of an assignment, what is spread, an arrow's body
 abbrev pub argument_seat : Seat
 argument_seat = seat_of_level 1
 
@@ -115,7 +116,8 @@ is_equality binary.StrictEquality = true
 is_equality binary.StrictInequality = true
 is_equality _ = false
 
--- `**` groups to the right, and takes no unary expression on its left (ECMA-262, "Exponentiation Operator")
+-- `**` groups to the right, and takes no unary expression on its left (ECMA-262, "Exponentiation
+-- Operator")
 abbrev pub left_level : BinaryOperator → ℕ
 left_level binary.Exponential = update_level
 left_level o = binary_level o
@@ -177,7 +179,8 @@ super_class_seat = seat_of_level primary_level
 abbrev pub yield_argument_seat : Seat
 yield_argument_seat = record (seat_of_level 1) { lifted = true }
 
--- the call or the member of a chain, which never has parentheses, and gives the reference that its seat asks for
+-- the call or the member of a chain, which never has parentheses, and gives the reference that its
+-- seat asks for
 abbrev pub chained_seat : Seat → Seat
 chained_seat s = record (seat_of_level primary_level) { guard = s.guard }
 

@@ -1,5 +1,5 @@
--- What can be rewritten: each row is a shape and what is written in its place. A node is a redex where a row names it
--- and what is written weighs less there. No order of rewriting is meant.
+-- What can be rewritten: each row is a shape and what is written in its place. A node is a redex
+-- where a row names it and what is written weighs less there. No order of rewriting is meant.
 use Rattle.std.specs.Prelude.{◌≡◌, ◌<◌, ◌⊎◌, ℕ, true, false}
 use Rattle.mini_model.specs.declared.operator.LogicalOperator.TheVariants.{Or, And}
 use Rattle.mini_model.specs.declared.seat.Seat.{Seat}

@@ -1,5 +1,5 @@
--- From one tree to another by steps at places in it. What a step may make of which tree at a place is a relation, which
--- is handed in.
+-- From one tree to another by steps at places in it. What a step may make of which tree at a place
+-- is a relation, which is handed in.
 use Rattle.std.specs.Prelude.{ℕ, zero, suc, List}
 use Rattle.mini_model.specs.declared.name.Name.{Name}
 use Rattle.mini_model.specs.declared.shape.Shape.{Shape}

@@ -3,8 +3,9 @@ use Rattle.std.specs.Prelude.{ℕ, ◌+◌, ◌-◌, ◌*◌, Bool, true, false,
 use Rattle.std.specs.Char.Escape.{encode_utf16}
 use Rattle.std.specs.List.{flat_map}
 
--- a unit of a text, as a raw text spells it: `\`, the backtick and `$` have a backslash before them, and a carriage return
--- is `\r`, since one by itself reads as a line feed (ECMA-262, TemplateCharacter, and TV of LineTerminatorSequence)
+-- a unit of a text, as a raw text spells it: `\`, the backtick and `$` have a backslash before
+-- them, and a carriage return is `\r`, since one by itself reads as a line feed (ECMA-262,
+-- TemplateCharacter, and TV of LineTerminatorSequence)
 abbrev pub escape : ℕ → List ℕ
 escape u = cond ((u == 92) || (u == 96) || (u == 36)) (92 ∷ u ∷ []) (cond (u == 13) (92 ∷ 114 ∷ []) (u ∷ []))
 
@@ -16,11 +17,13 @@ escaped text = flat_map escape text
 pub data Place : Type 0 where
   -- before a TemplateCharacter
   Characters : Place
-  -- after `\`, before the rest of a TemplateEscapeSequence, a NotEscapeSequence or a LineContinuation
+  -- after `\`, before the rest of a TemplateEscapeSequence, a NotEscapeSequence or a
+  -- LineContinuation
   Escape : Place
   -- after `\0`, where no DecimalDigit may follow
   Zero : Place
-  -- in a HexEscapeSequence or Hex4Digits: so many HexDigits are to come, and those before have this value
+  -- in a HexEscapeSequence or Hex4Digits: so many HexDigits are to come, and those before have this
+  -- value
   Digits : (left value : ℕ) → Place
   -- after `\u`
   Unicode : Place
@@ -29,7 +32,8 @@ pub data Place : Type 0 where
   -- in the CodePoint of `\u{ CodePoint }`, whose HexDigits so far have this value
   CodePoint : (value : ℕ) → Place
 
--- what reading one unit does: the raw text is malformed, or it gives some units and the reader stands elsewhere
+-- what reading one unit does: the raw text is malformed, or it gives some units and the reader
+-- stands elsewhere
 pub data Step : Type 0 where
   Malformed : Step
   Gives : (units : List ℕ) → Place → Step
@@ -45,8 +49,8 @@ hex_digit u =
     (cond (nat_le 65 u && nat_le u 70) (Some (u - 55))
     (cond (nat_le 97 u && nat_le u 102) (Some (u - 87)) None))
 
--- the value of digits with one more behind, if that is one; none past 10FFFF, the last code point, which two or four
--- digits never reach (ECMA-262, CodePoint and NotCodePoint)
+-- the value of digits with one more behind, if that is one; none past 10FFFF, the last code point,
+-- which two or four digits never reach (ECMA-262, CodePoint and NotCodePoint)
 abbrev pub with_digit_value : ℕ → Option ℕ → Option ℕ
 with_digit_value value None = None
 with_digit_value value (Some digit) = cond (nat_le (value * 16 + digit) 0x10FFFF) (Some (value * 16 + digit)) None
@@ -54,7 +58,8 @@ with_digit_value value (Some digit) = cond (nat_le (value * 16 + digit) 0x10FFFF
 abbrev pub with_digit : ℕ → ℕ → Option ℕ
 with_digit value u = with_digit_value value (hex_digit u)
 
--- one of so many digits: the last completes a code point (ECMA-262, TV of HexEscapeSequence and of `u` Hex4Digits)
+-- one of so many digits: the last completes a code point (ECMA-262, TV of HexEscapeSequence and of
+-- `u` Hex4Digits)
 abbrev pub digit_step : ℕ → Option ℕ → Step
 digit_step left None = Malformed
 digit_step left (Some value) = cond (nat_lt 1 left) (Gives [] (Digits (left - 1) value)) (Gives (encode_utf16 value) Characters)
@@ -64,12 +69,13 @@ abbrev pub brace_step : Option ℕ → Step
 brace_step None = Malformed
 brace_step (Some value) = Gives [] (CodePoint value)
 
--- a line feed, a carriage return, U+2028 or U+2029 (ECMA-262, LineTerminator); each by itself, since TRV has made one
--- line feed of a carriage return and a line feed
+-- a line feed, a carriage return, U+2028 or U+2029 (ECMA-262, LineTerminator); each by itself,
+-- since TRV has made one line feed of a carriage return and a line feed
 abbrev pub is_line_end : ℕ → Bool
 is_line_end u = (u == 10) || (u == 13) || (u == 0x2028) || (u == 0x2029)
 
--- the unit after a backslash (ECMA-262, TemplateEscapeSequence, NotEscapeSequence, LineContinuation, and the table "String Single Character Escape Sequences")
+-- the unit after a backslash (ECMA-262, TemplateEscapeSequence, NotEscapeSequence,
+-- LineContinuation, and the table "String Single Character Escape Sequences")
 abbrev pub escape_step : ℕ → Step
 escape_step u =
     -- `0`, and then `1` to `9`

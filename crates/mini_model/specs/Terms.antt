@@ -20,8 +20,8 @@ boolean_by (shape.LogicalExpression o) (a ∷ b ∷ []) = a && b
 boolean_by shape.ConditionalExpression (a ∷ b ∷ c ∷ []) = b && c
 boolean_by _ bs = false
 
--- each value of the expression is a boolean (ECMA-262: `!` gives one, and a logical or a conditional expression gives
--- what one of its parts gives)
+-- each value of the expression is a boolean (ECMA-262: `!` gives one, and a logical or a
+-- conditional expression gives what one of its parts gives)
 abbrev mutual
   pub is_boolean : Tree → Bool
   is_boolean (node h xs n ts) = boolean_by h (are_boolean ts)
@@ -40,12 +40,14 @@ abbrev pub turned_seat : Shape → Seat → ℕ → Seat
 turned_seat (shape.LogicalExpression o) s i = operand_seat (turned o) s i
 turned_seat _ s i = s
 
--- the operand of a `!` that is negated stands for itself where only its truth is asked, or where it is a boolean
+-- the operand of a `!` that is negated stands for itself where only its truth is asked, or where it
+-- is a boolean
 abbrev pub unwrapped : Bool → Tree → Tree → Tree
 unwrapped true a n = a
 unwrapped false a n = negation n
 
--- an equality gives the other truth under the other operator of its kind (ECMA-262, "Equality Operators")
+-- an equality gives the other truth under the other operator of its kind (ECMA-262, "Equality
+-- Operators")
 abbrev pub opposite : BinaryOperator → BinaryOperator
 opposite binary.Equality = binary.Inequality
 opposite binary.Inequality = binary.Equality
@@ -53,7 +55,8 @@ opposite binary.StrictEquality = binary.StrictInequality
 opposite binary.StrictInequality = binary.StrictEquality
 opposite o = o
 
--- an equality is turned so; what compares otherwise has no opposite, since `a < b` and `a >= b` are both false of NaN
+-- an equality is turned so; what compares otherwise has no opposite, since `a < b` and `a >= b` are
+-- both false of NaN
 abbrev pub turned_equality : Bool → BinaryOperator → List Name → ℕ → Trees → Tree
 turned_equality true o xs n ts = node (shape.BinaryExpression (opposite o)) xs n ts
 turned_equality false o xs n ts = negation (node (shape.BinaryExpression o) xs n ts)
@@ -65,8 +68,9 @@ negated_by s (shape.UnaryExpression LogicalNot) xs n (a ▸ none) negated = unwr
 negated_by s (shape.BinaryExpression o) xs n ts negated = turned_equality (is_equality o) o xs n ts
 negated_by s h xs n ts negated = negation (node h xs n ts)
 
--- the negation of an expression, written in this seat: `!a` gives a, `&&` and `||` are turned into each other with both
--- sides negated, `==` and `!=`, `===` and `!==` are turned into each other, and any other e gives `!e`
+-- the negation of an expression, written in this seat: `!a` gives a, `&&` and `||` are turned into
+-- each other with both sides negated, `==` and `!=`, `===` and `!==` are turned into each other,
+-- and any other e gives `!e`
 abbrev mutual
   pub neg : Seat → Tree → Tree
   neg s (node h xs n ts) = negated_by s h xs n ts (neg_each (turned_seat h s) ts)

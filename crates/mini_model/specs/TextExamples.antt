@@ -58,7 +58,8 @@ line_feed_escape = refl
 other_escapes : cooked (92 ∷ codes "$" ++ 92 ∷ codes "{") ≡ Some (codes "${")
 other_escapes = refl
 
--- a backslash before a line feed gives nothing; before a carriage return and a line feed it takes the first alone
+-- a backslash before a line feed gives nothing; before a carriage return and a line feed it takes
+-- the first alone
 line_continuation : cooked (codes "a" ++ 92 ∷ 10 ∷ codes "b") ≡ Some (codes "ab")
 line_continuation = refl
 
@@ -91,7 +92,8 @@ null_and_digit = refl
 backslash_zero_and_digit : joined ((92 ∷ 92 ∷ codes "0") ∷ codes "1" ∷ []) ≡ 92 ∷ 92 ∷ codes "01"
 backslash_zero_and_digit = refl
 
--- a backtick, `${` and a backslash at the end do not stay inside a template; escaped ones, and `$` alone, do
+-- a backtick, `${` and a backslash at the end do not stay inside a template; escaped ones, and `$`
+-- alone, do
 bare_backtick : are_characters (codes "a`") ≡ false
 bare_backtick = refl
 

@@ -1,5 +1,5 @@
--- The plain form of a syntax tree: a node with its shape, the names that stand in it, its number and its children.
--- The shapes and their fields follow ESTree (ES5 to ES2022).
+-- The plain form of a syntax tree: a node with its shape, the names that stand in it, its number
+-- and its children. The shapes and their fields follow ESTree (ES5 to ES2022).
 use Rattle.std.specs.Prelude.{ℕ, zero, suc, ◌+◌, ◌≡◌, refl, Bool, true, false, List, [], ◌∷◌, Option, Some, None}
 use Rattle.std.proofs.Common.{◌∙◌, ap}
 use Rattle.std.specs.Coded.{Coded, code_by, coded×, coded_ℕ, coded_list, coded_option}
@@ -118,8 +118,8 @@ child_or_absent none i = absent
 child_or_absent (t ▸ ts) zero = t
 child_or_absent (t ▸ ts) (suc i) = child_or_absent ts i
 
--- a tree as a list of tokens, by which a proof tells trees apart: none is None, and what a node holds beside its
--- children stands behind the tokens of its children and of those after it
+-- a tree as a list of tokens, by which a proof tells trees apart: none is None, and what a node
+-- holds beside its children stands behind the tokens of its children and of those after it
 
 abbrev pub Head : Type 0
 Head = Shape × (List Name × ℕ)

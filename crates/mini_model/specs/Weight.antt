@@ -1,6 +1,7 @@
--- The weight of a tree in its place: about two for each character of a compact text of it, with what a word, a pair of
--- parentheses or an awkward form costs besides, so that a lighter tree is seldom a longer text. Names weigh the same
--- whatever their spelling, since a later pass renames them.
+-- The weight of a tree in its place: about two for each character of a compact text of it, with
+-- what a word, a pair of parentheses or an awkward form costs besides, so that a lighter tree is
+-- seldom a longer text. Names weigh the same whatever their spelling, since a later pass renames
+-- them.
 use Rattle.std.specs.Prelude.{ℕ, zero, suc, ◌+◌, ◌*◌, min, Bool, true, false, not, ◌||◌, ◌&&◌, List, [], ◌∷◌, length, codes, nat_eq, nat_lt, if◌then◌else◌, is_none, ℤ, pos, negsuc}
 use Rattle.std.specs.Cmp.Lexicographic.{pointwise}
 use Rattle.std.specs.Fmt.{decimal, signed_decimal}
@@ -161,7 +162,8 @@ level_of (shape.NumericLiteral n) = if is_negative n then unary_level else prima
 level_of (shape.UpdateExpression o b) = update_level
 level_of _ = primary_level
 
--- `??` and `&&` or `||` stand in one another in parentheses alone (ECMA-262, "Binary Logical Operators")
+-- `??` and `&&` or `||` stand in one another in parentheses alone (ECMA-262, "Binary Logical
+-- Operators")
 abbrev pub mixes : Shape → Mix → Bool
 mixes (shape.LogicalExpression o) InCoalesce = is_and_or o
 mixes (shape.LogicalExpression o) InAndOr = not (is_and_or o)
@@ -172,7 +174,8 @@ abbrev pub is_chain : Shape → Bool
 is_chain shape.ChainExpression = true
 is_chain _ = false
 
--- the arguments of a call would be those of the `new` round it (ECMA-262, "Left-Hand-Side Expressions")
+-- the arguments of a call would be those of the `new` round it (ECMA-262, "Left-Hand-Side
+-- Expressions")
 abbrev pub is_call : Shape → Bool
 is_call (shape.CallExpression b) = true
 is_call _ = false
@@ -205,7 +208,8 @@ abbrev pub is_sequence : Shape → Bool
 is_sequence shape.SequenceExpression = true
 is_sequence _ = false
 
--- a plain left operand of an equality, an inequality as a test of a conditional, a sequence that can be lifted out
+-- a plain left operand of an equality, an inequality as a test of a conditional, a sequence that
+-- can be lifted out
 abbrev pub is_awkward : Seat → Shape → List Outline → Bool
 is_awkward s h os = (s.eq_left && is_plain h os) || ((s.cond_test && is_unequal h) || (s.lifted && is_sequence h))
 
@@ -217,7 +221,8 @@ abbrev pub bare_weight : StmtSeat → ℕ
 bare_weight stmt_seat.Consequent = 1
 bare_weight _ = 0
 
--- the braces of a block: none are counted as a consequent round an `if` with `else` alone, which can't do without
+-- the braces of a block: none are counted as a consequent round an `if` with `else` alone, which
+-- can't do without
 abbrev pub braces_weight : StmtSeat → Bool → ℕ
 braces_weight stmt_seat.Consequent chooses = if chooses then 0 else 4
 braces_weight _ chooses = 4

@@ -45,7 +45,8 @@ abbrev mutual
   same_trees (t ▸ ts) (u ▸ us) = same_tree t u && same_trees ts us
   same_trees _ _ = false
 
--- shapes are numbered, with each choice of their flags and of the kinds of which there are few; those with other fields have 0
+-- shapes are numbered, with each choice of their flags and of the kinds of which there are few;
+-- those with other fields have 0
 abbrev pub plain_number : Shape → ℕ
 plain_number shape.Absent = 1
 plain_number shape.Listed = 2

@@ -102,7 +102,8 @@ abbrev pub is_throw_shape : Shape → Bool
 is_throw_shape shape.ThrowStatement = true
 is_throw_shape _ = false
 
--- Kinds. The shape is asked first, then names, number and how many children there are, then the children.
+-- Kinds. The shape is asked first, then names, number and how many children there are, then the
+-- children.
 
 -- a part that is absent
 abbrev pub is_absent_part : Tree → Bool

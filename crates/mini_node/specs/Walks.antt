@@ -1,5 +1,5 @@
--- Laws of a walk over the children of a node, one after another: what is done stands before a place, what is left from
--- there on.
+-- Laws of a walk over the children of a node, one after another: what is done stands before a
+-- place, what is left from there on.
 use Rattle.std.specs.Prelude.{ℕ, zero, suc, ◌+◌, ◌≡◌, ◌≤◌, ◌<◌, refl, List, [], ◌++◌}
 use Rattle.std.proofs.Common.{ap, ◌∙◌, arith, sym, append_assoc, add-one}
 use Rattle.std.proofs.lemmas.List.{append-nil}

@@ -1,4 +1,5 @@
--- What is told of the bodies of one program is so of those of another; what stays so from one program to a second, and from there to a third, does so from the first to the third.
+-- What is told of the bodies of one program is so of those of another; what stays so from one
+-- program to a second, and from there to a third, does so from the first to the third.
 use Rattle.std.specs.Prelude.{ℕ}
 use Rattle.mini_model.specs.Tree.{Tree}
 use Rattle.mini_kept.specs.Without.{Assured, Within}

@@ -1,4 +1,5 @@
--- A step in a function, in an arrow function, in a module or in a static block is a rewrite, so it makes the whole lighter.
+-- A step in a function, in an arrow function, in a module or in a static block is a rewrite, so it
+-- makes the whole lighter.
 use Rattle.mini_kept.specs.Without.{BodySets}
 use Rattle.mini_laws.proofs.Lighter.{any_step_lighter}
 use Rattle.mini_rows.specs.Past.{PastFunction}

@@ -1,4 +1,5 @@
--- 71 past steady names of a `var` further inside a body: what is known at the end of a way, by the nodes above it.
+-- 71 past steady names of a `var` further inside a body: what is known at the end of a way, by the
+-- nodes above it.
 use Rattle.std.specs.Prelude.{◌&&◌, not, nat_lt, ℕ, Bool, true}
 use Rattle.mini_model.specs.declared.place.Position.{Position}
 use Rattle.mini_model.specs.Tree.{Tree, Trees, none, ◌▸◌}
@@ -23,14 +24,16 @@ abbrev pub nodes_below : Trees → Trees
 nodes_below none = none
 nodes_below (o ▸ a) = a
 
--- the symbol is declared before the place in one of some nodes, and nothing else in them declares it
+-- the symbol is declared before the place in one of some nodes, and nothing else in them declares
+-- it
 abbrev pub begun_below : ℕ → Trees → Bool
 begun_below k a = is_let_around k true a && not (nat_lt 1 (all_bindings k a))
 
 abbrev pub known_at : BodySets → Trees → Assured
 known_at S a = known_below (nodes_below a) (S (holder_number a))
 
--- a `var` in no list, and one that a `for` begins with, lose names, one after another; or none does, and then no row reads one
+-- a `var` in no list, and one that a `for` begins with, lose names, one after another; or none
+-- does, and then no row reads one
 abbrev pub OneWalked : BodySets → Liberties → Trees → Tree → Tree → Bool → Type 0
 OneWalked S W a t u c = HereWalked (past_ends S W) a way.Held t u c × HereWalked (past_ends S W) a way.Head t u c
 

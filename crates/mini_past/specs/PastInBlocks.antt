@@ -1,5 +1,7 @@
--- 71 past steady names of a block further inside a body, `substitute_past_in_block`: of `function f(g) { if (g) { let x = a(); return g(x); } }` the block
--- becomes `{ ; return g(a()); }`; and of the cases of a switch and of the head of a `for`, `substitute_past_in_statement`.
+-- 71 past steady names of a block further inside a body, `substitute_past_in_block`: of
+-- `function f(g) { if (g) { let x = a(); return g(x); } }` the block becomes
+-- `{ ; return g(a()); }`; and of the cases of a switch and of the head of a `for`,
+-- `substitute_past_in_statement`.
 use Rattle.std.specs.Prelude.{◌≡◌, ◌≤◌, ℕ, Bool, true, false}
 use Rattle.std.proofs.Common.{ap, inl, inr}
 use Rattle.mini_model.specs.declared.place.Position.TheVariants.{Stmt, Elsewhere}
@@ -16,7 +18,8 @@ abbrev pub AppliedPastBlock : Switches → Assured → Tree → Tree → Bool �
 AppliedPastBlock o V t u true = Several (PastBlockRow o V) t u
 AppliedPastBlock o V t u false = (u ≡ t) × ((w : Tree) → PastBlockRow o V t w → ⊥)
 
--- and so of a switch, from the statements of the case at a place, and from those of the cases from there on
+-- and so of a switch, from the statements of the case at a place, and from those of the cases from
+-- there on
 abbrev pub AppliedPastCase : Switches → Assured → Tree → ℕ → Tree → Bool → Type 0
 AppliedPastCase o V t i u true = Several (PastCaseRow o V) t u
 AppliedPastCase o V t i u false = (u ≡ t) × ((w : Tree) (r : PastCaseRow o V t w) → count r.first ≡ i → ⊥)

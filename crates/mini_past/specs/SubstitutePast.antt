@@ -1,5 +1,6 @@
--- 71 past steady names, `substitute_past`: `function f(g) { let x = a(); return g(x); }` becomes `function f(g) { ; return g(a()); }`, and
--- `function f(g) { let x = a(), y = g(x); return y; }` becomes `function f(g) { let y = g(a()); return y; }`; so do each `var` whose name can be
+-- 71 past steady names, `substitute_past`: `function f(g) { let x = a(); return g(x); }` becomes
+-- `function f(g) { ; return g(a()); }`, and `function f(g) { let x = a(), y = g(x); return y; }`
+-- becomes `function f(g) { let y = g(a()); return y; }`; so do each `var` whose name can be
 -- written, and the statements of an arrow function and of a module.
 use Rattle.std.specs.Prelude.{◌≡◌, ◌<◌, ◌^◌, ◌⊎◌, ℕ, suc, Bool, true, false, not, ◌&&◌, ◌||◌, List, [], ◌∷◌, Option, Some, None}
 use Rattle.mini_model.specs.declared.name.Name.{Name}
@@ -20,11 +21,13 @@ use Rattle.mini_unused.specs.RemoveUnusedDeclaration.{declares_name, may_declare
 use Rattle.mini_unused.specs.SubstituteNext.{is_declarator, is_mentioned_beside, is_mentioned_elsewhere, list_next}
 use Rattle.mini_unused.specs.SubstituteSingleUse.{last_place, is_declared_over, is_mentioned_around, list_single}
 
--- what is held where a declarator stands, behind those before it in its list and the statements before theirs
+-- what is held where a declarator stands, behind those before it in its list and the statements
+-- before theirs
 abbrev pub held_at : Assured → Trees → ℕ → Trees → ℕ → Kept
 held_at V ts i ds j = held V ts (first_children i ts) (is_free_at ts i) (first_children j ds)
 
--- of a declarator the initializer may move, and is no constant, and the name is free to go, or one of these variables
+-- of a declarator the initializer may move, and is no constant, and the name is free to go, or one
+-- of these variables
 abbrev pub may_pass : Switches → Tree → Bool
 may_pass o init = may_move o init && not (is_constant init)
 
@@ -33,7 +36,8 @@ may_pass_by free W d = declares_name d && (may_lose free W (names_of (part d 0))
 
 -- ---- the next statement reads the name
 
--- before all else, or after parts that pass the initializer, and no name like it stands elsewhere, nor in what is outside of the statements
+-- before all else, or after parts that pass the initializer, and no name like it stands elsewhere,
+-- nor in what is outside of the statements
 abbrev pub is_read_past : Assured → List Name → Tree → Tree → Trees → ℕ → Trees → ℕ → Bool
 is_read_past V [] o init ds j ts i = false
 is_read_past V (x ∷ xs) o init ds j ts i =
@@ -43,7 +47,8 @@ is_read_past V (x ∷ xs) o init ds j ts i =
 abbrev pub is_past_declarator : Assured → Bool → Liberties → Tree → ℕ → Tree → Trees → ℕ → Bool
 is_past_declarator V free W l j o ts i = may_pass_by free W (part l j) && is_read_past V (names_of (part (part l j) 0)) o (part (part l j) 1) (children l) j ts i
 
--- the statement at the place is a declaration from which names may go, whose last declarator is such a one
+-- the statement at the place is a declaration from which names may go, whose last declarator is
+-- such a one
 abbrev pub is_past : Assured → Liberties → Tree → Trees → ℕ → Bool
 is_past V W o ts i = may_declare o (child_or_absent ts i) && is_past_declarator V (is_free_at ts i) W (list_at ts i) (last_place (children (list_at ts i))) o ts i
 
@@ -69,7 +74,8 @@ is_past_by V free W d e o ds j ts i = is_declarator e && (may_pass_by free W d &
 abbrev pub is_past_by_next : Assured → Bool → Liberties → Tree → ℕ → Tree → Trees → ℕ → Bool
 is_past_by_next V free W l j o ts i = is_past_by V free W (part l j) (part l (suc j)) o (children l) j ts i
 
--- the statement at the place is a declaration from which names may go, whose declarator at the other place is
+-- the statement at the place is a declaration from which names may go, whose declarator at the
+-- other place is
 abbrev pub is_past_next : Assured → Liberties → Tree → Trees → ℕ → ℕ → Bool
 is_past_next V W o ts i j = may_declare o (child_or_absent ts i) && is_past_by_next V (is_free_at ts i) W (list_at ts i) j o ts i
 

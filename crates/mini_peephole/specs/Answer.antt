@@ -52,8 +52,8 @@ answer_data m = object (member (codes "kept") (numbers_data m.kept) (member (cod
 abbrev pub answer_text : Minified → List ℕ
 answer_text m = line_of (answer_data m)
 
--- what is told of a script that was generated: how many statements it has, what it weighed before and after, how many passes were
--- made, and whether nothing was left to rewrite
+-- what is told of a script that was generated: how many statements it has, what it weighed before
+-- and after, how many passes were made, and whether nothing was left to rewrite
 abbrev pub truth_text : Bool → List ℕ
 truth_text b = if b then codes "true" else codes "false"
 
@@ -68,7 +68,8 @@ note_text f = codes "refused: " ++ (name_of_defect f.defect ++ (codes " at " ++ 
 abbrev pub IsNotJson : List ℕ → Type 0
 IsNotJson input = IsUtf8 input → read input ≡ None
 
--- the bytes are JSON, of a program to which this answer is faithful, and from which it was made by rewrites
+-- the bytes are JSON, of a program to which this answer is faithful, and from which it was made by
+-- rewrites
 pub record HasAnswer (o : CompressOptions) (input : List ℕ) (m : Minified) : Type 0 where
   pub value : Data
   pub reads : read input ≡ Some value
@@ -76,7 +77,8 @@ pub record HasAnswer (o : CompressOptions) (input : List ℕ) (m : Minified) : T
   pub passes : PassesBounded value o m
   pub minified : IsMinified value o m
 
--- of a value this is an answer that is faithful and was made by rewrites, and its program and the answer's weigh this
+-- of a value this is an answer that is faithful and was made by rewrites, and its program and the
+-- answer's weigh this
 pub record IsWeighed (d : Data) (o : CompressOptions) (m : Minified) (before after : ℕ) : Type 0 where
   pub faithful : Faithful d o m
   pub passes : PassesBounded d o m
@@ -194,8 +196,8 @@ IsDue WriteFault words source sink notes = IsDueOfAll WriteFault words source si
 IsDue NotJson words source sink notes = IsDueOfRead NotJson words source sink notes
 IsDue Refused words source sink notes = IsDueOfAll Refused words source sink notes
 
--- The words are good; the source tells its bytes, which aren't too many; and they are JSON of a program that is read
--- under the options that the words name, and has no early error.
+-- The words are good; the source tells its bytes, which aren't too many; and they are JSON of a
+-- program that is read under the options that the words name, and has no early error.
 pub record IsValidInput (words : List (List ℕ)) (before : Option (List ℕ)) : Type 0 where
   pub options : CompressOptions
   pub name : NameOrders words (to_read options)
@@ -210,7 +212,8 @@ pub record IsValidInput (words : List (List ℕ)) (before : Option (List ℕ)) :
   pub accepted : program_at options.max_depth value ≡ Ok (program, numbers)
   pub free : early_fault program ≡ None
 
--- The words are good and order the script of n statements, which is read under their options and has no early error.
+-- The words are good and order the script of n statements, which is read under their options and
+-- has no early error.
 pub record IsValidScript (words : List (List ℕ)) : Type 0 where
   pub options : CompressOptions
   pub statements : ℕ
@@ -220,7 +223,8 @@ pub record IsValidScript (words : List (List ℕ)) : Type 0 where
   pub accepted : program_at options.max_depth (generated_data statements) ≡ Ok (program, numbers)
   pub free : early_fault program ≡ None
 
--- the answer was written, unless memory ran out, or the source or the sink failed, as their counts of faults show
+-- the answer was written, unless memory ran out, or the source or the sink failed, as their counts
+-- of faults show
 abbrev pub IsAnswered : Status → ℕ → ℕ → ℕ → ℕ → Type 0
 IsAnswered Done source_before source_after sink_before sink_after = Unit {0}
 IsAnswered OutOfMemory source_before source_after sink_before sink_after = Unit {0}

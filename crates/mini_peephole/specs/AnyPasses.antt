@@ -20,19 +20,22 @@ use Rattle.mini_peephole.specs.Faithful.{switches, FaithfulWith, FaithfulSteadil
 use Rattle.mini_peephole.specs.Minified.{IsWritten}
 use Rattle.mini_peephole.specs.declared.minify.Minified.{Minified}
 
--- What a rule makes is lawful, and may drop names that nothing mentions, under any options and over any program at which its
--- context has looked: those of functions and classes where the options let them go. It may rest on it that the variables can be written
--- that this program mentions and lets be written. What is lawful without either is so (`LawfulIsLoose`, mini_kept).
+-- What a rule makes is lawful, and may drop names that nothing mentions, under any options and over
+-- any program at which its context has looked: those of functions and classes where the options let
+-- them go. It may rest on it that the variables can be written that this program mentions and lets
+-- be written. What is lawful without either is so (`LawfulIsLoose`, mini_kept).
 --
--- `LawfulWith` asks this wherever a node may stand, in any tree. What rests on numbers of names, as on there being one read of a
--- variable in the program, is lawful only in what steps make of that program: for such a rule the law has to be weakened to the
--- nodes of a tree that steps of the same pass reach from it, the program being well shaped and its names scoped.
+-- `LawfulWith` asks this wherever a node may stand, in any tree. What rests on numbers of names, as
+-- on there being one read of a variable in the program, is lawful only in what steps make of that
+-- program: for such a rule the law has to be weakened to the nodes of a tree that steps of the same
+-- pass reach from it, the program being well shaped and its names scoped.
 abbrev pub LawfulFor : (CompressOptions → Tree → Position → Tree → Tree → Type 0) → Type 0
 LawfulFor G = (o : CompressOptions) (q : Tree) → LawfulWith (let_go (switches o)) (writable_in q) (G o q)
 
--- What a rule makes may rest besides on what is known of each body of the program over which it makes it, as that no answer changes a name
--- while the body runs; of the program itself it may give another, by what is known of its own body. What is lawful without that is so
--- (`LooseIsSteady`, `SteadyIsRooted`, mini_kept).
+-- What a rule makes may rest besides on what is known of each body of the program over which it
+-- makes it, as that no answer changes a name while the body runs; of the program itself it may give
+-- another, by what is known of its own body. What is lawful without that is so (`LooseIsSteady`,
+-- `SteadyIsRooted`, mini_kept).
 abbrev pub LawfulSteadily : (CompressOptions → Tree → Position → Tree → Tree → Type 0) → Type 0
 LawfulSteadily G = (o : CompressOptions) (q : Tree) → LawfulRooted (let_go (switches o)) (writable_in q) (steady_in q) (G o q)
 
@@ -45,7 +48,8 @@ EachBegins P (one_more n t u v r s) = EachBegins P r × P u
 abbrev pub StaySteady : Tree → Tree → Type 0
 StaySteady u q = (b : ℕ) → Within (steady_in q b) (steady_in u b)
 
--- where the passes settled the rule has nothing left to do in the last program, by what is known of that program itself
+-- where the passes settled the rule has nothing left to do in the last program, by what is known of
+-- that program itself
 abbrev pub NothingLeft : (Tree → Position → Tree → Type 0) → Tree → Type 0
 NothingLeft D u = Everywhere (D u) Elsewhere u
 
@@ -54,7 +58,8 @@ abbrev pub LawfulPassesFaithful : (CompressOptions → Tree → Position → Tre
 LawfulPassesFaithful G D =
     LawfulFor G → (d : Data) (o : CompressOptions) (m : Minified) (t : Tree) → Accepts d t → early_fault t ≡ None → IsWritten (G o) (D o) (resolved_program t) o.passes m → FaithfulWith (NothingLeft (D o)) d o m
 
--- the same of what rests on bodies, where that is known of those of the last program which was known as any pass began
+-- the same of what rests on bodies, where that is known of those of the last program which was
+-- known as any pass began
 abbrev pub SteadyPassesFaithful : (CompressOptions → Tree → Position → Tree → Tree → Type 0) → (CompressOptions → Tree → Position → Tree → Type 0) → Type 0
 SteadyPassesFaithful G D =
     LawfulSteadily G → (d : Data) (o : CompressOptions) (m : Minified) (t : Tree) → Accepts d t → early_fault t ≡ None → (r : IsWritten (G o) (D o) (resolved_program t) o.passes m) → EachBegins (StaySteady r.output) r.passes.reached → FaithfulSteadily (NothingLeft (D o)) d o m

@@ -1,5 +1,5 @@
--- What a run of a body of a program rests on: which variables its events show, which an answer may change, and which a start
--- has initialised.
+-- What a run of a body of a program rests on: which variables its events show, which an answer may
+-- change, and which a start has initialised.
 use Rattle.std.specs.Prelude.{ℕ, nat_eq, Bool, true, false, ◌&&◌, not, [], Some}
 use Rattle.std.specs.List.{list_any}
 use Rattle.mini_model.specs.declared.name.Name.{Name}
@@ -26,7 +26,8 @@ shared_by t b x = is_shared t b.number (name_of x)
 abbrev pub foreign_to : Tree → Body → VariableSet
 foreign_to t b x = is_foreign t b.number (name_of x)
 
--- its own lexical names are initialised by the body itself (ECMA-262, "BlockDeclarationInstantiation")
+-- its own lexical names are initialised by the body itself (ECMA-262,
+-- "BlockDeclarationInstantiation")
 abbrev pub is_lexical_in : Tree → ℕ → Name → Bool
 is_lexical_in t b x = is_among x (lexical_variables false t) && is_declared_in t b x
 
@@ -45,8 +46,9 @@ initialised_for t b = initialised_at t b.number
 abbrev pub asks_as : ℕ → Body → Bool
 asks_as n b = nat_eq b.number n && b.asks_this
 
--- what is known of the body with a number: no answer changes the declared variables that aren't foreign to it, its events show none of
--- those that aren't shared, and it starts where those are initialised that are so for it
+-- what is known of the body with a number: no answer changes the declared variables that aren't
+-- foreign to it, its events show none of those that aren't shared, and it starts where those are
+-- initialised that are so for it
 abbrev pub steady_in : Tree → BodySets
 steady_in t b = record {
   steady = λ x. is_declared x && not (is_foreign t b (name_of x));
@@ -55,6 +57,7 @@ steady_in t b = record {
   has_this = not (list_any (asks_as b) (bodies_in t));
 }
 
--- of a body in this program, with the variables that its events show and those that an answer may change
+-- of a body in this program, with the variables that its events show and those that an answer may
+-- change
 abbrev pub environment_with : Tree → VariableSet → VariableSet → Body → Environment
 environment_with t shared foreign b = environment_in t shared foreign b.strict b.asks_this

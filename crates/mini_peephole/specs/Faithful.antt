@@ -1,7 +1,7 @@
 -- When an answer is faithful to the program that it was made from.
 --
--- Both are compared in the numbers and symbols of the earlier one: the later program is resolved, and each number and symbol
--- in it is replaced by the one that it stands for.
+-- Both are compared in the numbers and symbols of the earlier one: the later program is resolved,
+-- and each number and symbol in it is replaced by the one that it stands for.
 use Rattle.std.specs.Prelude.{◌≡◌, ℕ, suc, ◌+◌, ◌<◌, ◌≤◌, max, Bool, true, false, List, [], ◌∷◌, map, length, ◌⊎◌, Contains, Option, Some, None}
 use Rattle.serde_json.specs.Data.{Data}
 use Rattle.serde_json.specs.View.{view}
@@ -56,8 +56,8 @@ abbrev pub BeginsWithProgram : List ℕ → Type 0
 BeginsWithProgram [] = ⊥
 BeginsWithProgram (k ∷ ks) = k ≡ 0
 
--- `kept` has a number of the earlier tree for each numbered node of the later, the program's first, and none twice; `symbols`
--- has one for each symbol that its scopes declare, and none twice
+-- `kept` has a number of the earlier tree for each numbered node of the later, the program's first,
+-- and none twice; `symbols` has one for each symbol that its scopes declare, and none twice
 pub record AreNamed (kept symbols : List ℕ) (t u : Tree) : Type 0 where
   pub begins : BeginsWithProgram kept
   pub each_node : length kept ≡ suc (length (numbers u))
@@ -68,13 +68,15 @@ pub record AreNamed (kept symbols : List ℕ) (t u : Tree) : Type 0 where
 
 -- ---- bodies
 
--- from each start that initialises X, with every `this`, every list of answers and every number of turns, the earlier body's
--- run is outside the model, or the later one's is the same; each runs in its own program
+-- from each start that initialises X, with every `this`, every list of answers and every number of
+-- turns, the earlier body's run is outside the model, or the later one's is the same; each runs in
+-- its own program
 pub record RunsAlike (e f : Environment) (k l : BodyKind) (X : VariableSet) (n w : Tree) : Type 0 where
   pub by : (vars : Variable → Slot) (this : Value) (answers : List Answer) (turns : ℕ) → Initialised X (start_of vars this answers turns) → (Run e k n vars this answers turns ≡ None) ⊎ (Run e k n vars this answers turns ≡ Run f l w vars this answers turns)
 
--- a body of a later program and the one of an earlier that it stands for; what is shared and foreign is the later one's. It is of
--- the same kind, but for an arrow's whose statements became its expression
+-- a body of a later program and the one of an earlier that it stands for; what is shared and
+-- foreign is the later one's. It is of the same kind, but for an arrow's whose statements became
+-- its expression
 pub record IsSameBody (t u : Tree) (b c : Body) : Type 0 where
   pub number : b.number ≡ c.number
   pub kind : KindKept b.kind c.kind
@@ -94,7 +96,8 @@ pass_bound o = max o.passes 1
 abbrev pub switches : CompressOptions → Switches
 switches o = record { sequences = o.sequences; join_vars = o.join_vars; keep_function_names = o.keep_names.function; keep_class_names = o.keep_names.class }
 
--- what is said of the two trees, where Rests says of the later one that nothing is left to do, and S what is known of each body
+-- what is said of the two trees, where Rests says of the later one that nothing is left to do, and
+-- S what is known of each body
 pub record IsFaithfulUnder (S : BodySets) (Rests : Tree → Type 0) (o : CompressOptions) (m : Minified) (t u : Tree) : Type 0 where
   -- the answer has no early error
   pub names : early_names [] u ≡ []
@@ -103,10 +106,11 @@ pub record IsFaithfulUnder (S : BodySets) (Rests : Tree → Type 0) (o : Compres
   pub named : AreNamed m.kept m.symbols t u
   -- each name that it declares is one that the input declares, and spelled as there
   pub spelled : (x : Name) → Contains (declared (later m u)) x → Contains (declared (earlier t)) x
-  -- what stands outside bodies is kept: each of its nodes with a number has the frame that the one had which it was, but for the
-  -- brackets of keys which give one property and do nothing else, where the variables can be written that the earlier program lets be
-  -- written, and that is so which S says, and for the name of a function or a class expression that the later
-  -- program doesn't declare, so that nothing in it refers to that, where the options let it go
+  -- what stands outside bodies is kept: each of its nodes with a number has the frame that the one
+  -- had which it was, but for the brackets of keys which give one property and do nothing else,
+  -- where the variables can be written that the earlier program lets be written, and that is so
+  -- which S says, and for the name of a function or a class expression that the later program
+  -- doesn't declare, so that nothing in it refers to that, where the options let it go
   pub frames : FramesShown (gone_from (let_go (switches o)) (undeclared (later m u))) (KeyGivenUnder (writable_by (earlier t)) S (undeclared (later m u)) (bodies_in (earlier t))) (frames_in (earlier t)) (frames_in (later m u))
   -- each body does what the one does that it was
   pub bodies : BodiesAreSame (earlier t) (later m u)
@@ -122,8 +126,8 @@ pub record IsFaithfulUnder (S : BodySets) (Rests : Tree → Type 0) (o : Compres
 abbrev pub IsFaithfulWith : (Tree → Type 0) → CompressOptions → Minified → Tree → Tree → Type 0
 IsFaithfulWith = IsFaithfulUnder none_steady
 
--- the value is a program, the answer's value is one, and the later one is faithful to the earlier, with what S says is known of the bodies of
--- the later one
+-- the value is a program, the answer's value is one, and the later one is faithful to the earlier,
+-- with what S says is known of the bodies of the later one
 pub record FaithfulUnder (S : Tree → BodySets) (Rests : Tree → Type 0) (d : Data) (o : CompressOptions) (m : Minified) : Type 0 where
   pub input : Tree
   pub output : Tree
@@ -148,7 +152,8 @@ known_of false u = none_steady
 abbrev pub IsRewritten : CompressOptions → Tree → Type 0
 IsRewritten o u = HasNoRedex (switches o) (writable_in u) Elsewhere u
 
--- nothing is left at all, where what was known of bodies stayed so, and otherwise nothing but what rests on that
+-- nothing is left at all, where what was known of bodies stayed so, and otherwise nothing but what
+-- rests on that
 abbrev pub IsRewrittenBy : Bool → CompressOptions → Tree → Type 0
 IsRewrittenBy true o u = IsRewritten o u × IsSteadilyRewritten o u
 IsRewrittenBy false o u = IsRewritten o u

@@ -23,9 +23,9 @@ use Rattle.mini_model.specs.Weight.{capped, program_weight}
 use Rattle.mini_peephole.specs.declared.minify.Minified.{Minified}
 use Rattle.mini_peephole.specs.declared.minify.Weighed.{Weighed}
 
--- passes of a rule, which over a program may make G of a tree and has nothing to do where D is, lead from the tree to the one
--- that was written; the answer has the numbers of its nodes, the program's first, and those of the symbols that its scopes
--- declare
+-- passes of a rule, which over a program may make G of a tree and has nothing to do where D is,
+-- lead from the tree to the one that was written; the answer has the numbers of its nodes, the
+-- program's first, and those of the symbols that its scopes declare
 pub record IsWritten (G : Tree → Position → Tree → Tree → Type 0) (D : Tree → Position → Tree → Type 0) (input : Tree) (bound : ℕ) (m : Minified) : Type 0 where
   pub output : Tree
   pub passes : MakesPasses G D input output bound m.passes m.settled
@@ -33,8 +33,8 @@ pub record IsWritten (G : Tree → Position → Tree → Tree → Type 0) (D : T
   pub kept : m.kept ≡ 0 ∷ numbers output
   pub symbols : m.symbols ≡ symbol_numbers (declared_symbols output)
 
--- Passes of the rules, as the options have them, lead from the tree to the one that was written: of those that rest on what is known of bodies
--- where that stayed so to the end, as is told
+-- Passes of the rules, as the options have them, lead from the tree to the one that was written: of
+-- those that rest on what is known of bodies where that stayed so to the end, as is told
 pub record IsRewriting (input : Tree) (o : CompressOptions) (m : Minified) : Type 0 where
   pub output : Tree
   pub passes : MakesBoth (AllGives o) (SteadyGives o) (AllRests o) (SteadyRests o) StaysTold input output o.passes m.passes m.settled m.steady
@@ -72,8 +72,8 @@ pub record HasEarlyError (d : Data) (o : CompressOptions) (f : Fault) : Type 0 w
   pub read : program_at o.max_depth d ≡ Ok (program, numbers)
   pub early : early_fault program ≡ Some f
 
--- the value is no program that is read to the depth of the options, and this is its first defect; or it is one with this
--- early error, its first
+-- the value is no program that is read to the depth of the options, and this is its first defect;
+-- or it is one with this early error, its first
 abbrev pub HasDefect : Data → CompressOptions → Fault → Type 0
 HasDefect d o f = IsUnread d o f ⊎ HasEarlyError d o f
 

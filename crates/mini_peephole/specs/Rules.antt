@@ -1,5 +1,5 @@
--- What the rules of the minifier make of a tree, and where they have nothing to do, by the options and over the program as a pass
--- began.
+-- What the rules of the minifier make of a tree, and where they have nothing to do, by the options
+-- and over the program as a pass began.
 use Rattle.mini_model.specs.declared.place.Position.{Position}
 use Rattle.mini_model.specs.Tree.{Tree}
 use Rattle.mini_tree.specs.declared.options.CompressOptions.{CompressOptions}
@@ -49,7 +49,8 @@ AllGives o q = Either (Gives o q) (Either (unused.Gives o q) (Either (names.Give
 abbrev pub AllRests : CompressOptions → Tree → Position → Tree → Type 0
 AllRests o q = Both (Rests o q) (Both (unused.Rests o q) (Both (names.RestsUnder o q) (Both catches.Rests (Both (writes.Rests q) (lets.Rests q)))))
 
--- and of those that rest on what is known of the bodies of the program, which act where no other does
+-- and of those that rest on what is known of the bodies of the program, which act where no other
+-- does
 abbrev pub SteadyGives : CompressOptions → Tree → Position → Tree → Tree → Type 0
 SteadyGives o q = SteadyRewrites (told_in q) (allowed_in o q)
 

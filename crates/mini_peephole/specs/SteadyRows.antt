@@ -1,7 +1,9 @@
--- Which rows rest on what is known of the bodies of a program, S, where W says which variables can be written and what the options let happen: those of the own code of functions, of
--- arrow functions, of the program itself, of static blocks and of inner expressions, over what keeps its value and over lexical names that no event shows, those of a name of a
--- function, an arrow function, a module or a static block that is read once, or of a block in the own code of any of them, and those of a `var`
--- further inside its body, with or without such names before the read.
+-- Which rows rest on what is known of the bodies of a program, S, where W says which variables can
+-- be written and what the options let happen: those of the own code of functions, of arrow
+-- functions, of the program itself, of static blocks and of inner expressions, over what keeps its
+-- value and over lexical names that no event shows, those of a name of a function, an arrow
+-- function, a module or a static block that is read once, or of a block in the own code of any of
+-- them, and those of a `var` further inside its body, with or without such names before the read.
 use Rattle.mini_model.specs.declared.place.Position.{Position}
 use Rattle.mini_model.specs.declared.place.Position.TheVariants.{Elsewhere}
 use Rattle.mini_model.specs.Tree.{Tree}
@@ -58,6 +60,7 @@ PastRests S W = Both (Both (Both (RestsPast S W) (RestsPastArrow S W)) (Both (Re
 abbrev pub IsSteadilySettled : BodySets → Liberties → Position → Tree → Type 0
 IsSteadilySettled S W = Both (Both (CodeRests SteadyRow S) (CodeRests LexicalRows S)) (Both (PastRests S W) (Both (RestsInside W) (RestsPastInside S W)))
 
--- and nowhere in a program, by what a look at it tells of its bodies and of what can be written in it, and by the options
+-- and nowhere in a program, by what a look at it tells of its bodies and of what can be written in
+-- it, and by the options
 abbrev pub IsSteadilyRewritten : CompressOptions → Tree → Type 0
 IsSteadilyRewritten o u = Everywhere (IsSteadilySettled (told_in u) (allowed_in o u)) Elsewhere u

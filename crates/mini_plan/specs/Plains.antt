@@ -1,4 +1,5 @@
--- The table in three parts: the types whose nodes have one shape without a text, their children, and the other types.
+-- The table in three parts: the types whose nodes have one shape without a text, their children,
+-- and the other types.
 use Rattle.std.specs.Prelude.{List, [], ◌∷◌, Bool, true, false, Option, Some, None, is_some, codes}
 use Rattle.serde_json.specs.Data.{Data}
 use Rattle.mini_model.specs.declared.shape.Shape.{Shape}

@@ -1,4 +1,5 @@
--- What is built anew of the same parts keeps all that a program has to keep, but for its meaning and its shape.
+-- What is built anew of the same parts keeps all that a program has to keep, but for its meaning
+-- and its shape.
 use Rattle.std.specs.Prelude.{ℕ, ◌≤◌, ◌≡◌, ◌⊎◌, List, [], ◌∷◌, Bool, true, false, Contains, None}
 use Rattle.mini_model.specs.declared.name.Name.{Name}
 use Rattle.mini_model.specs.declared.place.Position.{Position}
@@ -35,7 +36,8 @@ use Rattle.mini_kept.specs.Standing.{Stands}
 use Rattle.mini_rows.specs.Lists.{is_unscoped, are_unscoped, return_statement, throw_statement, Row66Empty, Row66Joined, Row79, Row73, Row73Bare, Row76, InList}
 use Rattle.mini_rows.specs.Sketches.{Sketch, Items, Parts, Hole, Part, Stretch, Leaps, AsWhole, AsValue, parts_of, list_at, filled, items_filled, Free, rearranges_expression, rearranges_statement, rearranges_list, rearranges_list_once}
 
--- of one node and what is written for it: what a lawful relation keeps of it, where F says what it keeps of what a write of a variable does
+-- of one node and what is written for it: what a lawful relation keeps of it, where F says what it
+-- keeps of what a write of a variable does
 pub record KeptBy (F : Position → Tree → Tree → Type 0) (p : Position) (n w : Tree) : Type 0 where
   pub keeps : (strict : Bool) (s : Slot) → fits_place p s ≡ true → fits strict s n ≡ true → KeepsLoosely p n w
   pub piece : is_piece (shape_of n) ≡ false
@@ -96,12 +98,14 @@ abbrev pub ExpressionsArranged : Type 0
 ExpressionsArranged =
     (f : Free) (ps : Parts) → AreFree ps f → (s r : Sketch) → rearranges_expression f s r ≡ true → (q : Seat) (n w : Tree) → n ≡ filled ps s → w ≡ filled ps r → KeptAt (Expr q) n w
 
--- so is one of which any parts are dropped, where it is no parameter, but for what a write of each variable does
+-- so is one of which any parts are dropped, where it is no parameter, but for what a write of each
+-- variable does
 abbrev pub ExpressionsArrangedLoosely : Type 0
 ExpressionsArrangedLoosely =
     (f : Free) (ps : Parts) → AreLoose ps f → (s r : Sketch) → rearranges_expression f s r ≡ true → (q : Seat) (n w : Tree) → n ≡ filled ps s → w ≡ filled ps r → InnerKept n w → FixedKept (Expr q) n w → KeptLoosely (Expr q) n w
 
--- a statement that is built anew of the parts of another, which keep their order where they declare names
+-- a statement that is built anew of the parts of another, which keep their order where they declare
+-- names
 abbrev pub StatementsArranged : Type 0
 StatementsArranged =
     (f : Free) (ps : Parts) → AreFree ps f → (s r : Sketch) → rearranges_statement f s r ≡ true → (q : StmtSeat) (n w : Tree) → n ≡ filled ps s → w ≡ filled ps r → KeptAt (Stmt q) n w
@@ -175,8 +179,8 @@ NeighboursRow a b = Row66Empty a b ⊎ (Row66Joined a b ⊎ (Row79 a b ⊎ (Row7
 abbrev pub NeighboursKept : Type 0
 NeighboursKept = (n w : Tree) → InList NeighboursRow n w → KeptAt StatementList n w
 
--- a relation is lawful if each of its instances is kept, means the same and keeps its shape, where it is made at expressions,
--- statements and lists of statements, in the slots where a body has them
+-- a relation is lawful if each of its instances is kept, means the same and keeps its shape, where
+-- it is made at expressions, statements and lists of statements, in the slots where a body has them
 abbrev pub KeptIsLawful : (Position → Tree → Tree → Type 0) → Type 0
 KeptIsLawful R =
     MeansSame R → KeepsShapes R → ((p : Position) (n w : Tree) → R p n w → is_rewritten_place p ≡ true)

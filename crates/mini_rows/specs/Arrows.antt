@@ -1,4 +1,5 @@
--- The row of arrow functions: a shape and what is written in its place, with the JavaScript before and after.
+-- The row of arrow functions: a shape and what is written in its place, with the JavaScript before
+-- and after.
 use Rattle.std.specs.Prelude.{◌≡◌, ◌<◌, ℕ, false, []}
 use Rattle.mini_model.specs.declared.place.Position.{Position}
 use Rattle.mini_model.specs.declared.place.Position.TheVariants.{Expr}

@@ -1,5 +1,6 @@
--- Rows of expressions of which only the truth is asked, and of conditionals one of whose branches is a boolean, as equations: each
--- is a shape and what is written in its place, with the JavaScript before and after. No order of rewriting is meant.
+-- Rows of expressions of which only the truth is asked, and of conditionals one of whose branches
+-- is a boolean, as equations: each is a shape and what is written in its place, with the JavaScript
+-- before and after. No order of rewriting is meant.
 use Rattle.std.specs.Prelude.{◌≡◌, ◌<◌, ◌⊎◌, Bool, true, false, not, ◌&&◌, ◌||◌, pos, Some, if◌then◌else◌}
 use Rattle.mini_model.specs.declared.operator.LogicalOperator.{LogicalOperator}
 use Rattle.mini_model.specs.declared.operator.LogicalOperator.TheVariants.{Or, And}
@@ -42,7 +43,8 @@ abbrev pub giving : Bool → LogicalOperator
 giving true = Or
 giving false = And
 
--- a consequent is taken where the test is true, an alternate where it is false: so the test is negated before it gives the other truth
+-- a consequent is taken where the test is true, an alternate where it is false: so the test is
+-- negated before it gives the other truth
 abbrev pub is_turned : Bool → Bool → Bool
 is_turned true truth = not truth
 is_turned false truth = truth
@@ -52,7 +54,8 @@ abbrev pub tested : Seat → Bool → Tree → Tree
 tested s true a = not_of s a
 tested s false a = a
 
--- `a || b` of `a ? true : b`, `!a && b` of `a ? false : b`, `!a || b` of `a ? b : true`, and `a && b` of `a ? b : false`
+-- `a || b` of `a ? true : b`, `!a && b` of `a ? false : b`, `!a || b` of `a ? b : true`, and
+-- `a && b` of `a ? b : false`
 abbrev pub joined : Seat → Bool → Bool → Tree → Tree → Tree
 joined s is_consequent truth a b = logical (giving truth) (tested (left_operand_seat (giving truth) s) (is_turned is_consequent truth) a) b
 
@@ -65,7 +68,8 @@ pub record Row24 (s : Seat) (n w : Tree) : Type 0 where
   pub shape : n ≡ negated_digit truth
   pub written : w ≡ digit truth
 
--- 25: `a && 1` becomes `a`, and `a || 0` does: the right side is effect-free, and its truth would be that of `a`
+-- 25: `a && 1` becomes `a`, and `a || 0` does: the right side is effect-free, and its truth would
+-- be that of `a`
 pub record Row25 (s : Seat) (n w : Tree) : Type 0 where
   pub operator : LogicalOperator
   pub left : Tree
@@ -93,15 +97,16 @@ pub record KnownBranch (s : Seat) (n w : Tree) : Type 0 where
   pub shape : n ≡ chosen is_consequent test branch other
   pub written : w ≡ joined s is_consequent truth test other
 
--- 26: `a ? 1 : b` becomes `a || b`, `a ? 0 : b` `!a && b`, `a ? b : 1` `!a || b`, and `a ? b : 0` `a && b`
+-- 26: `a ? 1 : b` becomes `a || b`, `a ? 0 : b` `!a && b`, `a ? b : 1` `!a || b`, and `a ? b : 0`
+-- `a && b`
 pub record Row26 (s : Seat) (n w : Tree) : Type 0 where
   pub form : KnownBranch s n w
   pub asked : s.boolean ≡ true
 
 -- ---- where the value is asked
 
--- 47: `a ? false : b` becomes `!a && b`, and `a ? b : true` `!a || b`; where each value of a is a boolean, `a ? true : b` becomes
--- `a || b`, and `a ? b : false` `a && b`
+-- 47: `a ? false : b` becomes `!a && b`, and `a ? b : true` `!a || b`; where each value of a is a
+-- boolean, `a ? true : b` becomes `a || b`, and `a ? b : false` `a && b`
 pub record Row47 (s : Seat) (n w : Tree) : Type 0 where
   pub form : KnownBranch s n w
   pub boolean : is_boolean_kind (kind form.branch) ≡ true
@@ -113,13 +118,14 @@ pub record Row47 (s : Seat) (n w : Tree) : Type 0 where
 abbrev pub is_truth : Tree → Bool
 is_truth a = is_boolean_kind (kind a) && stands a
 
--- what has the truth of a as its value (ECMA-262, "ToBoolean"): a itself, where its value is a boolean, or `!!a`; and what has the other
--- truth, `!a`
+-- what has the truth of a as its value (ECMA-262, "ToBoolean"): a itself, where its value is a
+-- boolean, or `!!a`; and what has the other truth, `!a`
 abbrev pub truth_of : Bool → Tree → Tree
 truth_of true a = if is_truth a then a else negation (negation a)
 truth_of false a = negation a
 
--- 47: `a ? true : false` becomes `a` where each value of a is a boolean, and else `!!a`; `a ? false : true` becomes `!a`
+-- 47: `a ? true : false` becomes `a` where each value of a is a boolean, and else `!!a`;
+-- `a ? false : true` becomes `!a`
 pub record Row47Both (n w : Tree) : Type 0 where
   pub truth : Bool
   pub test : Tree
@@ -147,8 +153,8 @@ abbrev pub as_boolean : Bool → Tree → Tree
 as_boolean true a = truth_of true a
 as_boolean false a = not_of plus_seat a
 
--- 48: `a ? 1 : 0` becomes `+a` where each value of a is a boolean, and else `+!!a`; `a ? 0 : 1` becomes `+!a` (ECMA-262, "ToNumber": true is
--- 1, and false is 0)
+-- 48: `a ? 1 : 0` becomes `+a` where each value of a is a boolean, and else `+!!a`; `a ? 0 : 1`
+-- becomes `+!a` (ECMA-262, "ToNumber": true is 1, and false is 0)
 pub record Row48 (n w : Tree) : Type 0 where
   pub truth : Bool
   pub test : Tree

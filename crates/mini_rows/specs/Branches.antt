@@ -1,5 +1,6 @@
--- Rows of `if`, of blocks as branches and as bodies of loops, of a `switch`, and of `return` without a value: each is a shape and what is
--- written in its place, with the JavaScript before and after.
+-- Rows of `if`, of blocks as branches and as bodies of loops, of a `switch`, and of `return`
+-- without a value: each is a shape and what is written in its place, with the JavaScript before and
+-- after.
 use Rattle.std.specs.Prelude.{◌≡◌, ◌⊎◌, ◌<◌, Bool, true, false, not, [], Some, if◌then◌else◌}
 use Rattle.mini_model.specs.declared.operator.LogicalOperator.TheVariants.{Or, And}
 use Rattle.mini_model.specs.declared.operator.UnaryOperator.TheVariants.{Void}
@@ -97,8 +98,9 @@ abbrev pub keeps_block : Surrounding → Tree → Bool
 keeps_block (Consequent a u) c = has_else c
 keeps_block k c = false
 
--- `if (a) { b(); } else { c(); }` becomes `if (a) b(); else c();`, a branch at a time, and `while (a) { b(); }` becomes
--- `while (a) b();`: a block of one statement that isn't scoped becomes that statement
+-- `if (a) { b(); } else { c(); }` becomes `if (a) b(); else c();`, a branch at a time, and
+-- `while (a) { b(); }` becomes `while (a) b();`: a block of one statement that isn't scoped becomes
+-- that statement
 pub record Row79 (n w : Tree) : Type 0 where
   pub place : Surrounding
   pub statement : Tree
@@ -119,7 +121,8 @@ is_loop (Consequent a u) = false
 is_loop (Alternate a s) = false
 is_loop k = true
 
--- `while (a) { b(); continue; }` becomes `while (a) { b(); }`: where the body ends the loop goes on by itself
+-- `while (a) { b(); continue; }` becomes `while (a) { b(); }`: where the body ends the loop goes on
+-- by itself
 pub record Row78Block (n w : Tree) : Type 0 where
   pub place : Surrounding
   pub before : Trees
@@ -136,13 +139,15 @@ pub record Row78Whole (n w : Tree) : Type 0 where
 
 -- ---- 78, of a `do` that is run once
 
--- a test that does nothing but give a value that is false: `0`, `""`, `!1`, `null`, `void 0`, the name `undefined`, which no scope declares
+-- a test that does nothing but give a value that is false: `0`, `""`, `!1`, `null`, `void 0`, the
+-- name `undefined`, which no scope declares
 pub record IsFalse (t : Tree) : Type 0 where
   pub value : Value
   pub fails : truth value ≡ false
   pub is : operand_value t ≡ Some value
 
--- `do { a(); break; } while (0);` becomes `do { a(); } while (0);`: behind its body the loop ends either way
+-- `do { a(); break; } while (0);` becomes `do { a(); } while (0);`: behind its body the loop ends
+-- either way
 pub record Row78Once (n w : Tree) : Type 0 where
   pub test : Tree
   pub before : Trees
@@ -230,7 +235,8 @@ pub record Row83Alone (n w : Tree) : Type 0 where
   pub shape : n ≡ if_alone a empty
   pub written : w ≡ expression_statement a
 
--- `if (a); else return b;` becomes `if (!a) return b;`, and what comes to be an `if` with `else` as a consequent has a block
+-- `if (a); else return b;` becomes `if (!a) return b;`, and what comes to be an `if` with `else` as
+-- a consequent has a block
 pub record Row83Else (n w : Tree) : Type 0 where
   pub a : Tree
   pub empty : Tree
@@ -248,7 +254,8 @@ pub record Row83Nested (n w : Tree) : Type 0 where
   pub shape : n ≡ if_alone a (if_alone b s)
   pub written : w ≡ if_alone (logical And a b) s
 
--- `if (a) if (b) c; else d;`, where the `else` is that of the second `if`, becomes `if (a) { if (b) c; else d; }`
+-- `if (a) if (b) c; else d;`, where the `else` is that of the second `if`, becomes
+-- `if (a) { if (b) c; else d; }`
 pub record Row83Block (n w : Tree) : Type 0 where
   pub a : Tree
   pub c : Tree

@@ -1,4 +1,5 @@
--- Rows of `switch`: each is a shape and what is written in its place, with the JavaScript before and after.
+-- Rows of `switch`: each is a shape and what is written in its place, with the JavaScript before
+-- and after.
 use Rattle.std.specs.Prelude.{◌≡◌, ◌⊎◌, ◌&&◌, ◌||◌, ℕ, suc, Bool, true, false, List, [], Option, None, if◌then◌else◌}
 use Rattle.mini_model.specs.declared.operator.BinaryOperator.TheVariants.{StrictEquality}
 use Rattle.mini_model.specs.declared.shape.Shape.{Shape}
@@ -34,8 +35,8 @@ bare_break = node shape.BreakStatement [] 0 (absent ▸ none)
 abbrev pub ended : Bool → Trees → Trees
 ended b ts = if b then append ts (bare_break ▸ none) else ts
 
--- what a `break` without a label in a child ends (ECMA-262, "BreakStatement"): a loop, a `switch` and the end of a function are
--- nearer than what stands around the node
+-- what a `break` without a label in a child ends (ECMA-262, "BreakStatement"): a loop, a `switch`
+-- and the end of a function are nearer than what stands around the node
 abbrev pub lets_out : Turn → Bool
 lets_out turn.InLoop = false
 lets_out turn.InSwitch = false
@@ -62,8 +63,9 @@ NeverBreaksOut = (t : Tree) → breaks_out t ≡ false → (e : Environment) (d 
 
 -- ---- 80
 
--- `switch (a) { case 1: b(); break; }` becomes `if (a === 1) { b(); }`, with and without the last `break;`: the test writes a value
--- out, nothing in the case is scoped, and no other `break` leaves it
+-- `switch (a) { case 1: b(); break; }` becomes `if (a === 1) { b(); }`, with and without the last
+-- `break;`: the test writes a value out, nothing in the case is scoped, and no other `break` leaves
+-- it
 pub record Row80Case (n w : Tree) : Type 0 where
   pub discriminant : Tree
   pub test : PlainForm
@@ -86,8 +88,9 @@ pub record Row80Default (n w : Tree) : Type 0 where
   pub shape : n ≡ one_case discriminant absent (ended is_ended statements)
   pub written : w ≡ block (expression_statement discriminant ▸ statements)
 
--- `switch (a) { default: let x = b(); c(x); break; }` becomes `{ a; { let x = b(); c(x); } }`: the discriminant is evaluated outside of the scope
--- of the cases (ECMA-262, "The switch Statement"), so it stands outside of the block that has their names
+-- `switch (a) { default: let x = b(); c(x); break; }` becomes `{ a; { let x = b(); c(x); } }`: the
+-- discriminant is evaluated outside of the scope of the cases (ECMA-262, "The switch Statement"),
+-- so it stands outside of the block that has their names
 pub record Row80Scoped (n w : Tree) : Type 0 where
   pub discriminant : Tree
   pub statements : Trees

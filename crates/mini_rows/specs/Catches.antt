@@ -1,4 +1,5 @@
--- The row of what a `catch` catches: a shape and what is written in its place, with the JavaScript before and after.
+-- The row of what a `catch` catches: a shape and what is written in its place, with the JavaScript
+-- before and after.
 use Rattle.std.specs.Prelude.{◌≡◌, ◌<◌, ℕ, Bool, false, List, []}
 use Rattle.mini_model.specs.declared.place.Position.{Position}
 use Rattle.mini_model.specs.declared.place.Position.TheVariants.{Elsewhere}
@@ -15,8 +16,9 @@ use Rattle.mini_rows.specs.Unused.{names, resolved}
 abbrev pub handler : Tree → Tree → Tree
 handler parameter body = node shape.CatchClause [] 0 (parameter ▸ (body ▸ none))
 
--- 63: `catch (e) { f(); }` becomes `catch { f(); }`, where nothing in the body has the symbol of the name or its spelling, as a `var` of
--- its name would, and no direct eval stands there, which would see it
+-- 63: `catch (e) { f(); }` becomes `catch { f(); }`, where nothing in the body has the symbol of
+-- the name or its spelling, as a `var` of its name would, and no direct eval stands there, which
+-- would see it
 pub record Row63 (n w : Tree) : Type 0 where
   pub spelling : List ℕ
   pub symbol : ℕ

@@ -1,5 +1,5 @@
--- The rows of optional chains whose first `?.` stands over what is known to be null or undefined: each ends there
--- (ECMA-262, "Optional Chains").
+-- The rows of optional chains whose first `?.` stands over what is known to be null or undefined:
+-- each ends there (ECMA-262, "Optional Chains").
 use Rattle.std.specs.Prelude.{◌≡◌, ◌⊎◌, ◌&&◌, Bool, true, false, List, [], ◌∷◌}
 use Rattle.mini_model.specs.Tree.{Tree, Trees, none, ◌▸◌, listed}
 use Rattle.mini_terms.specs.Folds.{is_effect_free}
@@ -14,7 +14,8 @@ use Rattle.mini_rows.specs.ChainLinks.{Marked, marked, links_over, are_calm_over
 abbrev pub is_nothing : Tree → Bool
 is_nothing t = is_nullish_kind (kind t)
 
--- what stands in a link besides what is before it: a property's name, a key, or the list of arguments
+-- what stands in a link besides what is before it: a property's name, a key, or the list of
+-- arguments
 abbrev pub key_of : Link → Tree
 key_of (a_member k) = k
 key_of (a_computed k) = k
@@ -29,8 +30,9 @@ abbrev pub enclose : Trees → Bool
 enclose none = true
 enclose (t ▸ ts) = encloses false t && enclose ts
 
--- 10: `null?.a.b`, `undefined?.a(function () {})` and `(b ? void 0 : undefined)?.a` become `void 0`, since the chain ends at its first `?.`, and
--- what stands before that has no effect; where what goes takes along the names in it that can't be written
+-- 10: `null?.a.b`, `undefined?.a(function () {})` and `(b ? void 0 : undefined)?.a` become
+-- `void 0`, since the chain ends at its first `?.`, and what stands before that has no effect;
+-- where what goes takes along the names in it that can't be written
 pub record Row10 (n w : Tree) : Type 0 where
   pub others : List Marked
   pub link : Link
@@ -43,8 +45,9 @@ pub record Row10 (n w : Tree) : Type 0 where
   pub shape : n ≡ chain (links_over others (linked true link base))
   pub written : w ≡ void_zero
 
--- 10: `(void f())?.a.b.c.d` becomes `void f(), void 0`, where what stands before the first `?.` has an effect: it stays, and ends no chain around
--- it; where what goes in the links takes along such names
+-- 10: `(void f())?.a.b.c.d` becomes `void f(), void 0`, where what stands before the first `?.` has
+-- an effect: it stays, and ends no chain around it; where what goes in the links takes along such
+-- names
 pub record Row10Then (n w : Tree) : Type 0 where
   pub others : List Marked
   pub link : Link

@@ -1,5 +1,5 @@
--- The rows of optional chains by what stands before their `?.`: a chain of its own, or a value that is known not to end it
--- (ECMA-262, "Optional Chains").
+-- The rows of optional chains by what stands before their `?.`: a chain of its own, or a value that
+-- is known not to end it (ECMA-262, "Optional Chains").
 use Rattle.std.specs.Prelude.{◌≡◌, ◌⊎◌, Bool, true, false, not, ◌&&◌, ◌||◌, List, [], ◌∷◌}
 use Rattle.mini_model.specs.declared.seat.Seat.{Seat}
 use Rattle.mini_model.specs.declared.shape.Shape.{Shape}
@@ -15,7 +15,8 @@ use Rattle.mini_rows.specs.Chains.{is_calm, Link, linked, is_calm_link, chain}
 abbrev pub is_there : Tree → Bool
 is_there t = is_known (kind t) && not (is_nullish_kind (kind t))
 
--- where it is called its value is what is called, with no `this`: what is read by its value alone, a function, a class or a BigInt
+-- where it is called its value is what is called, with no `this`: what is read by its value alone,
+-- a function, a class or a BigInt
 abbrev pub is_lone_by : Shape → Bool
 is_lone_by (shape.Function false is_generator directives) = true
 is_lone_by (shape.Class false) = true
@@ -52,7 +53,8 @@ chain_if false t = t
 
 -- ---- rows
 
--- 64: `(a?.b)?.c` becomes `a?.b?.c`, since the outer `?.` ends where the inner one does; whatever links stand outside of it
+-- 64: `(a?.b)?.c` becomes `a?.b?.c`, since the outer `?.` ends where the inner one does; whatever
+-- links stand outside of it
 pub record Row64 (n w : Tree) : Type 0 where
   pub others : List Marked
   pub link : Link
@@ -63,8 +65,9 @@ pub record Row64 (n w : Tree) : Type 0 where
   pub shape : n ≡ chain (links_over others (linked true link (chain inner)))
   pub written : w ≡ chain (links_over others (linked true link inner))
 
--- 11: `[1]?.length` becomes `[1].length`, and `(() => {})?.().a?.b` becomes `(() => {})().a?.b`: what stands before the first `?.` is no
--- undefined and no null. The chain goes with the last `?.`, but as the callee of `new`, where a call would have parentheses too
+-- 11: `[1]?.length` becomes `[1].length`, and `(() => {})?.().a?.b` becomes `(() => {})().a?.b`:
+-- what stands before the first `?.` is no undefined and no null. The chain goes with the last `?.`,
+-- but as the callee of `new`, where a call would have parentheses too
 pub record Row11 (s : Seat) (n w : Tree) : Type 0 where
   pub others : List Marked
   pub link : Link

@@ -1,5 +1,5 @@
--- The row of conditionals that ask whether a name is null or undefined before they read what it holds: an optional chain does the same
--- (ECMA-262, "Optional Chains").
+-- The row of conditionals that ask whether a name is null or undefined before they read what it
+-- holds: an optional chain does the same (ECMA-262, "Optional Chains").
 use Rattle.std.specs.Prelude.{◌≡◌, Bool, true, false, not, ◌&&◌, ◌||◌, List, [], ◌∷◌, is_none, codes}
 use Rattle.mini_model.specs.declared.name.Name.{Name}
 use Rattle.mini_model.specs.declared.operator.BinaryOperator.TheVariants as binary_operator
@@ -13,8 +13,9 @@ use Rattle.mini_rows.specs.Spellings.{IsUndefined, binary, static_member, comput
 
 -- ---- what never ends a chain that it stands in
 
--- what runs inside it, if anything does, ends no chain around it: a name, a constant, `this`, what is absent, a function or a class, what the
--- world evaluates whole, a pattern that assigns, and a chain of its own
+-- what runs inside it, if anything does, ends no chain around it: a name, a constant, `this`, what
+-- is absent, a function or a class, what the world evaluates whole, a pattern that assigns, and a
+-- chain of its own
 abbrev pub is_closed_shape : Shape → Bool
 is_closed_shape shape.Absent = true
 is_closed_shape shape.Identifier = true
@@ -43,7 +44,8 @@ is_closed_shape shape.ObjectAssignmentTarget = true
 is_closed_shape shape.ArrayAssignmentTarget = true
 is_closed_shape h = false
 
--- it ends none where its parts end none: a link without `?.`, an operator, an array, an object or a template, and a list
+-- it ends none where its parts end none: a link without `?.`, an operator, an array, an object or a
+-- template, and a list
 abbrev pub is_open_shape : Shape → Bool
 is_open_shape shape.Listed = true
 is_open_shape shape.InnerExpression = true
@@ -97,7 +99,8 @@ linked is_optional (a_member k) t = static_member is_optional t k
 linked is_optional (a_computed k) t = computed_member is_optional t k
 linked is_optional (a_call ts) t = call is_optional t ts
 
--- links over x, the last one first, of which the first over x may be optional: `x.k(a)`, or `x?.k(a)`
+-- links over x, the last one first, of which the first over x may be optional: `x.k(a)`, or
+-- `x?.k(a)`
 abbrev pub spine : Bool → Tree → Link → List Link → Tree
 spine is_optional x l [] = linked is_optional l x
 spine is_optional x l (m ∷ ls) = linked false l (spine is_optional x m ls)
@@ -122,9 +125,11 @@ abbrev pub if_nullish : Bool → Name → Tree → Tree → Tree
 if_nullish true x a b = conditional (binary binary_operator.Equality (identifier x) null_literal) a b
 if_nullish false x a b = conditional (binary binary_operator.Inequality (identifier x) null_literal) b a
 
--- 46: `x == null ? void 0 : x.m` becomes `x?.m`, where a scope declares x, and it isn't named `eval` (`eval(a)` is a direct call); and so do
--- `x.m(a)` and what else is of members and calls over x, and `x != null ? x.m : void 0`. As a callee and under `delete` the chain would be the
--- reference of its last link, and stands behind a `0`: `(x == null ? void 0 : x.m)()` becomes `(0, x?.m)()`
+-- 46: `x == null ? void 0 : x.m` becomes `x?.m`, where a scope declares x, and it isn't named
+-- `eval` (`eval(a)` is a direct call); and so do `x.m(a)` and what else is of members and calls
+-- over x, and `x != null ? x.m : void 0`. As a callee and under `delete` the chain would be the
+-- reference of its last link, and stands behind a `0`: `(x == null ? void 0 : x.m)()` becomes
+-- `(0, x?.m)()`
 pub record Row46Chain (s : Seat) (n w : Tree) : Type 0 where
   pub equal : Bool
   pub name : Name

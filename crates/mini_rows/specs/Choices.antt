@@ -1,5 +1,6 @@
--- Rows of conditionals, logical expressions and assignments that are written shorter of the same parts, as equations: each is a
--- shape and what is written in its place. No order of rewriting is meant.
+-- Rows of conditionals, logical expressions and assignments that are written shorter of the same
+-- parts, as equations: each is a shape and what is written in its place. No order of rewriting is
+-- meant.
 use Rattle.std.specs.Prelude.{◌≡◌, ◌<◌, ◌⊎◌, ◌||◌, ◌&&◌, ℕ, ℤ, List, [], Bool, true, false, not, nat_eq, Option, Some, None, is_none, codes}
 use Rattle.mini_model.specs.declared.name.Name.{Name}
 use Rattle.mini_model.specs.declared.operator.AssignmentOperator.{AssignmentOperator}
@@ -50,8 +51,8 @@ is_same_operator And And = true
 is_same_operator Coalesce Coalesce = true
 is_same_operator _ _ = false
 
--- it is an expression of this operator, which would need parentheses on the right of it; or an inner expression, which stands
--- in a carried node alone
+-- it is an expression of this operator, which would need parentheses on the right of it; or an
+-- inner expression, which stands in a carried node alone
 abbrev pub is_grouped : LogicalOperator → Tree → Bool
 is_grouped o (node (shape.LogicalExpression p) xs n ts) = is_same_operator p o
 is_grouped o (node shape.InnerExpression xs n ts) = true
@@ -62,7 +63,8 @@ abbrev pub joined : LogicalOperator → Tree → Trees → Tree
 joined o b none = b
 joined o b (c ▸ cs) = logical o (joined o b cs) c
 
--- the operators of an equality, where it is told that there is one, and of an inequality: strict, loose, and what joins two
+-- the operators of an equality, where it is told that there is one, and of an inequality: strict,
+-- loose, and what joins two
 abbrev pub strictly : Bool → BinaryOperator
 strictly true = binary_operator.StrictEquality
 strictly false = binary_operator.StrictInequality
@@ -103,7 +105,8 @@ computing _ = None
 
 -- The rows
 
--- 39: `a && (b && c)` becomes `a && b && c`, and so of `||` and `??`, however many operands stand on the right
+-- 39: `a && (b && c)` becomes `a && b && c`, and so of `||` and `??`, however many operands stand
+-- on the right
 pub record Row39 (n w : Tree) : Type 0 where
   pub operator : LogicalOperator
   pub a : Tree
@@ -114,7 +117,8 @@ pub record Row39 (n w : Tree) : Type 0 where
   pub shape : n ≡ logical operator a (joined operator b (last ▸ others))
   pub written : w ≡ joined operator (logical operator a b) (last ▸ others)
 
--- 37: `x === null || x === undefined` becomes `x == null`, and `x !== null && x !== undefined` becomes `x != null`, in any order
+-- 37: `x === null || x === undefined` becomes `x == null`, and `x !== null && x !== undefined`
+-- becomes `x != null`, in any order
 pub record Row37 (n w : Tree) : Type 0 where
   pub equal : Bool
   pub name : Name
@@ -184,8 +188,9 @@ member_on t (Numbered k) = computed_member t (leaf (shape.NumericLiteral k))
 abbrev pub member_of : Name → Key → Tree
 member_of x k = member_on (identifier x) k
 
--- 35: `x.k = x.k + b` becomes `x.k += b`, where a scope declares x: nothing happens between the two reads of it (ECMA-262, "Assignment
--- Operators": the target is evaluated first), and a key that is written out is converted without an effect
+-- 35: `x.k = x.k + b` becomes `x.k += b`, where a scope declares x: nothing happens between the two
+-- reads of it (ECMA-262, "Assignment Operators": the target is evaluated first), and a key that is
+-- written out is converted without an effect
 pub record Row35Member (n w : Tree) : Type 0 where
   pub operator : BinaryOperator
   pub combined : AssignmentOperator
@@ -197,8 +202,8 @@ pub record Row35Member (n w : Tree) : Type 0 where
   pub shape : n ≡ assignment assigning.Assign (member_of name key) (binary operator (member_of name key) b)
   pub written : w ≡ assignment combined (member_of name key) b
 
--- whether a choice may come after the name is resolved, and, where the operator computes, read: told whether a scope declares the name, and
--- whether the test has no effect
+-- whether a choice may come after the name is resolved, and, where the operator computes, read:
+-- told whether a scope declares the name, and whether the test has no effect
 abbrev pub may_choose : AssignmentOperator → Bool → Bool → Bool
 may_choose assigning.Assign declared free = declared || free
 may_choose assigning.LogicalOr declared free = false
@@ -206,9 +211,10 @@ may_choose assigning.LogicalAnd declared free = false
 may_choose assigning.LogicalNullish declared free = false
 may_choose o declared free = declared && free
 
--- 45: `a ? x = b : x = c` becomes `x = a ? b : c`, where a scope declares x, or a has no effect; and so of `+=` and the other operators of
--- numbers, where both hold. In a seat of the level of a conditional an assignment would stand in parentheses; a program has none. `this` has an
--- effect where it is asked of the world
+-- 45: `a ? x = b : x = c` becomes `x = a ? b : c`, where a scope declares x, or a has no effect;
+-- and so of `+=` and the other operators of numbers, where both hold. In a seat of the level of a
+-- conditional an assignment would stand in parentheses; a program has none. `this` has an effect
+-- where it is asked of the world
 pub record ChosenRow (asked : Bool) (s : Seat) (n w : Tree) : Type 0 where
   pub operator : AssignmentOperator
   pub a : Tree
@@ -224,7 +230,8 @@ pub record ChosenRow (asked : Bool) (s : Seat) (n w : Tree) : Type 0 where
 abbrev pub Row45 : Seat → Tree → Tree → Type 0
 Row45 = ChosenRow true
 
--- 45: `a ? x.k = b : x.k = c` becomes `x.k = a ? b : c`, where a scope declares x and a has no effect, so that x may be read before it
+-- 45: `a ? x.k = b : x.k = c` becomes `x.k = a ? b : c`, where a scope declares x and a has no
+-- effect, so that x may be read before it
 pub record ChosenMemberRow (asked : Bool) (s : Seat) (n w : Tree) : Type 0 where
   pub a : Tree
   pub name : Name
@@ -241,7 +248,8 @@ pub record ChosenMemberRow (asked : Bool) (s : Seat) (n w : Tree) : Type 0 where
 abbrev pub Row45Member : Seat → Tree → Tree → Type 0
 Row45Member = ChosenMemberRow true
 
--- 46: `x == null ? b : x` becomes `x ?? b`, where a scope declares x, and so does `x != null ? x : b`
+-- 46: `x == null ? b : x` becomes `x ?? b`, where a scope declares x, and so does
+-- `x != null ? x : b`
 pub record Row46Equal (n w : Tree) : Type 0 where
   pub name : Name
   pub b : Tree
@@ -275,8 +283,9 @@ abbrev pub ended : LogicalOperator → Option Tree → Tree → Tree
 ended o None t = t
 ended o (Some b) t = logical o b t
 
--- 57: `typeof x == "object" && x !== null` becomes `typeof x == "object" && !!x`, and `typeof x != "object" || x === null` becomes
--- `typeof x != "object" || !x`, with `!=` and `==` too, and after an equal operator to the left
+-- 57: `typeof x == "object" && x !== null` becomes `typeof x == "object" && !!x`, and
+-- `typeof x != "object" || x === null` becomes `typeof x != "object" || !x`, with `!=` and `==`
+-- too, and after an equal operator to the left
 pub record Row57 (n w : Tree) : Type 0 where
   pub there : Bool
   pub strict : Bool
@@ -312,7 +321,8 @@ pub record Row41And (n w : Tree) : Type 0 where
   pub shape : n ≡ conditional (identifier name) b (identifier name)
   pub written : w ≡ logical And (identifier name) b
 
--- 42: `a ? b ? c : d : d` becomes `a && b ? c : d`, where `a && b` nests no deeper than may be put deeper
+-- 42: `a ? b ? c : d : d` becomes `a && b ? c : d`, where `a && b` nests no deeper than may be put
+-- deeper
 pub record Row42And (n w : Tree) : Type 0 where
   pub a : Tree
   pub b : Tree
@@ -371,7 +381,8 @@ pub record Row49 (n w : Tree) : Type 0 where
   pub shape : n ≡ conditional a b b
   pub written : w ≡ pair a b
 
--- Where the test has no effect, what both branches read before their own parts may be read before it
+-- Where the test has no effect, what both branches read before their own parts may be read before
+-- it
 
 abbrev pub spread : Tree → Tree
 spread p = node shape.SpreadElement [] 0 (p ▸ none)
@@ -381,9 +392,10 @@ abbrev pub argument : Bool → Tree → Tree
 argument false p = p
 argument true p = spread p
 
--- 44: `a ? f(p, r) : f(q, r)` becomes `f(a ? p : q, r)`, and `a ? f(...p, r) : f(...q, r)` becomes `f(...a ? p : q, r)`, where neither a nor f has
--- an effect, so that f is the same function before a and after it; r may be of any number of arguments, and f, p and q are expressions.
--- `this` has one where it is asked of the world
+-- 44: `a ? f(p, r) : f(q, r)` becomes `f(a ? p : q, r)`, and `a ? f(...p, r) : f(...q, r)` becomes
+-- `f(...a ? p : q, r)`, where neither a nor f has an effect, so that f is the same function before
+-- a and after it; r may be of any number of arguments, and f, p and q are expressions. `this` has
+-- one where it is asked of the world
 pub record CallRow (asked : Bool) (n w : Tree) : Type 0 where
   pub a : Tree
   pub callee : Tree
@@ -403,8 +415,9 @@ pub record CallRow (asked : Bool) (n w : Tree) : Type 0 where
 abbrev pub Row44 : Tree → Tree → Type 0
 Row44 = CallRow true
 
--- 13, and 15 of `??`: after a left side that lets the right one be evaluated, whatever it does besides, both are in order:
--- `(x = []) && b` becomes `x = [], b`, and `void f() ?? b` becomes `void f(), b`
+-- 13, and 15 of `??`: after a left side that lets the right one be evaluated, whatever it does
+-- besides, both are in order: `(x = []) && b` becomes `x = [], b`, and `void f() ?? b` becomes
+-- `void f(), b`
 pub record Row13Both (n w : Tree) : Type 0 where
   pub operator : LogicalOperator
   pub left : Tree
@@ -413,8 +426,8 @@ pub record Row13Both (n w : Tree) : Type 0 where
   pub shape : n ≡ logical operator left right
   pub written : w ≡ pair left right
 
--- 45: `a ? x[k] = b : x[k] = c` becomes `x[k] = a ? b : c`, where a scope declares x, and neither a nor k has an effect: what is assigned to
--- is known before the test as after it
+-- 45: `a ? x[k] = b : x[k] = c` becomes `x[k] = a ? b : c`, where a scope declares x, and neither a
+-- nor k has an effect: what is assigned to is known before the test as after it
 pub record ChosenIndexedRow (asked : Bool) (s : Seat) (n w : Tree) : Type 0 where
   pub a : Tree
   pub name : Name
@@ -432,8 +445,9 @@ pub record ChosenIndexedRow (asked : Bool) (s : Seat) (n w : Tree) : Type 0 wher
 abbrev pub Row45Indexed : Seat → Tree → Tree → Type 0
 Row45Indexed = ChosenIndexedRow true
 
--- 21: `(null, a.b)()` becomes `(0, a.b)()`, as does what 13, 15 and 49 leave of `(null ?? a.b)()`. The first part has no effect, and where the last
--- one may not stand alone is there that it is read by its value, for which the shortest does. `this` has an effect where it is asked of the world
+-- 21: `(null, a.b)()` becomes `(0, a.b)()`, as does what 13, 15 and 49 leave of `(null ?? a.b)()`.
+-- The first part has no effect, and where the last one may not stand alone is there that it is read
+-- by its value, for which the shortest does. `this` has an effect where it is asked of the world
 pub record ZeroRow (asked : Bool) (n w : Tree) : Type 0 where
   pub idle : Tree
   pub last : Tree

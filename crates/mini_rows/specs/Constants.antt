@@ -1,5 +1,5 @@
--- Rows on expressions whose value is calculated from their text, as equations, with the JavaScript before and after. No order of
--- rewriting is meant.
+-- Rows on expressions whose value is calculated from their text, as equations, with the JavaScript
+-- before and after. No order of rewriting is meant.
 use Rattle.std.specs.Prelude.{◌≡◌, ℕ, zero, ◌+◌, ◌<◌, ◌≤◌, ◌⊎◌, ◌&&◌, Bool, true, false, List, length, codes, Some, pos}
 use Rattle.mini_model.specs.declared.operator.BinaryOperator.{BinaryOperator}
 use Rattle.mini_model.specs.declared.operator.BinaryOperator.TheVariants as binary_operator
@@ -22,8 +22,8 @@ use Rattle.mini_terms.specs.Reading.{is_unguarded}
 use Rattle.mini_rows.specs.Operands.{beside}
 use Rattle.mini_rows.specs.Spellings.{binary, static_member, key, numeral}
 
--- how much less it is to weigh: `void 0` is a value that is written out, as `void +0` is none, and weighs 1 more on the left of an
--- equality
+-- how much less it is to weigh: `void 0` is a value that is written out, as `void +0` is none, and
+-- weighs 1 more on the left of an equality
 abbrev pub gain_by : Shape → ℕ
 gain_by (shape.NumericLiteral (pos zero)) = 2
 gain_by h = 1
@@ -31,8 +31,9 @@ gain_by h = 1
 abbrev pub least_gain : Tree → ℕ
 least_gain w = gain_by (shape_of w)
 
--- 1 and 3: a unary or binary expression over constants becomes the literal of its value. `60 * 60` becomes `3600`, `"a" + 1` becomes
--- `"a1"`, `(1 << 20) - 1` becomes `1048575`, and `!"a"` becomes `!1`
+-- 1 and 3: a unary or binary expression over constants becomes the literal of its value. `60 * 60`
+-- becomes `3600`, `"a" + 1` becomes `"a1"`, `(1 << 20) - 1` becomes `1048575`, and `!"a"` becomes
+-- `!1`
 pub record RowConstant (s : Seat) (n w : Tree) : Type 0 where
   pub value : Value
   pub known : calculated n ≡ Some value
@@ -41,7 +42,8 @@ pub record RowConstant (s : Seat) (n w : Tree) : Type 0 where
   pub stays : suits s w ≡ true
   pub gains : weight (Expr s) w + least_gain w ≤ weight (Expr s) n
 
--- a text behind which something is added, or a number beside another, of an operator of bits, which doesn't ask on which side they stand
+-- a text behind which something is added, or a number beside another, of an operator of bits, which
+-- doesn't ask on which side they stand
 abbrev pub may_join : BinaryOperator → Bool → Value → Value → Bool
 may_join binary_operator.Addition true (String before) v = true
 may_join binary_operator.BitwiseAnd b (Number m) (Number n) = true
@@ -49,8 +51,8 @@ may_join binary_operator.BitwiseXor b (Number m) (Number n) = true
 may_join binary_operator.BitwiseOr b (Number m) (Number n) = true
 may_join o b u v = false
 
--- 4 and 8: `a + "s" + (1 << 14)` becomes `a + "s16384"`, `a & (1 << 14) & -1` becomes `a & 16384`, and so does `(1 << 14) & a & -1`: two
--- operands that do nothing but give their values are one
+-- 4 and 8: `a + "s" + (1 << 14)` becomes `a + "s16384"`, `a & (1 << 14) & -1` becomes `a & 16384`,
+-- and so does `(1 << 14) & a & -1`: two operands that do nothing but give their values are one
 pub record RowJoined (s : Seat) (n w : Tree) : Type 0 where
   pub operator : BinaryOperator
   pub on_right : Bool
@@ -71,7 +73,8 @@ pub record RowJoined (s : Seat) (n w : Tree) : Type 0 where
   pub written : w ≡ binary operator operand literal
   pub gains : weight (Expr s) w < weight (Expr s) n
 
--- 9, of a text that isn't written out, as its literal would be no lighter: `` `${!1}`.length `` becomes `5`, and `(!0 + "").length` `4`
+-- 9, of a text that isn't written out, as its literal would be no lighter: `` `${!1}`.length ``
+-- becomes `5`, and `(!0 + "").length` `4`
 pub record RowLength (s : Seat) (n w : Tree) : Type 0 where
   pub text : Tree
   pub units : List ℕ

@@ -1,5 +1,6 @@
--- Rows of expressions whose values nobody uses, of statements, of the heads of `for` and of parts of sequences: each is a shape and what is written in its place, with the JavaScript
--- before and after.
+-- Rows of expressions whose values nobody uses, of statements, of the heads of `for` and of parts
+-- of sequences: each is a shape and what is written in its place, with the JavaScript before and
+-- after.
 use Rattle.std.specs.Prelude.{◌≡◌, ◌<◌, true, false}
 use Rattle.mini_model.specs.declared.operator.LogicalOperator.{LogicalOperator}
 use Rattle.mini_model.specs.declared.place.Position.{Position}
@@ -17,8 +18,8 @@ use Rattle.mini_rows.specs.Negations.{lightest}
 abbrev pub turned_logical : LogicalOperator → Tree → Tree → Tree
 turned_logical o a b = logical (turned o) (lightest (left_operand_seat (turned o) statement_expression_seat) a) b
 
--- where an expression stands whose value nobody asks for: as a statement, as what a `for` begins with, and as what it does after each
--- turn (ECMA-262, "ExpressionStatement", "ForLoopEvaluation")
+-- where an expression stands whose value nobody asks for: as a statement, as what a `for` begins
+-- with, and as what it does after each turn (ECMA-262, "ExpressionStatement", "ForLoopEvaluation")
 pub data VoidPlace : Type 0 where
   Alone : VoidPlace
   Begins : Tree → Tree → Tree → VoidPlace
@@ -29,14 +30,15 @@ void_of Alone x = expression_statement x
 void_of (Begins test update body) x = for_loop x test update body
 void_of (Turns init test body) x = for_loop init test x body
 
--- an expression by itself, or as the last part of a sequence, whose value is that of the sequence (ECMA-262, "Comma Operator")
+-- an expression by itself, or as the last part of a sequence, whose value is that of the sequence
+-- (ECMA-262, "Comma Operator")
 abbrev pub ended : Trees → Tree → Tree
 ended none x = x
 ended (p ▸ ps) x = sequence (p ▸ append ps (x ▸ none))
 
--- 50: `!a && b;` becomes `a || b;`, and `!a || b;` `a && b;` (De Morgan): which side is evaluated stays, and nobody asks for the value;
--- `for (!a && b;;) c` becomes `for (a || b;;) c`, and `a(), !b && c();` `a(), b || c();`. `a && (b && c);` is joined instead, which is
--- lighter
+-- 50: `!a && b;` becomes `a || b;`, and `!a || b;` `a && b;` (De Morgan): which side is evaluated
+-- stays, and nobody asks for the value; `for (!a && b;;) c` becomes `for (a || b;;) c`, and
+-- `a(), !b && c();` `a(), b || c();`. `a && (b && c);` is joined instead, which is lighter
 pub record Row50 (n w : Tree) : Type 0 where
   pub place : VoidPlace
   pub before : Trees

@@ -1,4 +1,5 @@
--- The rows of a `switch` over a value that is known: of its cases one is left, which has the statements that run.
+-- The rows of a `switch` over a value that is known: of its cases one is left, which has the
+-- statements that run.
 use Rattle.std.specs.Prelude.{◌≡◌, ◌⊎◌, ◌&&◌, ◌||◌, not, ℤ, pos, ℕ, zero, Bool, true, false, List, [], ◌∷◌, Option, Some, None, if◌then◌else◌}
 use Rattle.mini_model.specs.declared.kind.VariableDeclarationKind.TheVariants.{Var}
 use Rattle.mini_model.specs.declared.shape.Shape.TheVariants as shape
@@ -39,7 +40,8 @@ value_of undefined = Undefined
 
 -- ---- values that are known
 
--- what a discriminant gives where it gives a value, whatever it does besides: of `a(), 1 << 30` that is 1073741824
+-- what a discriminant gives where it gives a value, whatever it does besides: of `a(), 1 << 30`
+-- that is 1073741824
 abbrev pub asked : Tree → Option Value
 asked d = choose (declares_nothing d) (free_value d) None
 
@@ -97,11 +99,13 @@ abbrev pub is_plain_var : Tree → Bool
 is_plain_var (node (shape.VariableDeclaration Var) [] zero (node shape.Listed [] zero (d ▸ ds) ▸ none)) = are_plain_declarators (d ▸ ds)
 is_plain_var _ = false
 
--- the names of `var`s in it weigh no more alone: there is none, it declares them itself, or they are lighter
+-- the names of `var`s in it weigh no more alone: there is none, it declares them itself, or they
+-- are lighter
 abbrev pub leaves_little : Tree → Bool
 leaves_little t = (hoists_nothing t || is_plain_var t) || is_lighter_left t
 
--- statements that take along each name that can't be written, and of which nothing is left behind but names of `var`s
+-- statements that take along each name that can't be written, and of which nothing is left behind
+-- but names of `var`s
 abbrev pub all_go : Trees → Bool
 all_go none = true
 all_go (t ▸ ts) = (encloses false t && leaves_little t) && all_go ts
@@ -129,7 +133,8 @@ cases_go (choice test statements cs) = test_goes test && (all_go statements && c
 abbrev pub are_ended : Trees → Bool
 are_ended ts = any (are_terminated ts)
 
--- the statements of a case and of those after it, up to the first that end in a jump; of others after these the names
+-- the statements of a case and of those after it, up to the first that end in a jump; of others
+-- after these the names
 abbrev pub running : Trees → Choices → Trees
 running statements no_choices = statements
 running statements (choice test others cs) = if are_ended statements then append statements (left_cases (choice test others cs)) else append statements (running others cs)
@@ -179,11 +184,15 @@ are_several before after = true
 
 -- ---- 81
 
--- `switch (2) { case 1: a(); case 2: b(); case 3: c(); break; case d: e(); }` becomes `switch (2) { case 2: b(); c(); break; }`, and
--- `switch (2) { case 1: a(); default: b(); case 3: c(); }` becomes `switch (2) { default: b(); c(); }`. The names that a `var` declares in what
--- goes are declared in the case that is left, before what runs or after it: `switch (2) { case 1: var x = a(); case 2: b(x); }` becomes
--- `switch (2) { case 2: var x; b(x); }`, and so of `for (var x of a) b();` and of `var { x } = a();`. And
--- `switch (a(), 2) { case 1 << 20: b(); case 2: c(); }` becomes `switch (a(), 2) { case 2: c(); }`
+-- `switch (2) { case 1: a(); case 2: b(); case 3: c(); break; case d: e(); }` becomes
+-- `switch (2) { case 2: b(); c(); break; }`, and
+-- `switch (2) { case 1: a(); default: b(); case 3: c(); }` becomes
+-- `switch (2) { default: b(); c(); }`. The names that a `var` declares in what goes are declared in
+-- the case that is left, before what runs or after it:
+-- `switch (2) { case 1: var x = a(); case 2: b(x); }` becomes
+-- `switch (2) { case 2: var x; b(x); }`, and so of `for (var x of a) b();` and of
+-- `var { x } = a();`. And `switch (a(), 2) { case 1 << 20: b(); case 2: c(); }` becomes
+-- `switch (a(), 2) { case 2: c(); }`
 pub record Row81 (n w : Tree) : Type 0 where
   pub discriminant : Tree
   pub value : Value

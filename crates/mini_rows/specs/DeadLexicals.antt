@@ -1,6 +1,6 @@
--- The row of a class, a `let` or a `const` that never runs, as an equation: a shape and what is written in its place, with the JavaScript
--- before and after. Code before it may mention its names, which nothing ever initializes, so they stay declared; what would initialize
--- them goes.
+-- The row of a class, a `let` or a `const` that never runs, as an equation: a shape and what is
+-- written in its place, with the JavaScript before and after. Code before it may mention its names,
+-- which nothing ever initializes, so they stay declared; what would initialize them goes.
 use Rattle.std.specs.Prelude.{◌≡◌, nat_eq, nat_lt, Bool, true, false, ◌&&◌, List, [], ◌∷◌, pos}
 use Rattle.mini_model.specs.declared.kind.VariableDeclarationKind.{VariableDeclarationKind}
 use Rattle.mini_model.specs.declared.kind.VariableDeclarationKind.TheVariants.{Let, Const}
@@ -100,7 +100,8 @@ may_fade t = is_lexical t && (first_gives (children t) && goes_whole t)
 
 -- ---- what is left
 
--- a write of a `const` raises (ECMA-262, "SetMutableBinding"), so that it stays one; a class is declared like a `let`
+-- a write of a `const` raises (ECMA-262, "SetMutableBinding"), so that it stays one; a class is
+-- declared like a `let`
 abbrev pub kind_left : Shape → VariableDeclarationKind
 kind_left (shape.VariableDeclaration Const) = Const
 kind_left h = Let
@@ -126,8 +127,8 @@ faded t = declared_with (kind_left (shape_of t)) (names_of declared.Lexical t)
 abbrev pub is_lighter_faded : Tree → Bool
 is_lighter_faded t = nat_lt (capped (weight StatementList (listed (faded t)))) (capped (weight (Stmt stmt_seat.List) t))
 
--- 77: `return a; class C { .. }` becomes `return a; let C;`, `return a; let { x } = b();` becomes `return a; let x;`, and
--- `return a; const [x, y] = b();` becomes `return a; const x = 0, y = 0;`
+-- 77: `return a; class C { .. }` becomes `return a; let C;`, `return a; let { x } = b();` becomes
+-- `return a; let x;`, and `return a; const [x, y] = b();` becomes `return a; const x = 0, y = 0;`
 pub record Row77Lexical (a b : Trees) : Type 0 where
   pub first : Tree
   pub between : Trees

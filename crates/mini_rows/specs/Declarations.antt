@@ -1,4 +1,5 @@
--- Rows of declarations: each is a shape and what is written in its place, with the JavaScript before and after.
+-- Rows of declarations: each is a shape and what is written in its place, with the JavaScript
+-- before and after.
 use Rattle.std.specs.Prelude.{◌≡◌, ◌<◌, []}
 use Rattle.mini_model.specs.declared.kind.VariableDeclarationKind.TheVariants.{Let}
 use Rattle.mini_model.specs.declared.name.Name.{Name}
@@ -22,7 +23,8 @@ pub record Row61 (n w : Tree) : Type 0 where
   pub shape : n ≡ declaration Let (append before (declarator (binding name) init ▸ after))
   pub written : w ≡ declaration Let (append before (declarator (binding name) absent ▸ after))
 
--- how a declaration stands in a list of statements: by itself, or `export let x;`, with specifiers and a source, of which it has none
+-- how a declaration stands in a list of statements: by itself, or `export let x;`, with specifiers
+-- and a source, of which it has none
 pub data Item : Type 0 where
   Alone : Item
   Exported : Tree → Tree → Item

@@ -1,5 +1,6 @@
--- The row of a counter of a `for`, as an equation. A decrement takes a BigInt, too, where a number can't be subtracted from one, and an
--- engine has BigInts where the model has none; so the row reads a counter that holds numbers only.
+-- The row of a counter of a `for`, as an equation. A decrement takes a BigInt, too, where a number
+-- can't be subtracted from one, and an engine has BigInts where the model has none; so the row
+-- reads a counter that holds numbers only.
 use Rattle.std.specs.Prelude.{ℕ, ◌≡◌, Bool, true, false, not, ◌&&◌, ◌||◌, List, [], ◌∷◌, codes, pos, negsuc}
 use Rattle.mini_model.specs.declared.kind.VariableDeclarationKind.TheVariants.{Let}
 use Rattle.mini_model.specs.declared.name.Name.{Name}
@@ -56,7 +57,8 @@ is_let h = false
 abbrev pub starts_as_number : List ℕ → Tree → Bool
 starts_as_number s t = is_let (shape_of t) && (is_bare t 1 && any_gives_number s (children (part t 0)))
 
--- what is assigned to a name of this spelling is a number, or what an operator makes of a number and another
+-- what is assigned to a name of this spelling is a number, or what an operator makes of a number
+-- and another
 abbrev pub is_assignment : Shape → Bool
 is_assignment (shape.AssignmentExpression o) = true
 is_assignment h = false
@@ -79,7 +81,8 @@ is_target_pattern shape.ArrayAssignmentTarget = true
 is_target_pattern shape.ObjectAssignmentTarget = true
 is_target_pattern h = false
 
--- a node that leaves a number where one was: it is no direct eval, either, which might assign anything
+-- a node that leaves a number where one was: it is no direct eval, either, which might assign
+-- anything
 abbrev pub leaves_number : List ℕ → Tree → Bool
 leaves_number s t = not (is_named (codes "eval") t) && ((not (is_assignment (shape_of t)) || assigns_number s t) && ((not (is_each (shape_of t)) || gives_other s t) && not (is_target_pattern (shape_of t))))
 
@@ -112,7 +115,8 @@ abbrev pub counts : List Name → Tree → Trees → Bool
 counts [] init loop = false
 counts (x ∷ xs) init loop = starts_as_number x.spelling init && keep_number x.spelling loop
 
--- 36: `for (let x = n; x; x -= 1) b` becomes `for (let x = n; x; --x) b`, where x holds numbers only
+-- 36: `for (let x = n; x; x -= 1) b` becomes `for (let x = n; x; --x) b`, where x holds numbers
+-- only
 pub record Row36 (n w : Tree) : Type 0 where
   pub operator : UpdateOperator
   pub name : Name

@@ -1,5 +1,5 @@
--- Rows on what is known of an expression from its text, as equations: each is a shape and what is written in its place, with the
--- JavaScript before and after. No order of rewriting is meant.
+-- Rows on what is known of an expression from its text, as equations: each is a shape and what is
+-- written in its place, with the JavaScript before and after. No order of rewriting is meant.
 use Rattle.std.specs.Prelude.{◌≡◌, ℕ, pos, ◌<◌, ◌≤◌, ◌⊎◌, ◌&&◌, ◌||◌, Bool, true, false, List, [], ◌∷◌, length, codes, Option, Some, None}
 use Rattle.mini_model.specs.declared.name.Name.{Name}
 use Rattle.mini_model.specs.declared.operator.AssignmentOperator.{AssignmentOperator}
@@ -29,8 +29,8 @@ use Rattle.mini_rows.specs.ForParts.{ForPartRow}
 use Rattle.mini_rows.specs.Lists.{encloses}
 use Rattle.mini_rows.specs.Spellings.{binary, static_member, text, key, numeral}
 
--- 13, and 15 of `??`: where the left side is effect-free and known to let the right one be evaluated, `!0 && b`, `0 || b` and
--- `null ?? b` become `b`
+-- 13, and 15 of `??`: where the left side is effect-free and known to let the right one be
+-- evaluated, `!0 && b`, `0 || b` and `null ?? b` become `b`
 pub record Row13 (s : Seat) (n w : Tree) : Type 0 where
   pub operator : LogicalOperator
   pub left : Tree
@@ -43,7 +43,8 @@ pub record Row13 (s : Seat) (n w : Tree) : Type 0 where
   pub shape : n ≡ logical operator left right
   pub written : w ≡ right
 
--- `module.exports = b` and `module["exports"] = b`, by name alone: after `0 &&` they tell other programs which names a module exports
+-- `module.exports = b` and `module["exports"] = b`, by name alone: after `0 &&` they tell other
+-- programs which names a module exports
 
 abbrev pub is_spelled : List Name → List ℕ → Bool
 is_spelled [] s = false
@@ -71,8 +72,9 @@ abbrev pub names_exports : LogicalOperator → Tree → Bool
 names_exports And b = assigns_exports b
 names_exports o b = false
 
--- 12, and 15 of `??`: where the right side is never evaluated, `0 && b`, `[] || b` and `"" ?? b` become their left sides; what goes takes
--- along what it declares that can't be written, as a function's own name
+-- 12, and 15 of `??`: where the right side is never evaluated, `0 && b`, `[] || b` and `"" ?? b`
+-- become their left sides; what goes takes along what it declares that can't be written, as a
+-- function's own name
 pub record Row12 (s : Seat) (n w : Tree) : Type 0 where
   pub operator : LogicalOperator
   pub left : Tree
@@ -91,7 +93,8 @@ loosened StrictEquality = Some Equality
 loosened StrictInequality = Some Inequality
 loosened o = None
 
--- 28: where both sides are of one known Kind, `typeof a === "string"` becomes `typeof a == "string"`
+-- 28: where both sides are of one known Kind, `typeof a === "string"` becomes
+-- `typeof a == "string"`
 pub record Row28 (n w : Tree) : Type 0 where
   pub operator : BinaryOperator
   pub loose : BinaryOperator
@@ -113,8 +116,9 @@ pub record Row49Idle (s : Seat) (n w : Tree) : Type 0 where
   pub shape : n ≡ conditional test branch branch
   pub written : w ≡ branch
 
--- 9: `"abc".length` becomes `3`: how many UTF-16 units a text has (ECMA-262, "String Exotic Objects"). Where a reference is asked, as of
--- what `delete` deletes, the member stays, and so it does under a `-`, which would be one with the number. What a chain holds is no number
+-- 9: `"abc".length` becomes `3`: how many UTF-16 units a text has (ECMA-262, "String Exotic
+-- Objects"). Where a reference is asked, as of what `delete` deletes, the member stays, and so it
+-- does under a `-`, which would be one with the number. What a chain holds is no number
 pub record Row9 (s : Seat) (n w : Tree) : Type 0 where
   pub units : List ℕ
   pub unguarded : is_unguarded s.guard ≡ true

@@ -7,8 +7,8 @@ use Rattle.mini_terms.specs.Reading.{is_plain_part}
 use Rattle.mini_rows.specs.Lists.{for_loop}
 use Rattle.mini_rows.specs.Decrements.{Row36}
 
--- its value is asked by nobody, and it does nothing: it is effect-free, leaves nothing behind, and a parent reads no more of it than
--- that it is there
+-- its value is asked by nobody, and it does nothing: it is effect-free, leaves nothing behind, and
+-- a parent reads no more of it than that it is there
 abbrev pub is_idle : Tree → Bool
 is_idle t = is_effect_free t && (leaves_nothing t && (weighs t && is_plain_part t))
 

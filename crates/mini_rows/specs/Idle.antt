@@ -1,5 +1,6 @@
--- Rows of what has no effect where a body has its `this`, as equations: each is a shape and what is written in its place, with the JavaScript
--- before and after. V says what is known of the body in which it stands.
+-- Rows of what has no effect where a body has its `this`, as equations: each is a shape and what is
+-- written in its place, with the JavaScript before and after. V says what is known of the body in
+-- which it stands.
 use Rattle.std.specs.Prelude.{◌≡◌, ◌⊎◌, ◌&&◌, Bool, true, false, nat_le}
 use Rattle.mini_model.specs.declared.seat.Seat.{Seat}
 use Rattle.mini_model.specs.Tree.{Tree, Trees, none, ◌▸◌, count, absent, expression_statement, empty_statement}
@@ -11,7 +12,8 @@ use Rattle.mini_kept.specs.Without.{Assured}
 use Rattle.mini_rows.specs.Lists.{for_loop, sequence}
 use Rattle.mini_rows.specs.Sequences.{takes_alone, stays_alone}
 
--- it has no effect where `this` has none, so where the world isn't asked for it (ECMA-262, "ResolveThisBinding"), and leaves nothing behind
+-- it has no effect where `this` has none, so where the world isn't asked for it (ECMA-262,
+-- "ResolveThisBinding"), and leaves nothing behind
 abbrev pub is_still : Tree → Bool
 is_still t = ef false t && (leaves_nothing t && weighs t)
 

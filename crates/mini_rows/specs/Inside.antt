@@ -1,4 +1,5 @@
--- Rows 71 and 72 of a `var` that stands further inside the body that it belongs to, with the JavaScript before and after.
+-- Rows 71 and 72 of a `var` that stands further inside the body that it belongs to, with the
+-- JavaScript before and after.
 use Rattle.std.proofs.Common.{inl, inr}
 use Rattle.std.specs.Prelude.{◌≡◌, ◌⊎◌, ◌<◌, not, ℕ, zero, suc, Bool, true, false, List, [], Option, Some, None, if◌then◌else◌}
 use Rattle.mini_model.specs.declared.kind.VariableDeclarationKind.TheVariants.{Var}
@@ -35,7 +36,8 @@ abbrev pub first_of : Option Way → Option Way → Option Way
 first_of (Some w) o = Some w
 first_of None o = o
 
--- in the branches of an `if`, which stand in no list, and in a `try`: its block, its handler and what runs finally
+-- in the branches of an `if`, which stand in no list, and in a `try`: its block, its handler and
+-- what runs finally
 abbrev pub branch_way : ℕ → Option Way
 branch_way i = first_of (at_place 1 way.Held i) (at_place 2 way.Held i)
 
@@ -46,8 +48,8 @@ try_way i = first_of (at_place 1 way.Catch i) (first_of (at_place 0 way.Statemen
 abbrev pub for_way : ℕ → Option Way
 for_way i = first_of (at_place 0 way.Head i) (at_place 3 way.Held i)
 
--- what stands at the child of a statement, where a `var` in it is one of what is around the statement (ECMA-262, "Static Semantics:
--- VarDeclaredNames"): none goes into a function or a class
+-- what stands at the child of a statement, where a `var` in it is one of what is around the
+-- statement (ECMA-262, "Static Semantics: VarDeclaredNames"): none goes into a function or a class
 abbrev pub statement_way : Shape → ℕ → Option Way
 statement_way shape.BlockStatement i = at_place 0 way.Statements i
 statement_way shape.IfStatement i = branch_way i
@@ -107,7 +109,8 @@ above (inside h xs n pre k post) = node h xs n (join pre absent post) ▸ above 
 
 -- ---- the body that it belongs to
 
--- an arrow function, any other function, a module, and a static block, each with all but its list of statements
+-- an arrow function, any other function, a module, and a static block, each with all but its list
+-- of statements
 pub data Holder : Type 0 where
   Arrow : List (List ℕ) → ℕ → Trees → Holder
   Function : Bool → Bool → List (List ℕ) → ℕ → Tree → Trees → Holder
@@ -144,9 +147,10 @@ declares_var (inr (inl r)) = not (is_lexical r.kind)
 declares_var (inr (inr (inl r))) = not (is_lexical r.kind)
 declares_var (inr (inr (inr r))) = not (is_lexical r.kind)
 
--- `{ var x = b(); return x.c; }` becomes `{ ; return b().c; }`, `{ var x = a(); b(); }` becomes `{ a(); b(); }`, and
--- `{ const y = b(); var x = c(); return x.d + y; }` becomes `{ const y = b(); ; return c().d + y; }`: a list of statements, from which a `var`
--- goes, with what stands outside of it
+-- `{ var x = b(); return x.c; }` becomes `{ ; return b().c; }`, `{ var x = a(); b(); }` becomes
+-- `{ a(); b(); }`, and `{ const y = b(); var x = c(); return x.d + y; }` becomes
+-- `{ const y = b(); ; return c().d + y; }`: a list of statements, from which a `var` goes, with
+-- what stands outside of it
 pub record ListEnd (W : Liberties) (o : Trees) (n w : Tree) : Type 0 where
   pub list : Trees
   pub left : Trees
@@ -155,14 +159,15 @@ pub record ListEnd (W : Liberties) (o : Trees) (n w : Tree) : Type 0 where
   pub shape : n ≡ listed list
   pub written : w ≡ listed left
 
--- `if (a) var x = b();` becomes `if (a) b();`, and `while (a) var x = b(), y = x.c;` becomes `while (a) var y = b().c;`: a `var` in no list, which
--- is read like a list of this one statement
+-- `if (a) var x = b();` becomes `if (a) b();`, and `while (a) var x = b(), y = x.c;` becomes
+-- `while (a) var y = b().c;`: a `var` in no list, which is read like a list of this one statement
 pub record HeldEnd (W : Liberties) (o : Trees) (n w : Tree) : Type 0 where
   pub row : BlockRow W (block (listed o ▸ (n ▸ none))) (block (listed o ▸ (w ▸ none)))
   pub var : declares_var row ≡ true
 
--- `for (var x = 1, y = 2; a; b) c(y);` becomes `for (var y = 2; a; b) c(y);`, and `for (var x; a; b) c();` becomes `for (; a; b) c();`: what a `for`
--- begins with, where nothing misses the initializer
+-- `for (var x = 1, y = 2; a; b) c(y);` becomes `for (var y = 2; a; b) c(y);`, and
+-- `for (var x; a; b) c();` becomes `for (; a; b) c();`: what a `for` begins with, where nothing
+-- misses the initializer
 pub record HeadEnd (W : Liberties) (o : Trees) (n w : Tree) : Type 0 where
   pub first : Trees
   pub spelling : List ℕ
@@ -179,8 +184,9 @@ pub record HeadEnd (W : Liberties) (o : Trees) (n w : Tree) : Type 0 where
   pub shape : n ≡ declared_among Var (resolved spelling symbol) first init last
   pub written : w ≡ head_left Var (append first last)
 
--- `for (var x = a(), y = x.b; y(); ) y(y);` becomes `for (var y = a().b; y(); ) y(y);`: a `var` that a `for` begins with, which is read like a list of this
--- one statement, where the next declarator reads the name. It is evaluated once, before each turn (ECMA-262, "ForLoopEvaluation")
+-- `for (var x = a(), y = x.b; y(); ) y(y);` becomes `for (var y = a().b; y(); ) y(y);`: a `var`
+-- that a `for` begins with, which is read like a list of this one statement, where the next
+-- declarator reads the name. It is evaluated once, before each turn (ECMA-262, "ForLoopEvaluation")
 pub record HeadNextEnd (W : Liberties) (o : Trees) (n w : Tree) : Type 0 where
   pub row : Row71Next W (block (listed o ▸ (n ▸ none))) (block (listed o ▸ (w ▸ none)))
   pub var : not (is_lexical row.kind) ≡ true
@@ -196,9 +202,10 @@ EndRow s W o n w = ⊥
 abbrev pub Ends : Type 1
 Ends = Trees → Way → Tree → Tree → Type 0
 
--- a `var` further inside a body whose end is one of those. All else that stands in the body, with what it belongs to, is read like what stands
--- before the declaration in a block. Each turn of a loop runs the list anew, so what reads the name right behind its declaration reads what
--- that has written
+-- a `var` further inside a body whose end is one of those. All else that stands in the body, with
+-- what it belongs to, is read like what stands before the declaration in a block. Each turn of a
+-- loop runs the list anew, so what reads the name right behind its declaration reads what that has
+-- written
 pub record InsideOf (E : Ends) (n w : Tree) : Type 0 where
   pub holder : Holder
   pub first : Trees
@@ -221,8 +228,10 @@ pub record InsideAt (E : Ends) (p : Position) (n w : Tree) : Type 0 where
 abbrev pub unused_ends : Liberties → Ends
 unused_ends W o z n w = EndRow z W o n w
 
--- `function f(a) { if (a) { var x = b(); return x.c; } }` becomes `function f(a) { if (a) { ; return b().c; } }`, and
--- `function f(a) { for (;;) { var x = a(); b(); } }` becomes `function f(a) { for (;;) { a(); b(); } }`
+-- `function f(a) { if (a) { var x = b(); return x.c; } }` becomes
+-- `function f(a) { if (a) { ; return b().c; } }`, and
+-- `function f(a) { for (;;) { var x = a(); b(); } }` becomes
+-- `function f(a) { for (;;) { a(); b(); } }`
 abbrev pub InsideRow : Liberties → Tree → Tree → Type 0
 InsideRow W = InsideOf (unused_ends W)
 
@@ -242,6 +251,7 @@ InsideLighter = (W : Liberties) → EndsLighten (unused_ends W)
 abbrev pub InsideLightens : Type 0
 InsideLightens = (W : Liberties) → Lightens (InsideContracts W)
 
--- it drops a name that nothing mentions, where those variables can be written, whichever functions and classes may lose their own
+-- it drops a name that nothing mentions, where those variables can be written, whichever functions
+-- and classes may lose their own
 abbrev pub InsideIsLawful : Type 0
 InsideIsLawful = (K : Shape → Bool) (W : Liberties) → LawfulWith K W.writable (InsideContracts W)

@@ -1,6 +1,7 @@
--- Rows on the keys of patterns and of classes, as equations. The node is what has the key: a property of a pattern, a method or a
--- field. Its key names the same property before and after (ECMA-262, "Runtime Semantics: Evaluation" of LiteralPropertyName). A property
--- that is assigned to may become the shorthand that stands for it.
+-- Rows on the keys of patterns and of classes, as equations. The node is what has the key: a
+-- property of a pattern, a method or a field. Its key names the same property before and after
+-- (ECMA-262, "Runtime Semantics: Evaluation" of LiteralPropertyName). A property that is assigned
+-- to may become the shorthand that stands for it.
 use Rattle.std.specs.Prelude.{◌≡◌, ◌<◌, ◌⊎◌, ◌&&◌, ◌||◌, not, ℕ, suc, Bool, true, false, List, [], codes, pos, if◌then◌else◌}
 use Rattle.std.specs.Fmt.{signed_decimal}
 use Rattle.mini_model.specs.Texts.{is_identifier_name}
@@ -16,8 +17,8 @@ use Rattle.mini_model.specs.Tree.{Tree, Trees, node, none, ◌▸◌, identifier
 use Rattle.mini_model.specs.Weight.{same_text, weight}
 use Rattle.mini_rows.specs.Spellings.{numeral, text, key}
 
--- what has a key without brackets: a property of a declaration's pattern that is no shorthand, one of a pattern that is assigned
--- to, a method and a field of a class
+-- what has a key without brackets: a property of a declaration's pattern that is no shorthand, one
+-- of a pattern that is assigned to, a method and a field of a class
 pub data Holder : Type 0 where
   a_binding : Holder
   a_target : Holder
@@ -61,7 +62,8 @@ pub record Row52Held (n w : Tree) : Type 0 where
   pub shape : n ≡ holding holder (quoted spelling) value
   pub written : w ≡ holding holder (unquoted spelling) value
 
--- what may lose the brackets of its key: a property of a pattern that is assigned to, a method and a field of a class
+-- what may lose the brackets of its key: a property of a pattern that is assigned to, a method and
+-- a field of a class
 pub data Member : Type 0 where
   of_target : Member
   of_method : MethodDefinitionKind → Bool → Member
@@ -92,9 +94,10 @@ abbrev pub IsPlainKey : PlainKey → Type 0
 IsPlainKey (a_word s) = Unit {0}
 IsPlainKey (a_count n) = IsSafe (pos n)
 
--- A text that stays in brackets in a class: without them a method `constructor` would be the class's constructor (ECMA-262,
--- "ConstructorMethod"), and there is no field `constructor`, no static method and no static field `prototype` (ECMA-262, "Class
--- Definitions: Static Semantics: Early Errors"). So does `#constructor`, which no private name may be
+-- A text that stays in brackets in a class: without them a method `constructor` would be the
+-- class's constructor (ECMA-262, "ConstructorMethod"), and there is no field `constructor`, no
+-- static method and no static field `prototype` (ECMA-262, "Class Definitions: Static Semantics:
+-- Early Errors"). So does `#constructor`, which no private name may be
 abbrev pub stays_in_brackets : Bool → Bool → List ℕ → Bool
 stays_in_brackets is_method is_static s =
     same_text s (codes "#constructor") || ((is_static && same_text s (codes "prototype")) || (not (is_method && is_static) && same_text s (codes "constructor")))
@@ -104,8 +107,8 @@ loses_brackets (of_method kind is_static) (a_word s) = not (stays_in_brackets tr
 loses_brackets (of_field is_static) (a_word s) = not (stays_in_brackets false is_static s)
 loses_brackets m k = true
 
--- 52, of brackets: `({ ["x"]: v } = ..)` becomes `({ "x": v } = ..)`, and `class { ["x"]() {} static [1] = v }` becomes
--- `class { "x"() {} static 1 = v }`
+-- 52, of brackets: `({ ["x"]: v } = ..)` becomes `({ "x": v } = ..)`, and
+-- `class { ["x"]() {} static [1] = v }` becomes `class { "x"() {} static 1 = v }`
 pub record Row52Bare (n w : Tree) : Type 0 where
   pub member : Member
   pub number : ℕ
@@ -118,7 +121,8 @@ pub record Row52Bare (n w : Tree) : Type 0 where
 
 -- ---- brackets in a pattern that is declared
 
--- what such a pattern is made of, shorthand properties aside: its lists, patterns in it, its properties, a rest, and what has a default
+-- what such a pattern is made of, shorthand properties aside: its lists, patterns in it, its
+-- properties, a rest, and what has a default
 abbrev pub is_pattern_part : Shape → Bool
 is_pattern_part shape.Listed = true
 is_pattern_part shape.ObjectPattern = true
@@ -144,8 +148,9 @@ pub data Bares : Tree → Tree → Type 0 where
 abbrev pub declaring_shape : Bool → Shape
 declaring_shape is_catch = if is_catch then shape.CatchClause else shape.VariableDeclarator
 
--- 52, of brackets: `let { ["x"]: v } = o` becomes `let { "x": v } = o`, and `catch ({ [1]: v }) {}` becomes `catch ({ 1: v }) {}`, however
--- deep the pattern has the key. Among parameters brackets decide whether the body's `var`s are the parameters (ECMA-262,
+-- 52, of brackets: `let { ["x"]: v } = o` becomes `let { "x": v } = o`, and `catch ({ [1]: v }) {}`
+-- becomes `catch ({ 1: v }) {}`, however deep the pattern has the key. Among parameters brackets
+-- decide whether the body's `var`s are the parameters (ECMA-262,
 -- "FunctionDeclarationInstantiation"); so the node is what declares, and no property
 pub record Row52Declared (n w : Tree) : Type 0 where
   pub is_catch : Bool
@@ -174,9 +179,10 @@ doubled x a = node (shape.AssignmentTargetPropertyProperty false) [] 0 (key x.sp
 abbrev pub shortened : Name → Assigned → Tree
 shortened x a = node shape.AssignmentTargetPropertyIdentifier [] 0 (key x.spelling ▸ assigned_to x a ▸ none)
 
--- 53: `({ x: x } = o)` becomes `({ x } = o)`, and `({ x: x = d } = o)` becomes `({ x = d } = o)`. Both resolve x, read the property of that name and
--- put its value, or that of d, which gets the same name (ECMA-262, "Runtime Semantics: PropertyDestructuringAssignmentEvaluation" and
--- "Runtime Semantics: KeyedDestructuringAssignmentEvaluation")
+-- 53: `({ x: x } = o)` becomes `({ x } = o)`, and `({ x: x = d } = o)` becomes `({ x = d } = o)`.
+-- Both resolve x, read the property of that name and put its value, or that of d, which gets the
+-- same name (ECMA-262, "Runtime Semantics: PropertyDestructuringAssignmentEvaluation" and "Runtime
+-- Semantics: KeyedDestructuringAssignmentEvaluation")
 pub record Row53 (n w : Tree) : Type 0 where
   pub name : Name
   pub value : Assigned

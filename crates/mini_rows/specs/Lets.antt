@@ -1,6 +1,8 @@
--- The row of a `let` and the assignment of a value after it, as an equation: a shape and what is written in its place, with the
--- JavaScript before and after; and beside it that of a lexical declaration that never runs. W has the variables that the program mentions and that can be written in it: what a `let` declares is
--- written by its initializer, and an assignment after it writes only where the name can be written (ECMA-262, "SetMutableBinding").
+-- The row of a `let` and the assignment of a value after it, as an equation: a shape and what is
+-- written in its place, with the JavaScript before and after; and beside it that of a lexical
+-- declaration that never runs. W has the variables that the program mentions and that can be
+-- written in it: what a `let` declares is written by its initializer, and an assignment after it
+-- writes only where the name can be written (ECMA-262, "SetMutableBinding").
 use Rattle.std.specs.Prelude.{◌≡◌, ◌<◌, ◌⊎◌, ℕ, Bool, true, List}
 use Rattle.mini_model.specs.declared.kind.VariableDeclarationKind.TheVariants.{Let}
 use Rattle.mini_model.specs.declared.place.Position.{Position}
@@ -16,8 +18,9 @@ use Rattle.mini_rows.specs.DeadCases.{Known, known}
 use Rattle.mini_rows.specs.DeadLexicals.{Row77Lexical}
 use Rattle.mini_rows.specs.Lists.{declaration, declarator, binding, resolved, assigned, Beginning, begun, begun_without, begins_well, InList}
 
--- 70: `let c, a; a = 1;` becomes `let c, a = 1;`, and `let a; return a = 1, d;` becomes `let a = 1; return d;`. The value is written
--- out, so that nothing happens between the two at which a is seen
+-- 70: `let c, a; a = 1;` becomes `let c, a = 1;`, and `let a; return a = 1, d;` becomes
+-- `let a = 1; return d;`. The value is written out, so that nothing happens between the two at
+-- which a is seen
 pub record Row70Let (W : VariableSet) (a b : Trees) : Type 0 where
   pub ds : Trees
   pub spelling : List ℕ
@@ -51,6 +54,7 @@ LetsLighter = (W : VariableSet) (p : Position) (n w : Tree) → LetRow W p n w �
 abbrev pub LetsLighten : Type 0
 LetsLighten = (W : VariableSet) → Lightens (LetContracts W)
 
--- it keeps all that a program has to keep, where those variables can be written, whichever functions and classes may lose their own name
+-- it keeps all that a program has to keep, where those variables can be written, whichever
+-- functions and classes may lose their own name
 abbrev pub LetsAreLawful : Type 0
 LetsAreLawful = (K : Shape → Bool) (W : VariableSet) → LawfulWith K W (LetContracts W)

@@ -1,5 +1,6 @@
--- Rows of `switch` and of `for` in which names are declared that no other body mentions, as equations: each is a shape and what is written in its
--- place, with the JavaScript before and after. V has the variables that no event shows while the body runs in which the statement stands.
+-- Rows of `switch` and of `for` in which names are declared that no other body mentions, as
+-- equations: each is a shape and what is written in its place, with the JavaScript before and
+-- after. V has the variables that no event shows while the body runs in which the statement stands.
 use Rattle.std.specs.Prelude.{◌≡◌, ◌⊎◌, ◌&&◌, ◌||◌, not, Bool, true, false, List, [], ◌∷◌, Option, None, Some}
 use Rattle.mini_model.specs.declared.name.Name.{Name}
 use Rattle.mini_model.specs.declared.name.SymbolId.{SymbolId}
@@ -91,8 +92,8 @@ is_lexical_shape (shape.VariableDeclaration Const) = true
 is_lexical_shape (shape.Class true) = true
 is_lexical_shape _ = false
 
--- statements whose lexical names pass. No function is directly among them: that is created where the block is entered (ECMA-262,
--- "BlockDeclarationInstantiation")
+-- statements whose lexical names pass. No function is directly among them: that is created where
+-- the block is entered (ECMA-262, "BlockDeclarationInstantiation")
 abbrev pub is_held : (Name → Bool) → Tree → Bool
 is_held P t = is_unscoped t || (is_lexical_shape (shape_of t) && binds_only P t)
 
@@ -102,8 +103,9 @@ are_held P (t ▸ ts) = is_held P t && are_held P ts
 
 -- ---- 80
 
--- `switch (a) { case 1: let x = b(); c(x); break; }` becomes `if (a === 1) { let x = b(); c(x); }`, with and without the last `break;`: the
--- test writes a value out, and no other `break` leaves the case
+-- `switch (a) { case 1: let x = b(); c(x); break; }` becomes `if (a === 1) { let x = b(); c(x); }`,
+-- with and without the last `break;`: the test writes a value out, and no other `break` leaves the
+-- case
 pub record Row80Lexical (V : VariableSet) (n w : Tree) : Type 0 where
   pub discriminant : Tree
   pub test : PlainForm
@@ -121,8 +123,9 @@ pub record Row80Lexical (V : VariableSet) (n w : Tree) : Type 0 where
 abbrev pub is_of_outside : VariableSet → Tree → Name → Bool
 is_of_outside V x y = is_of V y && not (names y x)
 
--- `for (i; t; u) { if (x) break; let y = a(); b(y); }` becomes `for (i; t && !x; u) { let y = a(); b(y); }`, and so where the `if` has an `else`,
--- and where that leaves. No name of the block stands in x
+-- `for (i; t; u) { if (x) break; let y = a(); b(y); }` becomes
+-- `for (i; t && !x; u) { let y = a(); b(y); }`, and so where the `if` has an `else`, and where that
+-- leaves. No name of the block stands in x
 pub record Row84Lexical (V : VariableSet) (n w : Tree) : Type 0 where
   pub init : Tree
   pub test : Tested
@@ -149,7 +152,8 @@ LexicalRow V _ n w = ⊥
 
 -- ---- the laws
 
--- what a row writes does from a state what it reads does from the one that is it but for those names
+-- what a row writes does from a state what it reads does from the one that is it but for those
+-- names
 abbrev pub LexicalMeansSame : Type 0
 LexicalMeansSame = (V : VariableSet) (p : Position) (n w : Tree) → LexicalRow V p n w → (e : Environment) → Apart e V → (q : Demand) → Fits p q → Fading V e q n w
 

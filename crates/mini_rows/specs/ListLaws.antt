@@ -22,7 +22,8 @@ ListsMeanSame = (o : Switches) → MeansSame (ListContracts o)
 abbrev pub ListsLighten : Type 0
 ListsLighten = (o : Switches) → Lightens (ListContracts o)
 
--- A statement whose head an expression is joined to opens a scope, in which what the head declares is seen
+-- A statement whose head an expression is joined to opens a scope, in which what the head declares
+-- is seen
 abbrev pub opens_scope : Head → Bool
 opens_scope (Switch cases) = true
 opens_scope (For test update body) = true
@@ -58,7 +59,8 @@ OpeningRow a b = OpeningHead a b ⊎ Row67Absent a b
 abbrev pub OpeningListsKept : Type 0
 OpeningListsKept = (n w : Tree) → InList OpeningRow n w → KeptAt StatementList n w
 
--- the rows of lists are lawful, whatever the options let happen, where what a write of each variable does stays
+-- the rows of lists are lawful, whatever the options let happen, where what a write of each
+-- variable does stays
 abbrev pub ListsLawful : Type 0
 ListsLawful = (o : Switches) → Lawful (WhereFixed (ListContracts o))
 

@@ -1,4 +1,5 @@
--- Rows of lists of statements: each reads some neighbours in a list and writes others in their place.
+-- Rows of lists of statements: each reads some neighbours in a list and writes others in their
+-- place.
 use Rattle.std.specs.Prelude.{◌≡◌, ◌⊎◌, ◌<◌, nat_lt, ℕ, zero, suc, Bool, true, false, not, ◌&&◌, ◌||◌, nat_eq, pos, List, [], ◌∷◌, Some, if◌then◌else◌}
 use Rattle.mini_model.specs.declared.kind.VariableDeclarationKind.{VariableDeclarationKind}
 use Rattle.mini_model.specs.declared.kind.VariableDeclarationKind.TheVariants.{Var, Const}
@@ -71,8 +72,8 @@ or_void a = if is_absent a then void_zero else a
 
 -- What is declared
 
--- a statement that declares nothing in the list round it but `var` names, which are hoisted through it (ECMA-262,
--- "LexicallyScopedDeclarations")
+-- a statement that declares nothing in the list round it but `var` names, which are hoisted through
+-- it (ECMA-262, "LexicallyScopedDeclarations")
 abbrev pub is_unscoped_shape : Shape → Bool
 is_unscoped_shape shape.ExpressionStatement = true
 is_unscoped_shape shape.EmptyStatement = true
@@ -151,7 +152,8 @@ abbrev pub are_parts : Tree → Trees → Bool
 are_parts p none = is_one_part p
 are_parts p (q ▸ qs) = true
 
--- Heads of statements: `return e`, `throw e`, `if (e) u else v`, `switch (e) { cases }` and `for (e; u; v) w`
+-- Heads of statements: `return e`, `throw e`, `if (e) u else v`, `switch (e) { cases }` and
+-- `for (e; u; v) w`
 pub data Head : Type 0 where
   Return : Head
   Throw : Head
@@ -214,8 +216,9 @@ terminated_by shape.TryStatement (a ∷ b ∷ c ∷ []) = c || (a && b)
 terminated_by shape.CatchClause (a ∷ b ∷ []) = b
 terminated_by _ bs = false
 
--- a jump, a list or a block with a terminated statement, an `if` of two, and a `try` whose finalizer is, or whose block and handler
--- are: nothing runs after it (ECMA-262, "Completion Record Specification Type", "The try Statement")
+-- a jump, a list or a block with a terminated statement, an `if` of two, and a `try` whose
+-- finalizer is, or whose block and handler are: nothing runs after it (ECMA-262, "Completion Record
+-- Specification Type", "The try Statement")
 abbrev mutual
   pub is_terminated : Tree → Bool
   is_terminated (node h xs n ts) = terminated_by h (are_terminated ts)
@@ -249,8 +252,9 @@ pub record Row79 (a b : Trees) : Type 0 where
   pub shape : a ≡ block statements ▸ none
   pub written : b ≡ statements
 
--- 73, of the jumps `return` and `throw`: `if (a) return b; return c;` becomes `return a ? b : c;`, where an absent b is
--- `void 0`, and c nests no deeper than may be put deeper, as no long chain of conditionals does
+-- 73, of the jumps `return` and `throw`: `if (a) return b; return c;` becomes `return a ? b : c;`,
+-- where an absent b is `void 0`, and c nests no deeper than may be put deeper, as no long chain of
+-- conditionals does
 pub record Row73 (jump : Tree → Tree) (a b : Trees) : Type 0 where
   pub test : Tree
   pub left : Tree
@@ -341,8 +345,8 @@ pub record Row76 (a b : Trees) : Type 0 where
   pub shape : a ≡ if_else test s u ▸ none
   pub written : b ≡ if_alone test s ▸ (u ▸ none)
 
--- 74: `if (a) s; if (b) s;` becomes `if (a || b) s`, where s ends in a jump, and `a || b` nests no deeper than may be put deeper;
--- the second may have an `else`, which stays
+-- 74: `if (a) s; if (b) s;` becomes `if (a || b) s`, where s ends in a jump, and `a || b` nests no
+-- deeper than may be put deeper; the second may have an `else`, which stays
 pub record Row74 (a b : Trees) : Type 0 where
   pub left : Tree
   pub right : Tree
@@ -364,7 +368,8 @@ says AsStatement e = expression_statement e
 says AsReturn e = return_statement e
 says AsThrow e = throw_statement e
 
--- 77: `return a; b();` becomes `return a;`, and so `return b;` and `throw b;` go after a statement that ends in a jump
+-- 77: `return a; b();` becomes `return a;`, and so `return b;` and `throw b;` go after a statement
+-- that ends in a jump
 pub record Row77 (a b : Trees) : Type 0 where
   pub first : Tree
   pub saying : Saying
@@ -393,9 +398,10 @@ pub record Row77Leap (a b : Trees) : Type 0 where
 
 -- What never runs
 
--- Where names that can't be written are declared: constants, and the names of function expressions and of classes (ECMA-262,
--- "Runtime Semantics: InstantiateOrdinaryFunctionExpression", "ClassDefinitionEvaluation"). A statement that goes takes such a name along
--- where a scope in it declares it
+-- Where names that can't be written are declared: constants, and the names of function expressions
+-- and of classes (ECMA-262, "Runtime Semantics: InstantiateOrdinaryFunctionExpression",
+-- "ClassDefinitionEvaluation"). A statement that goes takes such a name along where a scope in it
+-- declares it
 
 -- a name, or nothing
 abbrev pub is_name_shape : Shape → Bool
@@ -403,8 +409,9 @@ is_name_shape shape.BindingIdentifier = true
 is_name_shape shape.Absent = true
 is_name_shape _ = false
 
--- whether the names that a part of a declaration gives are those that it binds (ECMA-262, "BoundNames"): of a pattern all of its parts are
--- asked, and of what has an initializer the first. No statement and no declaration stands there
+-- whether the names that a part of a declaration gives are those that it binds (ECMA-262,
+-- "BoundNames"): of a pattern all of its parts are asked, and of what has an initializer the first.
+-- No statement and no declaration stands there
 pub data Binding : Type 0 where
   By_all : Binding
   By_first : Binding
@@ -468,7 +475,8 @@ abbrev pub is_third : ℕ → Bool
 is_third (suc (suc zero)) = true
 is_third i = false
 
--- a node opens a scope of the names that this child declares: a block, a `switch`, the head of a loop, a function
+-- a node opens a scope of the names that this child declares: a block, a `switch`, the head of a
+-- loop, a function
 abbrev pub scopes_child : Shape → ℕ → Bool
 scopes_child shape.BlockStatement i = is_first i
 scopes_child shape.StaticBlock i = is_first i
@@ -496,7 +504,8 @@ has_body (shape.ArrowFunctionExpression directives) = true
 has_body (shape.Function is_declaration is_generator directives) = true
 has_body _ = false
 
--- whether a scope has the names that the child at an index declares, a child of this shape: the node's, or one around it
+-- whether a scope has the names that the child at an index declares, a child of this shape: the
+-- node's, or one around it
 abbrev pub holds : Bool → Shape → ℕ → Shape → Bool
 holds held h i g = (scopes_child h i || (hands_on_child h i && held)) && (has_body h || not (is_body_of_function g))
 
@@ -520,7 +529,8 @@ abbrev pub declared_bare : List Name → Trees
 declared_bare [] = none
 declared_bare (x ∷ xs) = declaration Var (bare_declarators (x ∷ xs)) ▸ none
 
--- what is left of a statement that never runs: its `var` names, which are hoisted (ECMA-262, "VarDeclaredNames")
+-- what is left of a statement that never runs: its `var` names, which are hoisted (ECMA-262,
+-- "VarDeclaredNames")
 abbrev pub left_behind : Tree → Trees
 left_behind t = declared_bare (names_of declared.Hoisted t)
 
@@ -528,8 +538,9 @@ left_behind t = declared_bare (names_of declared.Hoisted t)
 abbrev pub is_lighter_left : Tree → Bool
 is_lighter_left t = nat_lt (capped (weight StatementList (listed (left_behind t)))) (capped (weight (Stmt stmt_seat.List) t))
 
--- 77: `return a; let b; var x = c(), y;` becomes `return a; let b; var x, y;`, `return a; function f() {} if (b) { var x = 1; }` becomes
--- `return a; function f() {} var x;`, and a statement in which no `var` stands goes
+-- 77: `return a; let b; var x = c(), y;` becomes `return a; let b; var x, y;`,
+-- `return a; function f() {} if (b) { var x = 1; }` becomes `return a; function f() {} var x;`, and
+-- a statement in which no `var` stands goes
 pub record Row77Unreached (a b : Trees) : Type 0 where
   pub first : Tree
   pub between : Trees
@@ -554,8 +565,8 @@ abbrev pub each_loop : Each → Tree → Tree → Tree → Tree
 each_loop EachIn left right body = for_in left right body
 each_loop EachOf left right body = node shape.ForOfStatement [] 0 (left ▸ (right ▸ (body ▸ none)))
 
--- what holds an expression that is evaluated first: `e;`, a head, what a `for..in` or `for..of` goes over, or the first initializer of
--- a declaration, or of a `var` in the head of a `for`
+-- what holds an expression that is evaluated first: `e;`, a head, what a `for..in` or `for..of`
+-- goes over, or the first initializer of a declaration, or of a `var` in the head of a `for`
 pub data Holder : Type 0 where
   Statement : Holder
   Heading : Head → Holder
@@ -575,8 +586,8 @@ abbrev pub holds_well : Holder → Bool
 holds_well (Going k left body) = is_plain_left left
 holds_well _ = true
 
--- how an assignment begins a statement: it is all of `e;` or of the expression that a `for` begins with, or the first part of a
--- sequence that stands in such a place
+-- how an assignment begins a statement: it is all of `e;` or of the expression that a `for` begins
+-- with, or the first part of a sequence that stands in such a place
 pub data Beginning : Type 0 where
   Alone : Beginning
   Init : Tree → Tree → Tree → Beginning
@@ -597,9 +608,10 @@ abbrev pub begins_well : Beginning → Bool
 begins_well (Before h q qs) = holds_well h && are_parts q qs
 begins_well _ = true
 
--- 70: `var a, c; a = b;` becomes `var a = b, c;`, `var a; return a = b, d;` becomes `var a = b; return d;`,
--- `var a; for (c of (a = b, d)) e` becomes `var a = b; for (c of d) e`, `var a; let c = (a = b, d);` becomes `var a = b; let c = d;`,
--- and `var a; for (var c = (a = b, d); e; f) g` becomes `var a = b; for (var c = d; e; f) g`
+-- 70: `var a, c; a = b;` becomes `var a = b, c;`, `var a; return a = b, d;` becomes
+-- `var a = b; return d;`, `var a; for (c of (a = b, d)) e` becomes `var a = b; for (c of d) e`,
+-- `var a; let c = (a = b, d);` becomes `var a = b; let c = d;`, and
+-- `var a; for (var c = (a = b, d); e; f) g` becomes `var a = b; for (var c = d; e; f) g`
 pub record Row70 (a b : Trees) : Type 0 where
   pub ds : Trees
   pub spelling : List ℕ
@@ -626,14 +638,16 @@ pub record Row69 (k : Each) (a b : Trees) : Type 0 where
   pub shape : a ≡ bare_var (resolved spelling symbol) ▸ (each_loop k (identifier (resolved spelling symbol)) right body ▸ none)
   pub written : b ≡ each_loop k (bare_var (resolved spelling symbol)) right body ▸ none
 
--- Rows at the end of a list after which a jump would go where the list does: a function's body, after which it returns
+-- Rows at the end of a list after which a jump would go where the list does: a function's body,
+-- after which it returns
 
 -- 78: the last jump goes
 pub record Row78 (jump : Tree) (a b : Trees) : Type 0 where
   pub shape : a ≡ jump ▸ none
   pub written : b ≡ none
 
--- 75: `if (a) return; b; c;` becomes `if (!a) { b; c; }`, where b and c nest no deeper than may be put deeper
+-- 75: `if (a) return; b; c;` becomes `if (!a) { b; c; }`, where b and c nest no deeper than may be
+-- put deeper
 pub record Row75 (jump : Tree) (a b : Trees) : Type 0 where
   pub test : Tree
   pub rest : Trees
@@ -680,7 +694,8 @@ JoinRow o a b = ((o.join_vars ≡ true) × Row68 a b) ⊎ ((o.sequences ≡ true
 abbrev pub StretchRow : Switches → Trees → Trees → Type 0
 StretchRow o a b = Row66Empty a b ⊎ (Row79 a b ⊎ (JoinRow o a b ⊎ ((o.sequences ≡ true) × SequencesRow a b)))
 
--- those on a jump and what follows: on an `if` that ends in one and the next one that has its branch, and on what never runs
+-- those on a jump and what follows: on an `if` that ends in one and the next one that has its
+-- branch, and on what never runs
 abbrev pub GuardsRow : Switches → Trees → Trees → Type 0
 GuardsRow o a b = (o.sequences ≡ true) × (Row74 a b ⊎ (Row77 a b ⊎ (Row77Leap a b ⊎ Row77Unreached a b)))
 

@@ -9,14 +9,15 @@ use Rattle.mini_rows.specs.Switches.{Switches}
 use Rattle.mini_rows.specs.Lists.{block, Row75, Row75Block}
 use Rattle.mini_rows.specs.Branches.{Surrounding, around, is_loop, bare_continue}
 
--- the guard with all that follows it: `if (b) continue; c();` becomes `if (!b) { c(); }`, and `if (b) { c(); continue; } d();`
--- becomes `if (b) { c(); } else { d(); }`
+-- the guard with all that follows it: `if (b) continue; c();` becomes `if (!b) { c(); }`, and
+-- `if (b) { c(); continue; } d();` becomes `if (b) { c(); } else { d(); }`
 abbrev pub TurnsGuard : Trees → Trees → Type 0
 TurnsGuard a b = Row75 bare_continue a b ⊎ Row75Block bare_continue a b
 
 -- ---- 75, of loops
 
--- `while (a) { if (b) continue; c(); }` becomes `while (a) { if (!b) { c(); } }`: where the body ends the loop goes on by itself
+-- `while (a) { if (b) continue; c(); }` becomes `while (a) { if (!b) { c(); } }`: where the body
+-- ends the loop goes on by itself
 pub record Row75Loop (n w : Tree) : Type 0 where
   pub place : Surrounding
   pub before : Trees
@@ -27,7 +28,8 @@ pub record Row75Loop (n w : Tree) : Type 0 where
   pub shape : n ≡ around place (block (append before read))
   pub written : w ≡ around place (block (append before put))
 
--- `while (a) if (b) { c(); continue; }` becomes `while (a) if (b) { c(); }`, where the guard is the whole body
+-- `while (a) if (b) { c(); continue; }` becomes `while (a) if (b) { c(); }`, where the guard is the
+-- whole body
 pub record Row75Whole (n w : Tree) : Type 0 where
   pub place : Surrounding
   pub guard : Tree

@@ -50,7 +50,8 @@ abbrev mutual
   first_is_there none = false
   first_is_there (t ▸ ts) = is_there t
 
--- an expression of a program is one: it is there, and has no statement in it but in functions and static blocks
+-- an expression of a program is one: it is there, and has no statement in it but in functions and
+-- static blocks
 abbrev pub is_test : Tree → Bool
 is_test t = is_there t && not (may_leap t)
 
@@ -76,7 +77,8 @@ also (while_true t) x = logical And t x
 
 -- ---- the body
 
--- an `if` that leaves the loop: `if (x) break;`, `if (x) break; else s`, and `if (x) s; else break;`
+-- an `if` that leaves the loop: `if (x) break;`, `if (x) break; else s`, and
+-- `if (x) s; else break;`
 pub data Leaving : Type 0 where
   alone : Leaving
   or_else : Tree → Leaving
@@ -117,8 +119,9 @@ others_of (before ts) = ts
 
 -- ---- 84
 
--- `for (i; t; u) { if (x) break; s }` becomes `for (i; t && !x; u) { s }`, and `for (i; t; u) if (x) s; else break;` becomes
--- `for (i; t && x; u) s`. Nothing in the block is a `let`, a `const`, a class or a function
+-- `for (i; t; u) { if (x) break; s }` becomes `for (i; t && !x; u) { s }`, and
+-- `for (i; t; u) if (x) s; else break;` becomes `for (i; t && x; u) s`. Nothing in the block is a
+-- `let`, a `const`, a class or a function
 pub record Row84 (n w : Tree) : Type 0 where
   pub init : Tree
   pub test : Tested

@@ -1,5 +1,6 @@
--- Rows of members of what keeps its value while a body runs, `this` or a name that is steady, as equations: each is a shape and what is
--- written in its place, with the JavaScript before and after. V says what is known of the body in which the expression stands.
+-- Rows of members of what keeps its value while a body runs, `this` or a name that is steady, as
+-- equations: each is a shape and what is written in its place, with the JavaScript before and
+-- after. V says what is known of the body in which the expression stands.
 use Rattle.std.specs.Prelude.{◌≡◌, ◌⊎◌, ◌&&◌, ◌||◌, not, ℕ, List, Bool, true, false, nat_eq, Some}
 use Rattle.mini_model.specs.declared.operator.AssignmentOperator.{AssignmentOperator}
 use Rattle.mini_model.specs.declared.operator.AssignmentOperator.TheVariants.{Assign}
@@ -35,13 +36,14 @@ abbrev pub object : Object → Tree
 object OfThis = this
 object (OfName spelling symbol) = identifier (resolved spelling symbol)
 
--- its value stays as it is, whatever the world does: the body has a `this` for which it doesn't ask (ECMA-262, "ResolveThisBinding"), or no
--- answer changes the name
+-- its value stays as it is, whatever the world does: the body has a `this` for which it doesn't ask
+-- (ECMA-262, "ResolveThisBinding"), or no answer changes the name
 abbrev pub is_kept : Assured → Object → Bool
 is_kept V OfThis = V.has_this
 is_kept V (OfName spelling symbol) = V.steady (Declared symbol)
 
--- and whatever this does: nothing writes `this`, and what neither declares nor writes a name leaves it as it is (ECMA-262, "PutValue")
+-- and whatever this does: nothing writes `this`, and what neither declares nor writes a name leaves
+-- it as it is (ECMA-262, "PutValue")
 abbrev pub is_left : Object → Tree → Bool
 is_left OfThis t = true
 is_left (OfName spelling symbol) t = leaves t (resolved spelling symbol) symbol
@@ -50,8 +52,8 @@ abbrev pub are_left : Object → Trees → Bool
 are_left of none = true
 are_left of (t ▸ ts) = is_left of t && are_left of ts
 
--- 38: `x.k || (x.k = b)` becomes `x.k ||= b`, and so of `&&` and `??`, and of `this.k`: the object is evaluated again after the property, whose
--- getter may run any code
+-- 38: `x.k || (x.k = b)` becomes `x.k ||= b`, and so of `&&` and `??`, and of `this.k`: the object
+-- is evaluated again after the property, whose getter may run any code
 pub record Row38Member (V : Assured) (n w : Tree) : Type 0 where
   pub operator : LogicalOperator
   pub of : Object
@@ -86,7 +88,8 @@ pub record Row35This (V : Assured) (n w : Tree) : Type 0 where
   pub shape : n ≡ assignment Assign (member_on this key) (binary operator (member_on this key) b)
   pub written : w ≡ assignment combined (member_on this key) b
 
--- what evaluates its first part before all else, and leaves the model where that does; of a name that is called by itself it isn't said
+-- what evaluates its first part before all else, and leaves the model where that does; of a name
+-- that is called by itself it isn't said
 abbrev pub opens : Shape → Bool → Bool
 opens (shape.UnaryExpression LogicalNot) is_leaf = true
 opens (shape.UnaryExpression UnaryPlus) is_leaf = true
@@ -113,8 +116,8 @@ abbrev mutual
   begins_in o h none = false
   begins_in o h (t ▸ ts) = opens h (is_childless t) && begins_at o t
 
--- the object may be evaluated before this, whatever it does: it is `this`, or a name that is left, and that has a value there, or is read first in
--- it, so that it has one if anything is done
+-- the object may be evaluated before this, whatever it does: it is `this`, or a name that is left,
+-- and that has a value there, or is read first in it, so that it has one if anything is done
 abbrev pub is_ready : Assured → Object → Tree → Bool
 is_ready V OfThis t = true
 is_ready V (OfName spelling symbol) t = (V.initial (Declared symbol) || begins_at (identifier (resolved spelling symbol)) t) && leaves t (resolved spelling symbol) symbol
@@ -133,14 +136,16 @@ abbrev pub is_kept_index : Assured → Index → Bool
 is_kept_index V (Written key) = true
 is_kept_index V (Held of) = is_kept V of
 
--- it is evaluated right after the object, and is made a property key where the member is written (ECMA-262, "PutValue")
+-- it is evaluated right after the object, and is made a property key where the member is written
+-- (ECMA-262, "PutValue")
 abbrev pub is_ready_index : Assured → Index → Tree → Bool
 is_ready_index V (Written key) t = true
 is_ready_index V (Held of) t = is_ready V of t
 
--- 45: `a ? this.k = b : this.k = c` becomes `this.k = a ? b : c`, whatever a does; and so of x.k, where x has a value: in a function with the parameter
--- x `a() ? x.k = b : x.k = c` becomes `x.k = a() ? b : c`; or where a reads x first: `x.a ? x.k = b : x.k = c` becomes `x.k = x.a ? b : c`. And so of x[i]
--- and this[i]
+-- 45: `a ? this.k = b : this.k = c` becomes `this.k = a ? b : c`, whatever a does; and so of x.k,
+-- where x has a value: in a function with the parameter x `a() ? x.k = b : x.k = c` becomes
+-- `x.k = a() ? b : c`; or where a reads x first: `x.a ? x.k = b : x.k = c` becomes
+-- `x.k = x.a ? b : c`. And so of x[i] and this[i]
 pub record Row45Kept (V : Assured) (s : Seat) (n w : Tree) : Type 0 where
   pub a : Tree
   pub of : Object

@@ -1,5 +1,5 @@
--- The row of the names of function and class expressions: a shape and what is written in its place, with the JavaScript before and
--- after.
+-- The row of the names of function and class expressions: a shape and what is written in its place,
+-- with the JavaScript before and after.
 use Rattle.std.specs.Prelude.{◌≡◌, ◌<◌, ℕ, Bool, true, false, List, []}
 use Rattle.mini_model.specs.declared.place.Position.{Position}
 use Rattle.mini_model.specs.declared.place.Position.TheVariants.{Expr}
@@ -14,8 +14,8 @@ use Rattle.mini_rows.specs.Declarations.{binding}
 use Rattle.mini_rows.specs.Switches.{Switches, let_go}
 use Rattle.mini_rows.specs.Unused.{any_names, resolved}
 
--- what may have a name of its own: a function expression, whether it is a generator, with its directives, parameters and body; or
--- a class expression, with what it extends and its body
+-- what may have a name of its own: a function expression, whether it is a generator, with its
+-- directives, parameters and body; or a class expression, with what it extends and its body
 pub data Nameable : Type 0 where
   AFunction : Bool → List (List ℕ) → Tree → Tree → Nameable
   AClass : Tree → Tree → Nameable
@@ -33,8 +33,9 @@ inside_of (AClass superclass body) = superclass ▸ (body ▸ (absent ▸ none))
 abbrev pub nameable : Nameable → ℕ → Tree → Tree
 nameable e number name = node (shape_by e) [] number (name ▸ inside_of e)
 
--- 62: `f(function g() { return 1; })` becomes `f(function () { return 1; })`, and `f(class C {})` becomes `f(class {})`, where nothing in
--- it has the symbol of the name or its spelling, no direct eval stands there, which would see it, and the options let it go
+-- 62: `f(function g() { return 1; })` becomes `f(function () { return 1; })`, and `f(class C {})`
+-- becomes `f(class {})`, where nothing in it has the symbol of the name or its spelling, no direct
+-- eval stands there, which would see it, and the options let it go
 pub record Row62 (o : Switches) (n w : Tree) : Type 0 where
   pub what : Nameable
   pub number : ℕ

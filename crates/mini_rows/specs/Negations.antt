@@ -1,4 +1,5 @@
--- The row of negations that reach into the operand: a shape and what is written in its place, with the JavaScript before and after.
+-- The row of negations that reach into the operand: a shape and what is written in its place, with
+-- the JavaScript before and after.
 use Rattle.std.specs.Prelude.{◌≡◌, refl, ◌<◌, ℕ, zero, Bool, true, false, not, ◌&&◌, ◌||◌, List, [], Option, Some, None, is_some, codes, nat_lt, if◌then◌else◌}
 use Rattle.mini_model.specs.declared.operator.BinaryOperator.{BinaryOperator}
 use Rattle.mini_model.specs.declared.operator.BinaryOperator.TheVariants.{LessThan, LessEqualThan, GreaterThan}
@@ -24,8 +25,8 @@ use Rattle.mini_rows.specs.Spellings.{binary, boolean, text}
 abbrev pub beside_u : BinaryOperator → Tree → Tree
 beside_u o a = binary o (unary Typeof a) (text (codes "u"))
 
--- `<` and `>` are turned into each other beside that text: `typeof` gives one of eight texts, none of which is `u`, and so either one
--- holds (ECMA-262, "The typeof Operator")
+-- `<` and `>` are turned into each other beside that text: `typeof` gives one of eight texts, none
+-- of which is `u`, and so either one holds (ECMA-262, "The typeof Operator")
 abbrev pub reversed : BinaryOperator → Option BinaryOperator
 reversed LessThan = Some GreaterThan
 reversed GreaterThan = Some LessThan
@@ -58,9 +59,9 @@ abbrev pub is_several : Tree → Bool
 is_several (node shape.SequenceExpression [] zero (node shape.Listed [] zero (a ▸ (b ▸ ts)) ▸ none)) = true
 is_several _ = false
 
--- `&&` and `||` are turned into each other with both sides negated (De Morgan), however deep, of a sequence the last part is negated,
--- which gives its value (ECMA-262, "Comma Operator"), and what else is written for the negation of a part is given by a function of its
--- seat
+-- `&&` and `||` are turned into each other with both sides negated (De Morgan), however deep, of a
+-- sequence the last part is negated, which gives its value (ECMA-262, "Comma Operator"), and what
+-- else is written for the negation of a part is given by a function of its seat
 abbrev mutual
   pub whole_by : (Seat → Tree → Tree) → Seat → Tree → Tree
   whole_by f s (node (shape.LogicalExpression And) [] zero (a ▸ b ▸ none)) = logical Or (whole_by f (left_operand_seat Or s) a) (whole_by f (right_operand_seat Or s) b)
@@ -93,8 +94,9 @@ reaches_in t = is_junction t || (is_several t || (is_some (reverse_of t) || is_s
 
 -- ---- the row
 
--- 23, of what is read inside the operand too: `!(a && typeof x < "u")` becomes `!a || typeof x > "u"`, `!(a, b == c)` becomes
--- `a, b != c`, `!(typeof x < "u")` becomes `typeof x > "u"`, and `!true` becomes `false`
+-- 23, of what is read inside the operand too: `!(a && typeof x < "u")` becomes
+-- `!a || typeof x > "u"`, `!(a, b == c)` becomes `a, b != c`, `!(typeof x < "u")` becomes
+-- `typeof x > "u"`, and `!true` becomes `false`
 pub record Row23Whole (s : Seat) (n w : Tree) : Type 0 where
   pub e : Tree
   pub inside : reaches_in e ≡ true

@@ -1,5 +1,5 @@
--- Rows on operands whose value is known, as equations: each is a shape and what is written in its place, with the JavaScript before and
--- after. No order of rewriting is meant.
+-- Rows on operands whose value is known, as equations: each is a shape and what is written in its
+-- place, with the JavaScript before and after. No order of rewriting is meant.
 use Rattle.std.specs.Prelude.{◌≡◌, ℕ, ℤ, pos, ◌<◌, nat_le, nat_lt, ◌⊎◌, ◌&&◌, ◌||◌, Bool, true, false, List, [], ◌∷◌, ◌++◌, Option, Some, None, codes, is_none}
 use Rattle.std.specs.Fmt.{signed_decimal}
 use Rattle.mini_model.specs.declared.name.Name.{Name}
@@ -102,7 +102,8 @@ keeps_bits BitwiseXor n = same_number n (pos 0)
 keeps_bits BitwiseAnd n = same_number n (pos 4_294_967_295)
 keeps_bits o n = false
 
--- `|` has no parentheses in the seat where this operator has none, or they weigh less than what goes
+-- `|` has no parentheses in the seat where this operator has none, or they weigh less than what
+-- goes
 abbrev pub has_room : BinaryOperator → Seat → Bool
 has_room BitwiseAnd s = true
 has_room BitwiseXor s = nat_le s.level 5 || nat_lt 6 s.level
@@ -115,8 +116,8 @@ zero_told false a = negation (negation a)
 
 -- ---- rows
 
--- 14: `a || 0 || b` becomes `a || b`, and `a && 1 && b` becomes `a && b`: the operand in the middle is effect-free, and known to let the
--- last one be evaluated
+-- 14: `a || 0 || b` becomes `a || b`, and `a && 1 && b` becomes `a && b`: the operand in the middle
+-- is effect-free, and known to let the last one be evaluated
 pub record Row14 (s : Seat) (n w : Tree) : Type 0 where
   pub operator : LogicalOperator
   pub left : Tree
@@ -140,7 +141,8 @@ pub record Row7 (s : Seat) (n w : Tree) : Type 0 where
   pub shape : n ≡ beside Addition on_right operand (text [])
   pub written : w ≡ operand
 
--- 29: each value of b is a boolean: `b == !0` and `b != !1` become `b`, `b == !1` and `b != !0` become `!b`
+-- 29: each value of b is a boolean: `b == !0` and `b != !1` become `b`, `b == !1` and `b != !0`
+-- become `!b`
 pub record Row29 (s : Seat) (n w : Tree) : Type 0 where
   pub equal : Bool
   pub truth : Bool
@@ -159,8 +161,8 @@ pub record Row30 (n w : Tree) : Type 0 where
   pub shape : n ≡ beside (loosely equal) on_right operand (negated_digit truth)
   pub written : w ≡ beside (loosely equal) on_right operand (digit truth)
 
--- 4: `a + "s" + "t"` becomes `a + "st"`, `a + "s" + 1` becomes `a + "s1"`, and `a + "s" + null` becomes `a + "snull"`; so does
--- `a + "s" + undefined`
+-- 4: `a + "s" + "t"` becomes `a + "st"`, `a + "s" + 1` becomes `a + "s1"`, and `a + "s" + null`
+-- becomes `a + "snull"`; so does `a + "s" + undefined`
 pub record Row4 (n w : Tree) : Type 0 where
   pub left : Tree
   pub before : List ℕ
@@ -178,7 +180,8 @@ pub record Row27 (n w : Tree) : Type 0 where
   pub shape : n ≡ binary (loosely equal) operand (digit false)
   pub written : w ≡ zero_told equal operand
 
--- 31: `a << 0`, `a >> 0`, `a ^ 0` and `a & 4294967295` become `a | 0`, and so do `0 ^ a` and `4294967295 & a`
+-- 31: `a << 0`, `a >> 0`, `a ^ 0` and `a & 4294967295` become `a | 0`, and so do `0 ^ a` and
+-- `4294967295 & a`
 pub record Row31 (s : Seat) (n w : Tree) : Type 0 where
   pub operator : BinaryOperator
   pub on_right : Bool

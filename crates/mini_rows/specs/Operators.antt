@@ -1,5 +1,6 @@
--- Rows on operators whose value is told by their operands, or that do alike without a part of these, as equations: each is a shape and
--- what is written in its place, with the JavaScript before and after. No order of rewriting is meant.
+-- Rows on operators whose value is told by their operands, or that do alike without a part of
+-- these, as equations: each is a shape and what is written in its place, with the JavaScript before
+-- and after. No order of rewriting is meant.
 use Rattle.std.specs.Prelude.{◌≡◌, ◌⊎◌, ℕ, ℤ, Bool, true, false, not, ◌&&◌, ◌||◌, ◌-◌, nat_le, length, List, codes, Option, Some, None, if◌then◌else◌}
 use Rattle.std.specs.Fmt.{signed_decimal}
 use Rattle.mini_model.specs.declared.name.Name.{Name}
@@ -36,7 +37,8 @@ says_equal binary_operator.Equality = true
 says_equal binary_operator.StrictEquality = true
 says_equal o = false
 
--- the texts that `typeof` gives (ECMA-262, "The typeof Operator"), and one that engines of old gave besides
+-- the texts that `typeof` gives (ECMA-262, "The typeof Operator"), and one that engines of old gave
+-- besides
 abbrev pub is_type_text : List ℕ → Bool
 is_type_text s =
     same_text s (codes "undefined") || (same_text s (codes "object") || (same_text s (codes "boolean") || (same_text s (codes "number") || (same_text s (codes "string") || (same_text s (codes "symbol") || (same_text s (codes "bigint") || (same_text s (codes "function") || same_text s (codes "unknown"))))))))
@@ -58,7 +60,8 @@ is_no_type_by None k = is_other_kind k
 abbrev pub is_no_type : Tree → Bool
 is_no_type t = is_no_type_by (string t) (kind t)
 
--- it makes its operands numbers, the left one first, whatever they are (ECMA-262, "ApplyStringOrNumericBinaryOperator")
+-- it makes its operands numbers, the left one first, whatever they are (ECMA-262,
+-- "ApplyStringOrNumericBinaryOperator")
 abbrev pub makes_numbers : BinaryOperator → Bool
 makes_numbers binary_operator.Subtraction = true
 makes_numbers binary_operator.Multiplication = true
@@ -91,8 +94,8 @@ is_short r c d = nat_le (length (signed_decimal r) - length (signed_decimal c)) 
 
 -- ---- rows
 
--- 2: `delete a()` becomes `a(), !0`, `delete function () {}` `function () {}, !0`, and `delete (a + 1)` `!0` where that has no effect: what
--- is no reference is not deleted
+-- 2: `delete a()` becomes `a(), !0`, `delete function () {}` `function () {}, !0`, and
+-- `delete (a + 1)` `!0` where that has no effect: what is no reference is not deleted
 pub record Row2 (n w : Tree) : Type 0 where
   pub operand : Tree
   pub value : is_lone operand ≡ true
@@ -107,8 +110,8 @@ pub record Row16 (n w : Tree) : Type 0 where
   pub shape : n ≡ binary operator (unary Typeof (identifier name)) (unary Typeof (identifier name))
   pub written : w ≡ negated_digit (says_equal operator)
 
--- 17: `typeof a == "text"` becomes `!1`, and `typeof a !== null` `!0`: no value of `typeof` equals the right side. `this` has an effect where it is
--- asked of the world
+-- 17: `typeof a == "text"` becomes `!1`, and `typeof a !== null` `!0`: no value of `typeof` equals
+-- the right side. `this` has an effect where it is asked of the world
 pub record TypeRow (asked : Bool) (n w : Tree) : Type 0 where
   pub operator : BinaryOperator
   pub operand : Tree
@@ -124,8 +127,8 @@ pub record TypeRow (asked : Bool) (n w : Tree) : Type 0 where
 abbrev pub Row17 : Tree → Tree → Type 0
 Row17 = TypeRow true
 
--- 56, on the left: `+a * 2` becomes `a * 2`, and `+a * (1 << 30)` `a * (1 << 30)`: the evaluation of the right side does nothing but give
--- a number
+-- 56, on the left: `+a * 2` becomes `a * 2`, and `+a * (1 << 30)` `a * (1 << 30)`: the evaluation
+-- of the right side does nothing but give a number
 pub record Row56Left (n w : Tree) : Type 0 where
   pub operator : BinaryOperator
   pub operand : Tree

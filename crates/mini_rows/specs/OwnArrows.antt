@@ -1,4 +1,5 @@
--- Rows in the own code of an arrow function, whose body is a block or an expression; and in that of a function, whichever it is.
+-- Rows in the own code of an arrow function, whose body is a block or an expression; and in that of
+-- a function, whichever it is.
 use Rattle.std.specs.Prelude.{◌≡◌, ◌⊎◌, ℕ, Bool, List, []}
 use Rattle.mini_model.specs.declared.place.Position.{Position}
 use Rattle.mini_model.specs.declared.place.Position.TheVariants.{Expr}
@@ -38,7 +39,8 @@ OwnCode F S p n w = OwnFunction F S p n w ⊎ OwnArrow F S p n w
 
 -- ---- the laws
 
--- what is written there keeps all that a program has to keep, whichever functions and classes may lose their own name and whichever variables can be written
+-- what is written there keeps all that a program has to keep, whichever functions and classes may
+-- lose their own name and whichever variables can be written
 abbrev pub OwnCodeIsLawful : OwnRows → Type 0
 OwnCodeIsLawful F = ((V : Assured) → KeepsOwn V (F V)) → (K : Shape → Bool) (W : VariableSet) (S : BodySets) → LawfulUnder K W S (OwnCode F S)
 

@@ -1,6 +1,7 @@
--- Rows in the own code of a static block, and of an inner expression: the value of a field, a key in brackets or a default in a pattern, what a
--- class extends, an argument of `super()`, and their like, which the world evaluates (ECMA-262, "ClassDefinitionEvaluation",
--- "BindingInitialization", "DestructuringAssignmentEvaluation").
+-- Rows in the own code of a static block, and of an inner expression: the value of a field, a key
+-- in brackets or a default in a pattern, what a class extends, an argument of `super()`, and their
+-- like, which the world evaluates (ECMA-262, "ClassDefinitionEvaluation", "BindingInitialization",
+-- "DestructuringAssignmentEvaluation").
 use Rattle.std.specs.Prelude.{◌≡◌, ◌⊎◌, ℕ, Bool, []}
 use Rattle.mini_model.specs.declared.place.Position.{Position}
 use Rattle.mini_model.specs.declared.place.Position.TheVariants.{StatementList}
@@ -19,7 +20,8 @@ abbrev pub block_over : ℕ → Tree → Tree
 block_over n list = node shape.StaticBlock [] n (list ▸ none)
 
 -- that takes a step by a row of F, over what S says of the body with the block's number:
--- `class A { static { const x = a(); x.k || (x.k = b); } }` becomes `class A { static { const x = a(); x.k ||= b; } }`
+-- `class A { static { const x = a(); x.k || (x.k = b); } }` becomes
+-- `class A { static { const x = a(); x.k ||= b; } }`
 pub record OwnBlockRow (F : OwnRows) (S : BodySets) (n w : Tree) : Type 0 where
   pub number : ℕ
   pub before : Tree
@@ -47,8 +49,9 @@ OwnPart F S p n w = OwnBlockRow F S n w ⊎ OwnInnerRow F S p n w
 
 -- ---- the laws
 
--- What is written there keeps all that a program has to keep, whichever functions and classes may lose their own name and whichever variables
--- can be written, where rows of F leave imports, exports and functions where they stand
+-- What is written there keeps all that a program has to keep, whichever functions and classes may
+-- lose their own name and whichever variables can be written, where rows of F leave imports,
+-- exports and functions where they stand
 abbrev pub OwnPartsAreLawful : OwnRows → Type 0
 OwnPartsAreLawful F = ((V : Assured) → KeepsOwn V (F V)) → ((V : Assured) → KeepsPlaces (F V)) → (K : Shape → Bool) (W : VariableSet) (S : BodySets) → LawfulRooted K W S (OwnPart F S)
 

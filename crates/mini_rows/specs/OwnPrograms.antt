@@ -1,5 +1,6 @@
--- Rows in the own code of a program: a module's statements, or a script's. What is known of names at the top of a script is little, as
--- others may change them; in a module, and in a block, it is what is known of the names of any body.
+-- Rows in the own code of a program: a module's statements, or a script's. What is known of names
+-- at the top of a script is little, as others may change them; in a module, and in a block, it is
+-- what is known of the names of any body.
 use Rattle.std.specs.Prelude.{◌≡◌, ℕ, Bool, List, []}
 use Rattle.mini_model.specs.declared.place.Position.{Position}
 use Rattle.mini_model.specs.declared.place.Position.TheVariants.{StatementList, Elsewhere}
@@ -35,8 +36,9 @@ OwnProgram F S _ n w = ⊥
 
 -- ---- the laws
 
--- What is written there keeps all that a program has to keep, whichever functions and classes may lose their own name and whichever variables
--- can be written, where rows of F leave imports, exports and functions where they stand
+-- What is written there keeps all that a program has to keep, whichever functions and classes may
+-- lose their own name and whichever variables can be written, where rows of F leave imports,
+-- exports and functions where they stand
 abbrev pub OwnProgramsAreLawful : OwnRows → Type 0
 OwnProgramsAreLawful F = ((V : Assured) → KeepsOwn V (F V)) → ((V : Assured) → KeepsPlaces (F V)) → (K : Shape → Bool) (W : VariableSet) (S : BodySets) → LawfulRooted K W S (OwnProgram F S)
 

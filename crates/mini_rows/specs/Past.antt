@@ -1,5 +1,6 @@
--- Row 71 past steady names: a name that is read once, behind what may be evaluated before its initializer because no answer of the world
--- changes it while the body runs, as equations with the JavaScript before and after.
+-- Row 71 past steady names: a name that is read once, behind what may be evaluated before its
+-- initializer because no answer of the world changes it while the body runs, as equations with the
+-- JavaScript before and after.
 use Rattle.std.specs.Prelude.{◌≡◌, ◌⊎◌, ◌||◌, ◌&&◌, not, ℕ, suc, nat_eq, Bool, true, false, List, [], ◌∷◌, Option, Some, None, if◌then◌else◌}
 use Rattle.mini_model.specs.declared.kind.VariableDeclarationKind.{VariableDeclarationKind}
 use Rattle.mini_model.specs.declared.name.Name.{Name}
@@ -83,18 +84,20 @@ lets_here k t = not (binds k t) || (declares_list t && all_of (lets_at_most (is_
 abbrev pub spares : ℕ → Tree → Bool
 spares k t = not (binds k t)
 
--- one of these statements, or of these declarators behind them, of a `let` or a `const` or not, has initialised the name, and no scope in them
--- hides it
+-- one of these statements, or of these declarators behind them, of a `let` or a `const` or not, has
+-- initialised the name, and no scope in them hides it
 abbrev pub is_let : ℕ → Trees → Bool → Trees → Bool
 is_let k before is_lexical first = not (all_of (spares k) before && all_of (spares k) first) && (all_of (lets_here k) before && all_of (lets_at_most is_lexical k) first)
 
--- of a body of which this is known, with these statements, the variables that are initialised as it starts, where no scope in it declares them
+-- of a body of which this is known, with these statements, the variables that are initialised as it
+-- starts, where no scope in it declares them
 abbrev pub begun : Assured → Trees → VariableSet
 begun V ts (Declared k) = V.initial (Declared k) && not (any_bind k ts)
 begun V ts (Global s) = false
 
--- those that keep the value that they have behind some of the statements and declarators, where nothing writes them: no answer changes them, and they
--- are such, or a `let` or a `const` has initialised them before: `const y = a(); let x = b(); return [y, x];`
+-- those that keep the value that they have behind some of the statements and declarators, where
+-- nothing writes them: no answer changes them, and they are such, or a `let` or a `const` has
+-- initialised them before: `const y = a(); let x = b(); return [y, x];`
 abbrev pub held_variables : Assured → Trees → Trees → Bool → Trees → VariableSet
 held_variables V ts before is_lexical first (Declared k) = V.steady (Declared k) && (begun V ts (Declared k) || is_let k before is_lexical first)
 held_variables V ts before is_lexical first (Global s) = false
@@ -116,8 +119,8 @@ is_writer shape.ForInStatement = true
 is_writer shape.ForOfStatement = true
 is_writer h = false
 
--- and what writes its own name: a declarator has that of the variable that its `var` writes, where it is another than the one that
--- is declared (ECMA-262, "VariableStatements in Catch Clauses")
+-- and what writes its own name: a declarator has that of the variable that its `var` writes, where
+-- it is another than the one that is declared (ECMA-262, "VariableStatements in Catch Clauses")
 abbrev pub written_names : Shape → List Name → List Name
 written_names shape.VariableDeclarator xs = xs
 written_names h xs = []
@@ -136,7 +139,8 @@ abbrev mutual
   any_write x none = false
   any_write x (t ▸ ts) = writes x t || any_write x ts
 
--- r leaves the variable of a name as it is: it neither declares nor writes it (ECMA-262, "PutValue")
+-- r leaves the variable of a name as it is: it neither declares nor writes it (ECMA-262,
+-- "PutValue")
 abbrev pub leaves : Tree → Name → ℕ → Bool
 leaves r y k = not (binds k r) && not (writes y r)
 
@@ -164,7 +168,8 @@ is_this t = is_this_shape (shape_of t) && is_bare t 0
 abbrev pub keeps_value : Kept → Tree → Tree → Bool
 keeps_value H r t = is_held H.variables r t || (H.has_this && is_this t)
 
--- it may be evaluated before r rather than after, whatever r does: it is a constant, or keeps its value
+-- it may be evaluated before r rather than after, whatever r does: it is a constant, or keeps its
+-- value
 abbrev pub passes_any : Kept → Tree → Tree → Bool
 passes_any H r t = is_constant t || keeps_value H r t
 
@@ -172,22 +177,24 @@ passes_any H r t = is_constant t || keeps_value H r t
 abbrev pub passes_any_word : Kept → Tree → Tree → Bool
 passes_any_word H r t = is_word (shape_of t) || passes_any H r t
 
--- so may a member that is assigned to: before the right side its object and its key are evaluated, and no more, whatever the object is
--- (ECMA-262, "Assignment Operators")
+-- so may a member that is assigned to: before the right side its object and its key are evaluated,
+-- and no more, whatever the object is (ECMA-262, "Assignment Operators")
 abbrev pub passes_any_member : Kept → Tree → Tree → Bool
 passes_any_member H r t = is_member t && (passes_any H r (part t 0) && passes_any_word H r (part t 1))
 
--- so may what `=` assigns to, such a member, or a name, of which nothing is evaluated before the right side: `y.b = x`, `this[y] = x`, `z = x`
+-- so may what `=` assigns to, such a member, or a name, of which nothing is evaluated before the
+-- right side: `y.b = x`, `this[y] = x`, `z = x`
 abbrev pub passes_any_target : Kept → Tree → AssignmentOperator → Tree → Bool
 passes_any_target H r o t = is_plain_assignment o && (passes_any_member H r t || (is_identifier t && is_effect_free t))
 
--- so may an item of a list, by what is gathered: where entries are, of a property its value; what is converted to a text has to be primitive
+-- so may an item of a list, by what is gathered: where entries are, of a property its value; what
+-- is converted to a text has to be primitive
 abbrev pub passes_any_item : Kept → Gathered → Tree → Tree → Bool
 passes_any_item H OfTexts r t = passes_any H r t && is_primitive (kind_of t)
 passes_any_item H gathered r t = passes_any H r t || (of_entries gathered && (is_field t && passes_any H r (part t 1)))
 
--- so may what stands before the read, in a node of such a shape; a key in brackets is converted before the value, and the
--- texts of a template aren't evaluated
+-- so may what stands before the read, in a node of such a shape; a key in brackets is converted
+-- before the value, and the texts of a template aren't evaluated
 abbrev pub passes_any_at : Kept → Gathered → Tree → Shape → Tree → Bool
 passes_any_at H gathered r (shape.AssignmentExpression o) t = passes_any_target H r o t
 passes_any_at H gathered r (shape.ObjectProperty k is_method is_shorthand is_computed) t = not is_computed && is_word (shape_of t)
@@ -195,8 +202,8 @@ passes_any_at H gathered r shape.Listed t = passes_any_item H gathered r t
 passes_any_at H gathered r shape.TemplateLiteral t = true
 passes_any_at H gathered r h t = passes_any H r t
 
--- the part that mentions the name is evaluated whatever those before it are, and r may stand in its place. A property and what is spread stand
--- where an entry is asked
+-- the part that mentions the name is evaluated whatever those before it are, and r may stand in its
+-- place. A property and what is spread stand where an entry is asked
 abbrev pub is_certain : Name → Gathered → Tree → Shape → Trees → Bool
 is_certain x gathered r h ts = suits x r h ts && (is_placed gathered false h && (is_sure false h || begins_with x ts))
 
@@ -220,8 +227,9 @@ are_past H x r t = are_past_by_value H x r t && fits_in r t
 
 -- ---- in the statements of a body
 
--- 71: `function f(g) { let x = a(); return g(x); }` becomes `function f(g) { ; return g(a()); }`, and so of `[g, x]`, `g + x`, `g.b = x`, `this.b = x`
--- and `{ b: g, c: x }`, of `const y = g(x);`, `switch (g(x)) { }` and `for (c of g(x)) d();`, and of each other head
+-- 71: `function f(g) { let x = a(); return g(x); }` becomes `function f(g) { ; return g(a()); }`,
+-- and so of `[g, x]`, `g + x`, `g.b = x`, `this.b = x` and `{ b: g, c: x }`, of `const y = g(x);`,
+-- `switch (g(x)) { }` and `for (c of g(x)) d();`, and of each other head
 pub record Row71Past (V : Assured) (W : Liberties) (outside : Tree) (ts us : Trees) : Type 0 where
   pub before : Trees
   pub kind : VariableDeclarationKind
@@ -276,7 +284,8 @@ pub record Row71PastNext (V : Assured) (W : Liberties) (outside : Tree) (ts us :
 abbrev pub PastRow : Assured → Liberties → Tree → Trees → Trees → Type 0
 PastRow V W outside ts us = Row71Past V W outside ts us ⊎ Row71PastNext V W outside ts us
 
--- a function with such statements: its name and its parameters are read like what stands before the declaration
+-- a function with such statements: its name and its parameters are read like what stands before the
+-- declaration
 pub record PastFunctionRow (S : BodySets) (W : Liberties) (n w : Tree) : Type 0 where
   pub is_declared : Bool
   pub is_generator : Bool
@@ -300,8 +309,8 @@ PastFunction S W _ n w = ⊥
 
 -- ---- the laws
 
--- a body runs as before, from each start that initialises what is known to be initialised, in any environment in which that is so which is known,
--- where nobody else sees the name that goes
+-- a body runs as before, from each start that initialises what is known to be initialised, in any
+-- environment in which that is so which is known, where nobody else sees the name that goes
 abbrev pub PastRunsAlike : Type 0
 PastRunsAlike =
     (V : Assured) (W : Liberties) (outside : Tree) (ts us : Trees) → PastRow V W outside ts us → (k : ℕ) × ((e : Environment) → Permits W.writable (alone (Declared k)) e → Steadies V e → (X : VariableSet) → Begins V X → RunsAs e FunctionStatements FunctionStatements X (statements ts) (statements us))
@@ -310,7 +319,7 @@ PastRunsAlike =
 abbrev pub PastLightens : Type 0
 PastLightens = (S : BodySets) (W : Liberties) → Lightens (PastFunction S W)
 
--- and it drops a name that nothing mentions, where S says what is known of each body and the variables W can be written, whichever functions
--- and classes may lose their own name
+-- and it drops a name that nothing mentions, where S says what is known of each body and the
+-- variables W can be written, whichever functions and classes may lose their own name
 abbrev pub PastIsLawful : Type 0
 PastIsLawful = (K : Shape → Bool) (W : Liberties) (S : BodySets) → LawfulUnder K W.writable S (PastFunction S W)

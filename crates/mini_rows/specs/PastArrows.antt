@@ -11,8 +11,8 @@ use Rattle.mini_rows.specs.Past.{PastRow}
 use Rattle.mini_rows.specs.Switches.{Liberties}
 use Rattle.mini_rows.specs.Unused.{arrow_with}
 
--- an arrow function with such statements: `g => { let x = a(); return g(x); }` becomes `g => { ; return g(a()); }`. Its parameters are read
--- like what stands before the declaration
+-- an arrow function with such statements: `g => { let x = a(); return g(x); }` becomes
+-- `g => { ; return g(a()); }`. Its parameters are read like what stands before the declaration
 pub record PastArrowRow (S : BodySets) (W : Liberties) (n w : Tree) : Type 0 where
   pub directives : List (List ℕ)
   pub number : ℕ
@@ -34,7 +34,7 @@ PastArrow S W _ n w = ⊥
 abbrev pub PastArrowLightens : Type 0
 PastArrowLightens = (S : BodySets) (W : Liberties) → Lightens (PastArrow S W)
 
--- and it drops a name that nothing mentions, where S says what is known of each body and the variables W can be written, whichever functions
--- and classes may lose their own name
+-- and it drops a name that nothing mentions, where S says what is known of each body and the
+-- variables W can be written, whichever functions and classes may lose their own name
 abbrev pub PastArrowIsLawful : Type 0
 PastArrowIsLawful = (K : Shape → Bool) (W : Liberties) (S : BodySets) → LawfulUnder K W.writable S (PastArrow S W)

@@ -10,8 +10,9 @@ use Rattle.mini_kept.specs.Without.{BodySets}
 use Rattle.mini_rows.specs.Past.{PastRow}
 use Rattle.mini_rows.specs.Switches.{Liberties}
 
--- a module with such statements: `const y = a(); const x = b(); c(y, x);` becomes `const y = a(); ; c(y, b());`. What it exports is mentioned once more
--- or declared where it is exported, so that it stays. The body is known by the number that a program has, which is none
+-- a module with such statements: `const y = a(); const x = b(); c(y, x);` becomes
+-- `const y = a(); ; c(y, b());`. What it exports is mentioned once more or declared where it is
+-- exported, so that it stays. The body is known by the number that a program has, which is none
 pub record PastModuleRow (S : BodySets) (W : Liberties) (n w : Tree) : Type 0 where
   pub directives : List (List ℕ)
   pub before : Trees
@@ -31,7 +32,7 @@ PastModule S W _ n w = ⊥
 abbrev pub PastModuleLightens : Type 0
 PastModuleLightens = (S : BodySets) (W : Liberties) → Lightens (PastModule S W)
 
--- and the program is kept but for a name that nothing mentions, where S says what is known of its body and the variables W can be written, whichever
--- functions and classes may lose their own name
+-- and the program is kept but for a name that nothing mentions, where S says what is known of its
+-- body and the variables W can be written, whichever functions and classes may lose their own name
 abbrev pub PastModuleIsLawful : Type 0
 PastModuleIsLawful = (K : Shape → Bool) (W : Liberties) (S : BodySets) → LawfulRooted K W.writable S (PastModule S W)

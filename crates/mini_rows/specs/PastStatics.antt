@@ -11,8 +11,9 @@ use Rattle.mini_rows.specs.Past.{PastRow}
 use Rattle.mini_rows.specs.Switches.{Liberties}
 use Rattle.mini_rows.specs.Unused.{static_block}
 
--- a static block with such statements: `class A { static { const y = a(), x = b(); c(y, x); } }` becomes
--- `class A { static { const y = a(); c(y, b()); } }`, over what S says of the body with the block's number
+-- a static block with such statements: `class A { static { const y = a(), x = b(); c(y, x); } }`
+-- becomes `class A { static { const y = a(); c(y, b()); } }`, over what S says of the body with the
+-- block's number
 pub record PastStaticRow (S : BodySets) (W : Liberties) (n w : Tree) : Type 0 where
   pub number : ℕ
   pub before : Trees
@@ -32,7 +33,8 @@ PastStatic S W _ n w = ⊥
 abbrev pub PastStaticLightens : Type 0
 PastStaticLightens = (S : BodySets) (W : Liberties) → Lightens (PastStatic S W)
 
--- and a program with it is kept but for a name that nothing mentions, where S says what is known of each body and the variables W can be written,
--- whichever functions and classes may lose their own name
+-- and a program with it is kept but for a name that nothing mentions, where S says what is known of
+-- each body and the variables W can be written, whichever functions and classes may lose their own
+-- name
 abbrev pub PastStaticIsLawful : Type 0
 PastStaticIsLawful = (K : Shape → Bool) (W : Liberties) (S : BodySets) → LawfulRooted K W.writable S (PastStatic S W)

@@ -1,5 +1,6 @@
--- What can be rewritten: each row is a shape and what is written in its place. A node is a redex where a row names it, the
--- options let the row act, and what is written weighs less there. No order of rewriting is meant.
+-- What can be rewritten: each row is a shape and what is written in its place. A node is a redex
+-- where a row names it, the options let the row act, and what is written weighs less there. No
+-- order of rewriting is meant.
 use Rattle.std.specs.Prelude.{◌<◌, ◌⊎◌}
 use Rattle.mini_model.specs.declared.place.Position.{Position}
 use Rattle.mini_model.specs.Tree.{Tree}
@@ -35,10 +36,12 @@ use Rattle.mini_rows.specs.Negations.{NegationRow}
 use Rattle.mini_rows.specs.Templates.{TemplateRow}
 use Rattle.mini_rows.specs.LoopGuards.{LoopGuardRow}
 
--- a row reads n as w at this place: one of negations and of `if` over expressions, of spellings, of branches and bodies of
--- loops, of lists of statements, of the keys of object literals, of choices, of declarations, of what is known, of tests that
--- are turned, of arrow functions, of constants, of the keys of patterns and classes, of booleans, of De Morgan's laws, of sequences, of operands whose value is known, of negations that reach into the
--- operand, of templates, or of guards in the bodies of loops
+-- a row reads n as w at this place: one of negations and of `if` over expressions, of spellings, of
+-- branches and bodies of loops, of lists of statements, of the keys of object literals, of choices,
+-- of declarations, of what is known, of tests that are turned, of arrow functions, of constants, of
+-- the keys of patterns and classes, of booleans, of De Morgan's laws, of sequences, of operands
+-- whose value is known, of negations that reach into the operand, of templates, or of guards in the
+-- bodies of loops
 abbrev pub Row : Switches → Position → Tree → Tree → Type 0
 Row o p n w = first.Row p n w ⊎ (SpellingRow p n w ⊎ (BranchRow p n w ⊎ (ListRow o p n w ⊎ (KeyRow p n w ⊎ (ChoiceRow p n w ⊎ (DeclarationRow p n w ⊎ (FoldingRow p n w ⊎ (TurnRow p n w ⊎ (ArrowRow p n w ⊎ (ConstantRow p n w ⊎ (HeldKeyRow p n w ⊎ (BooleanRow p n w ⊎ (DeMorganRow p n w ⊎ (SequenceRow p n w ⊎ (OperandRow p n w ⊎ (NegationRow p n w ⊎ (TemplateRow p n w ⊎ LoopGuardRow o p n w)))))))))))))))))
 
@@ -47,8 +50,8 @@ pub record Contracts (o : Switches) (p : Position) (n w : Tree) : Type 0 where
   pub row : Row o p n w
   pub lighter : weight p w < weight p n
 
--- or what one of a name that nothing mentions writes, which goes, or one of a name that can be written, a `let` with an assignment after
--- it among them. W has those variables
+-- or what one of a name that nothing mentions writes, which goes, or one of a name that can be
+-- written, a `let` with an assignment after it among them. W has those variables
 abbrev pub Rewrites : Switches → VariableSet → Position → Tree → Tree → Type 0
 Rewrites o W p n w = Contracts o p n w ⊎ (UnusedContracts (liberties o W) p n w ⊎ (NameContracts o p n w ⊎ (CatchContracts p n w ⊎ (WriteContracts W p n w ⊎ LetContracts W p n w))))
 
@@ -65,10 +68,12 @@ IsSettled o W p n = Redex o W p n → ⊥
 abbrev pub HasNoRedex : Switches → VariableSet → Position → Tree → Type 0
 HasNoRedex o W p n = Everywhere (IsSettled o W) p n
 
--- what the rows make is lawful, whatever the options, where what a write of each variable does stays
+-- what the rows make is lawful, whatever the options, where what a write of each variable does
+-- stays
 abbrev pub RowsAreLawful : Type 0
 RowsAreLawful = (o : Switches) → Lawful (WhereFixed (Contracts o))
 
--- and loosely, where constants go that are declared in what goes, and names that nothing mentions, and those variables can be written
+-- and loosely, where constants go that are declared in what goes, and names that nothing mentions,
+-- and those variables can be written
 abbrev pub RowsAreLoose : Type 0
 RowsAreLoose = (o : Switches) (W : VariableSet) → LawfulWith (let_go o) W (Rewrites o W)

@@ -1,5 +1,5 @@
--- Rows on sequences, as equations: each is a shape and what is written in its place, with the JavaScript before and after. No order of
--- rewriting is meant.
+-- Rows on sequences, as equations: each is a shape and what is written in its place, with the
+-- JavaScript before and after. No order of rewriting is meant.
 use Rattle.std.specs.Prelude.{◌≡◌, ◌<◌, ◌⊎◌, ◌&&◌, ◌||◌, Bool, true, false, not, nat_eq, nat_le, nat_lt, List, [], ◌∷◌, codes}
 use Rattle.mini_model.specs.declared.operator.BinaryOperator.{BinaryOperator}
 use Rattle.mini_model.specs.declared.operator.LogicalOperator.{LogicalOperator}
@@ -43,8 +43,8 @@ conversion_operator Complement = BitwiseNot
 abbrev pub yielded : Bool → Tree → Tree
 yielded is_delegate a = node (shape.YieldExpression is_delegate) [] 0 (a ▸ none)
 
--- a node that evaluates its first operand before all else of it, over that operand: `a && b`, `a ? b : c`, `!a`, `a + b`, `-a`,
--- `yield a`
+-- a node that evaluates its first operand before all else of it, over that operand: `a && b`,
+-- `a ? b : c`, `!a`, `a + b`, `-a`, `yield a`
 pub data Operation : Type 0 where
   Decides : LogicalOperator → Tree → Operation
   Chooses : Tree → Tree → Operation
@@ -61,7 +61,8 @@ over (Operates o b) a = binary o a b
 over (Converts c) a = unary (conversion_operator c) a
 over (Yields is_delegate) a = yielded is_delegate a
 
--- such nodes one in the first operand of the other, from the outside in, and this in the first operand of the last: `a + b < c` over a
+-- such nodes one in the first operand of the other, from the outside in, and this in the first
+-- operand of the last: `a + b < c` over a
 abbrev pub along : List Operation → Tree → Tree
 along [] a = a
 along (r ∷ rs) a = over r (along rs a)
@@ -98,8 +99,8 @@ operand_seat (Operates o b) s = binary_operand_seat o 0
 operand_seat (Converts c) s = unary_operand_seat (conversion_operator c)
 operand_seat (Yields is_delegate) s = yield_argument_seat
 
--- a sequence stands there without parentheses, as the expression of a statement, a `return` or a test does, and is not to be
--- lifted out of it again
+-- a sequence stands there without parentheses, as the expression of a statement, a `return` or a
+-- test does, and is not to be lifted out of it again
 abbrev pub is_open_seat : Seat → Bool
 is_open_seat s = nat_eq s.level 0 && not s.lifted
 
@@ -111,8 +112,8 @@ is_inner_shape _ = false
 abbrev pub is_bare_at : Position → Tree → Bool
 is_bare_at p t = not (is_inner_shape (shape_of t)) && nat_eq (place_weight p (shape_of t) (outlines (children t))) 0
 
--- there a sequence is lifted out: it has no parentheses there, or the node has had some, or the last part has none in the place of the
--- sequence
+-- there a sequence is lifted out: it has no parentheses there, or the node has had some, or the
+-- last part has none in the place of the sequence
 abbrev pub lifts_out : Seat → Operation → List Operation → Tree → Bool
 lifts_out s r rs q = not s.lifted && (nat_eq s.level 0 || (is_parenthesized (operation_shape r) s || is_bare_at (Expr (operand_seat (innermost r rs) passed_part_seat)) q))
 
@@ -128,8 +129,8 @@ abbrev pub is_callee : Guard → Bool
 is_callee guard.Callee = true
 is_callee g = false
 
--- a name that is called is given no `this` (ECMA-262, "Function Calls"), as what stands in parentheses; but a call of the name `eval` may
--- be a direct eval
+-- a name that is called is given no `this` (ECMA-262, "Function Calls"), as what stands in
+-- parentheses; but a call of the name `eval` may be a direct eval
 abbrev pub is_called_plainly : Seat → Tree → Bool
 is_called_plainly s t = is_callee s.guard && (is_name (shape_of t) && not (is_spelled (names_of t) (codes "eval")))
 
@@ -137,8 +138,9 @@ abbrev pub is_typeof : Guard → Bool
 is_typeof guard.Typeof = true
 is_typeof g = false
 
--- `typeof` reads by its value what is no name, and a name that a scope declares (ECMA-262, "The typeof Operator"); a name that nobody
--- declares is `undefined` there, where the sequence would raise
+-- `typeof` reads by its value what is no name, and a name that a scope declares (ECMA-262, "The
+-- typeof Operator"); a name that nobody declares is `undefined` there, where the sequence would
+-- raise
 abbrev pub is_typed_plainly : Seat → Tree → Bool
 is_typed_plainly s t = is_typeof s.guard && (is_typed_by_value t && (is_plain_part t && not (is_number t)))
 
@@ -148,10 +150,12 @@ stays_alone s t = suits s t || (is_called_plainly s t || is_typed_plainly s t)
 
 -- ---- rows
 
--- 20: `(a, b) && c` becomes `a, b && c`, `(a, b) ? c : d` becomes `a, b ? c : d`, `!(a, b)` becomes `a, !b`, `(a, b) + c` becomes
--- `a, b + c`, `-(a, b)` becomes `a, -b`, and `yield (a, b)` becomes `a, yield b`; so does a node over others over the sequence, whose first
--- operands each is evaluated before all else: `(a, b) + c < d` becomes `a, b + c < d`, and `!((a, b) == c)` becomes `a, !(b == c)`. Where the
--- sequence has parentheses again `f((a, b) + c)` becomes `f((a, b + c))`, and `d * ((a, b) + c)` `d * (a, b + c)`
+-- 20: `(a, b) && c` becomes `a, b && c`, `(a, b) ? c : d` becomes `a, b ? c : d`, `!(a, b)` becomes
+-- `a, !b`, `(a, b) + c` becomes `a, b + c`, `-(a, b)` becomes `a, -b`, and `yield (a, b)` becomes
+-- `a, yield b`; so does a node over others over the sequence, whose first operands each is
+-- evaluated before all else: `(a, b) + c < d` becomes `a, b + c < d`, and `!((a, b) == c)` becomes
+-- `a, !(b == c)`. Where the sequence has parentheses again `f((a, b) + c)` becomes `f((a, b + c))`,
+-- and `d * ((a, b) + c)` `d * (a, b + c)`
 pub record Row20 (s : Seat) (n w : Tree) : Type 0 where
   pub operation : Operation
   pub operations : List Operation
@@ -186,7 +190,8 @@ pub record Row21Idle (n w : Tree) : Type 0 where
   pub shape : n ≡ sequence (append before (idle ▸ (next ▸ after)))
   pub written : w ≡ sequence (append before (next ▸ after))
 
--- and where one part is left: `1, a()` becomes `a()`, `(0, a)()` becomes `a()`, and `typeof (0, a.b)` becomes `typeof a.b`
+-- and where one part is left: `1, a()` becomes `a()`, `(0, a)()` becomes `a()`, and
+-- `typeof (0, a.b)` becomes `typeof a.b`
 pub record Row21Alone (s : Seat) (n w : Tree) : Type 0 where
   pub idle : Tree
   pub last : Tree

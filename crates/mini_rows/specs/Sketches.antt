@@ -1,5 +1,6 @@
--- Trees that are built of parts under plain heads. A plain head has no names and no number of its own, opens no scope, holds
--- no body or frame of its own, and gives each child the targets and surroundings that it has.
+-- Trees that are built of parts under plain heads. A plain head has no names and no number of its
+-- own, opens no scope, holds no body or frame of its own, and gives each child the targets and
+-- surroundings that it has.
 use Rattle.std.specs.Prelude.{ℕ, zero, suc, ℤ, Bool, true, false, ◌&&◌, ◌||◌, not, nat_eq, List, [], ◌∷◌, ◌++◌, Some, if◌then◌else◌}
 use Rattle.mini_model.specs.declared.operator.AssignmentOperator.{AssignmentOperator}
 use Rattle.mini_model.specs.declared.operator.AssignmentOperator.TheVariants.{Assign}
@@ -37,7 +38,8 @@ pub data Head : Type 0 where
   Chain : Head
   Array : Head
   Object : Head
-  -- a property that is no method and no accessor: whether it is shorthand, and whether its key stands in brackets
+  -- a property that is no method and no accessor: whether it is shorthand, and whether its key
+  -- stands in brackets
   Property : Bool → Bool → Head
   Spread : Head
   Yield : Bool → Head
@@ -92,7 +94,8 @@ shape_by Return = shape.ReturnStatement
 shape_by If = shape.IfStatement
 shape_by Block = shape.BlockStatement
 
--- a tree with its parts left open, each by its index; some neighbours in a list may be one part, however many they are
+-- a tree with its parts left open, each by its index; some neighbours in a list may be one part,
+-- however many they are
 infixr 60 ◌▹◌
 mutual
   pub data Sketch : Type 0 where
@@ -136,8 +139,8 @@ abbrev mutual
   items_filled ps (items i is) = append (list_at ps.lists i) (items_filled ps is)
 
 -- ---- how a part stands: as the whole statement or list, or as a statement of that list; as an expression or a list of them;
--- as a property's name; as what a template holds, pieces of text or parts; as what is assigned to, or updated; as a branch; as a statement
--- of a block, or their list
+-- as a property's name; as what a template holds, pieces of text or parts; as what is assigned to,
+-- or updated; as a branch; as a statement of a block, or their list
 
 pub data Asked : Type 0 where
   AsWhole : Asked
@@ -332,7 +335,8 @@ abbrev pub staying : Free → List Hole → List Hole
 staying f [] = []
 staying f (h ∷ hs) = if stays f h then h ∷ staying f hs else staying f hs
 
--- the parts are the same but for those that are dropped, and each stands in the second at most as often as in the first
+-- the parts are the same but for those that are dropped, and each stands in the second at most as
+-- often as in the first
 abbrev pub is_rearranged : Free → List Hole → List Hole → Bool
 is_rearranged f hs gs = has_as_often (all_settled f hs) (all_settled f gs) && has_each (all_settled f gs) (staying f (all_settled f hs))
 

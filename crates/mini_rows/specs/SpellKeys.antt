@@ -1,4 +1,5 @@
--- Rows on the keys of object literals, as equations. The node is the literal, and one property of it changes.
+-- Rows on the keys of object literals, as equations. The node is the literal, and one property of
+-- it changes.
 use Rattle.std.specs.Prelude.{◌≡◌, ◌<◌, ◌⊎◌, ℕ, Bool, true, false, List, [], codes, pos}
 use Rattle.std.specs.Fmt.{signed_decimal}
 use Rattle.mini_model.specs.Texts.{is_identifier_name}
@@ -22,8 +23,8 @@ object_literal ps = node shape.ObjectExpression [] 0 (listed ps ▸ none)
 abbrev pub property : Bool → Bool → Tree → Tree → Tree
 property is_shorthand is_computed k v = node (shape.ObjectProperty Init false is_shorthand is_computed) [] 0 (k ▸ v ▸ none)
 
--- `__proto__: v` sets the prototype, and neither `["__proto__"]: v` nor the shorthand does (ECMA-262, "__proto__ Property Names in
--- Object Initializers")
+-- `__proto__: v` sets the prototype, and neither `["__proto__"]: v` nor the shorthand does
+-- (ECMA-262, "__proto__ Property Names in Object Initializers")
 abbrev pub is_proto : List ℕ → Bool
 is_proto s = same_text s (codes "__proto__")
 
@@ -67,7 +68,8 @@ pub record Row52Numeral (n w : Tree) : Type 0 where
   pub shape : n ≡ property false true (numeral (pos number)) value
   pub written : w ≡ property false false (numeral (pos number)) value
 
--- the key of a function: the text of a name or of a number, or a text or a number in brackets. None sets a prototype
+-- the key of a function: the text of a name or of a number, or a text or a number in brackets. None
+-- sets a prototype
 pub data KeyForm : Type 0 where
   a_name : List ℕ → KeyForm
   a_whole : ℕ → KeyForm
@@ -108,7 +110,8 @@ abbrev pub is_function_kind : PropertyKind → Bool → Bool
 is_function_kind Init is_method = is_method
 is_function_kind kind is_method = true
 
--- 52, of a function: `"x"() {}` becomes `x() {}`, `"1"() {}` becomes `1() {}`, `["x"]() {}` becomes `"x"() {}` and `[1]() {}` becomes `1() {}`
+-- 52, of a function: `"x"() {}` becomes `x() {}`, `"1"() {}` becomes `1() {}`, `["x"]() {}` becomes
+-- `"x"() {}` and `[1]() {}` becomes `1() {}`
 pub record Row52Function (n w : Tree) : Type 0 where
   pub kind : PropertyKind
   pub is_method : Bool

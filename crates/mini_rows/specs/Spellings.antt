@@ -1,5 +1,5 @@
--- Rows on how an expression is spelled, as equations: each is a shape and what is written in its place. No order of rewriting
--- is meant.
+-- Rows on how an expression is spelled, as equations: each is a shape and what is written in its
+-- place. No order of rewriting is meant.
 use Rattle.std.specs.Prelude.{◌≡◌, ◌<◌, ◌⊎◌, ℕ, nat_le, Bool, true, false, List, [], length, Some, codes, ℤ, pos}
 use Rattle.std.specs.Fmt.{signed_decimal}
 use Rattle.mini_model.specs.Texts.{is_identifier_name}
@@ -73,7 +73,8 @@ IsUndefined v = (v ≡ identifier (unresolved (codes "undefined"))) ⊎ (v ≡ v
 abbrev pub IsLoose : BinaryOperator → Type 0
 IsLoose o = (o ≡ Equality) ⊎ (o ≡ Inequality)
 
--- what writes a value out: a literal other than a regular expression, a template without expressions, `void 0`
+-- what writes a value out: a literal other than a regular expression, a template without
+-- expressions, `void 0`
 pub data PlainForm : Type 0 where
   a_number : ℤ → PlainForm
   a_text : List ℕ → PlainForm
@@ -174,7 +175,8 @@ pub record Row58Right (n w : Tree) : Type 0 where
   pub shape : n ≡ binary operator left right
   pub written : w ≡ binary operator left null_literal
 
--- 54: `1 == b` becomes `b == 1`, of the four equalities. A sequence stays on the right, where it weighs as much
+-- 54: `1 == b` becomes `b == 1`, of the four equalities. A sequence stays on the right, where it
+-- weighs as much
 pub record Row54 (n w : Tree) : Type 0 where
   pub operator : BinaryOperator
   pub left : PlainForm
@@ -190,8 +192,9 @@ pub record Row60Yield (n w : Tree) : Type 0 where
   pub shape : n ≡ yields void_zero
   pub written : w ≡ yields absent
 
--- of an equality with the text `undefined` on its right, the operator that tells as much beside `u`: of the texts that `typeof` gives
--- that one alone is greater than `u` (ECMA-262, "The typeof Operator")
+-- of an equality with the text `undefined` on its right, the operator that tells as much beside
+-- `u`: of the texts that `typeof` gives that one alone is greater than `u` (ECMA-262, "The typeof
+-- Operator")
 abbrev pub ordered : BinaryOperator → BinaryOperator
 ordered Equality = GreaterThan
 ordered StrictEquality = GreaterThan
@@ -215,8 +218,8 @@ strict_operator Equality = StrictEquality
 strict_operator StrictEquality = StrictEquality
 strict_operator o = StrictInequality
 
--- 55, of what `typeof` reads by its value, as a declared name, a member or a call: `typeof a == "undefined"` becomes `a === void 0`, and
--- of an inequality `a !== void 0`
+-- 55, of what `typeof` reads by its value, as a declared name, a member or a call:
+-- `typeof a == "undefined"` becomes `a === void 0`, and of an inequality `a !== void 0`
 pub record Row55Value (n w : Tree) : Type 0 where
   pub operator : BinaryOperator
   pub operand : Tree
@@ -225,8 +228,8 @@ pub record Row55Value (n w : Tree) : Type 0 where
   pub shape : n ≡ binary operator (unary Typeof operand) (text (codes "undefined"))
   pub written : w ≡ binary (strict_operator operator) operand void_zero
 
--- 19: a template without expressions becomes its text, as abc in backticks becomes `"abc"`. What is written in it is no shorter than the
--- text, as in any program
+-- 19: a template without expressions becomes its text, as abc in backticks becomes `"abc"`. What is
+-- written in it is no shorter than the text, as in any program
 pub record Row19 (n w : Tree) : Type 0 where
   pub is_tail : Bool
   pub raw : List ℕ

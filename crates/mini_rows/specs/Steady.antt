@@ -71,8 +71,9 @@ passing L xs k = L k || is_in (Declared k) xs
 
 -- ---- what is begun at a node
 
--- symbols that were declared before it, and have their values there; and whether it is the list of a `let` or a `const`, in which each declarator begins
--- what it declares, or stands in an export, which evaluates its declaration as a statement
+-- symbols that were declared before it, and have their values there; and whether it is the list of
+-- a `let` or a `const`, in which each declarator begins what it declares, or stands in an export,
+-- which evaluates its declaration as a statement
 pub record Begun : Type 0 where
   pub symbols : Symbols
   pub in_lexical : Bool
@@ -80,7 +81,8 @@ pub record Begun : Type 0 where
 abbrev pub nothing_begun : Begun
 nothing_begun = record { symbols = λ k. false; in_lexical = false }
 
--- a child is so: the declaration is a statement, the head of a `for`, or exported (ECMA-262, "Exports", Evaluation)
+-- a child is so: the declaration is a statement, the head of a `for`, or exported (ECMA-262,
+-- "Exports", Evaluation)
 abbrev pub enters_lexical : Bool → Shape → Position → Bool
 enters_lexical b (shape.VariableDeclaration v) (Stmt q) = is_lexical v
 enters_lexical b (shape.VariableDeclaration v) (Expr s) = s.unused && is_lexical v
@@ -94,9 +96,11 @@ pub data Beginning : Type 0 where
   OfHead : Beginning
   OfNone : Beginning
 
--- behind each of a list of statements (ECMA-262, "LexicallyDeclaredNames", functions aside); behind each declarator of such a list ("let and const
--- Declarations", Evaluation); behind the head of a `for` ("ForLoopEvaluation"); behind what a `for..in` or `for..of` goes over, in whose body the head
--- has a value each turn ("ForIn/OfBodyEvaluation"); and behind the parameter of a `catch` ("CatchClauseEvaluation")
+-- behind each of a list of statements (ECMA-262, "LexicallyDeclaredNames", functions aside); behind
+-- each declarator of such a list ("let and const Declarations", Evaluation); behind the head of a
+-- `for` ("ForLoopEvaluation"); behind what a `for..in` or `for..of` goes over, in whose body the
+-- head has a value each turn ("ForIn/OfBodyEvaluation"); and behind the parameter of a `catch`
+-- ("CatchClauseEvaluation")
 abbrev pub beginning : Bool → Shape → Position → ℕ → Beginning
 beginning b shape.Listed StatementList i = OfChild
 beginning b shape.Listed BodyList i = OfChild
@@ -134,8 +138,9 @@ abbrev pub begun_at : Shape → Position → Begun → List Summary → ℕ → 
 begun_at h p L is zero = record { symbols = L.symbols; in_lexical = enters_lexical L.in_lexical h p }
 begun_at h p L is (suc i) = record (begun_at h p L is i) { symbols = passing (begun_at h p L is i).symbols (begins L.in_lexical h p is i) }
 
--- the variables that have their values in this code of a body, where L is begun: those, if the code declares them only once;
--- and of X, if they have them as it starts, those that no scope in it declares, throughout
+-- the variables that have their values in this code of a body, where L is begun: those, if the code
+-- declares them only once; and of X, if they have them as it starts, those that no scope in it
+-- declares, throughout
 abbrev pub valued : Tree → Symbols → VariableSet → VariableSet
 valued t L X (Declared k) = (L k && not (nat_lt 1 (bindings k t))) || (X (Declared k) && not (binds k t))
 valued t L X (Global s) = false
@@ -148,8 +153,8 @@ known_in t V L = record V { initial = valued t L.symbols V.initial }
 abbrev pub own_rows : OwnRows → Tree → Assured → Begun → Position → Tree → Tree → Type 0
 own_rows F t V L = F (known_in t V L)
 
--- what stands around a node at a place makes a function there a constructor, or the frame there one of a method of an object, only where the node is
--- the value of a method
+-- what stands around a node at a place makes a function there a constructor, or the frame there one
+-- of a method of an object, only where the node is the value of a method
 abbrev pub is_method_place : Position → Bool
 is_method_place Method = true
 is_method_place p = false
@@ -160,9 +165,10 @@ AroundAt p a = is_method_place p ≡ false → a.constructs ≡ false
 abbrev pub PropertyAt : Position → Option PropertyKind → Type 0
 PropertyAt p k = is_method_place p ≡ false → k ≡ None
 
--- What a relation has to keep of a node in the code of a body of which this is known, there where the node stands: it means the same but for
--- variables that no event shows and that may have no value where the node stood, a parent reads both alike, and it keeps shapes, names, bodies
--- and frames
+-- What a relation has to keep of a node in the code of a body of which this is known, there where
+-- the node stands: it means the same but for variables that no event shows and that may have no
+-- value where the node stood, a parent reads both alike, and it keeps shapes, names, bodies and
+-- frames
 pub record KeepsOwn (V : Assured) (R : Position → Tree → Tree → Type 0) : Type 0 where
   pub means : (e : Environment) → Steadies V e → (p : Position) (n w : Tree) → R p n w → (q : Demand) → Fits p q → FadingFrom V.unshared V.initial e q n w
   pub reads : (p : Position) (n w : Tree) → R p n w → summary n ≡ summary w
@@ -188,8 +194,8 @@ has_body shape.StaticBlock = true
 has_body shape.InnerExpression = true
 has_body h = false
 
--- one step in the code of a body itself, by a row that may rest on what is begun there: at a place around which no other body stands, and
--- no other node with a number, which the world evaluates
+-- one step in the code of a body itself, by a row that may rest on what is begun there: at a place
+-- around which no other body stands, and no other node with a number, which the world evaluates
 mutual
   pub data OwnStep (R : Begun → Position → Tree → Tree → Type 0) : Begun → Position → Tree → Tree → Type 0 where
     own_here : (L : Begun) (p : Position) (n w : Tree) → R L p n w → OwnStep R L p n w
@@ -199,7 +205,8 @@ mutual
     own_first : (Λ : ℕ → Begun) (π : ℕ → Position) (t u : Tree) (ts : Trees) → OwnStep R (Λ zero) (π zero) t u → OwnStepIn R Λ π (t ▸ ts) (u ▸ ts)
     own_later : (Λ : ℕ → Begun) (π : ℕ → Position) (t : Tree) (ts us : Trees) → OwnStepIn R (λ i. Λ (suc i)) (λ i. π (suc i)) ts us → OwnStepIn R Λ π (t ▸ ts) (t ▸ us)
 
--- a function whose body takes such a step by a row of F, over what S says of the body with its number and what so is known in it
+-- a function whose body takes such a step by a row of F, over what S says of the body with its
+-- number and what so is known in it
 pub record OwnFunctionRow (F : OwnRows) (S : BodySets) (n w : Tree) : Type 0 where
   pub is_declaration : Bool
   pub is_generator : Bool
@@ -234,7 +241,8 @@ LexicalFunction = OwnFunction LexicalRows
 
 -- ---- the laws
 
--- what a row writes means the same in any environment in which that is so, from each state in which those variables have values
+-- what a row writes means the same in any environment in which that is so, from each state in which
+-- those variables have values
 abbrev pub SteadyMeansSame : Type 0
 SteadyMeansSame = (V : Assured) (p : Position) (n w : Tree) → SteadyRow V p n w → (e : Environment) → Steadies V e → (q : Demand) → Fits p q → Same e nothing V.initial q n w
 
@@ -242,7 +250,8 @@ SteadyMeansSame = (V : Assured) (p : Position) (n w : Tree) → SteadyRow V p n 
 abbrev pub ReadsMore : OwnRows → Type 0
 ReadsMore F = (V : Assured) (X : VariableSet) → ((x : Variable) → V.initial x ≡ true → X x ≡ true) → (p : Position) (n w : Tree) → F V p n w → F (record V { initial = X }) p n w
 
--- it makes the whole lighter, wherever it stands, and so does what is written in the body of a function
+-- it makes the whole lighter, wherever it stands, and so does what is written in the body of a
+-- function
 abbrev pub SteadyLightens : Type 0
 SteadyLightens = (V : Assured) → Lightens (SteadyRow V)
 
@@ -259,8 +268,9 @@ LexicalKeepsOwn = (V : Assured) → KeepsOwn V (LexicalRows V)
 abbrev pub LexicalFunctionsLighten : Type 0
 LexicalFunctionsLighten = FunctionsLighten LexicalRows
 
--- and so what is written in the body of a function keeps all that a program has to keep, where that is so, whichever functions and classes may
--- lose their own name and whichever variables can be written
+-- and so what is written in the body of a function keeps all that a program has to keep, where that
+-- is so, whichever functions and classes may lose their own name and whichever variables can be
+-- written
 abbrev pub FunctionsAreLawful : OwnRows → Type 0
 FunctionsAreLawful F = (K : Shape → Bool) (W : VariableSet) (S : BodySets) → LawfulUnder K W S (OwnFunction F S)
 

@@ -1,5 +1,6 @@
--- Rows of what has no effect where a body has its `this`, and something else stands in its place: 21 with a `0`, 1 of `void`, 17, 44 and 45.
--- V says what is known of the body in which the expression stands.
+-- Rows of what has no effect where a body has its `this`, and something else stands in its place:
+-- 21 with a `0`, 1 of `void`, 17, 44 and 45. V says what is known of the body in which the
+-- expression stands.
 use Rattle.std.specs.Prelude.{◌≡◌, ◌⊎◌, Bool, true, false, nat_lt}
 use Rattle.mini_model.specs.declared.operator.UnaryOperator.TheVariants.{Void}
 use Rattle.mini_model.specs.declared.place.Position.TheVariants.{Expr}
@@ -14,7 +15,8 @@ use Rattle.mini_rows.specs.Choices.{CallRow, ZeroRow, ChosenRow, ChosenMemberRow
 use Rattle.mini_rows.specs.Operators.{TypeRow}
 use Rattle.mini_rows.specs.Spellings.{void_zero}
 
--- it weighs more than a `0`, also where a value that is written out weighs 1 more, as on the left of an equality
+-- it weighs more than a `0`, also where a value that is written out weighs 1 more, as on the left
+-- of an equality
 abbrev pub outweighs_zero : Seat → Tree → Bool
 outweighs_zero s t = nat_lt 3 (weight (Expr s) t)
 
@@ -24,7 +26,8 @@ pub record Row21ZeroThis (V : Assured) (n w : Tree) : Type 0 where
   pub row : ZeroRow false n w
   pub heavy : outweighs_zero passed_part_seat row.idle ≡ true
 
--- 1: `void this` becomes `void 0`: what `void` is over is evaluated, and its value is undefined (ECMA-262, "The void Operator")
+-- 1: `void this` becomes `void 0`: what `void` is over is evaluated, and its value is undefined
+-- (ECMA-262, "The void Operator")
 pub record Row1This (V : Assured) (n w : Tree) : Type 0 where
   pub operand : Tree
   pub kept : V.has_this ≡ true
@@ -34,7 +37,8 @@ pub record Row1This (V : Assured) (n w : Tree) : Type 0 where
   pub shape : n ≡ unary Void operand
   pub written : w ≡ void_zero
 
--- 44: `a ? this(b) : this(c)` becomes `this(a ? b : c)`, and `this ? f(b) : f(c)` `f(this ? b : c)`: `this` is the same before the test and after it
+-- 44: `a ? this(b) : this(c)` becomes `this(a ? b : c)`, and `this ? f(b) : f(c)`
+-- `f(this ? b : c)`: `this` is the same before the test and after it
 pub record Row44This (V : Assured) (n w : Tree) : Type 0 where
   pub kept : V.has_this ≡ true
   pub row : CallRow false n w
@@ -44,8 +48,9 @@ pub record Row17This (V : Assured) (n w : Tree) : Type 0 where
   pub kept : V.has_this ≡ true
   pub row : TypeRow false n w
 
--- 45: `this ? x += 1 : x += 2` becomes `x += this ? 1 : 2`, and so do `this ? x = 1 : x = 2`, whoever declares x, and, where a scope does,
--- `this ? x.k = 1 : x.k = 2` and `this ? x[k] = 1 : x[k] = 2`: what is assigned to is the same before the test and after it
+-- 45: `this ? x += 1 : x += 2` becomes `x += this ? 1 : 2`, and so do `this ? x = 1 : x = 2`,
+-- whoever declares x, and, where a scope does, `this ? x.k = 1 : x.k = 2` and
+-- `this ? x[k] = 1 : x[k] = 2`: what is assigned to is the same before the test and after it
 pub record Row45This (V : Assured) (s : Seat) (n w : Tree) : Type 0 where
   pub kept : V.has_this ≡ true
   pub row : ChosenRow false s n w ⊎ (ChosenMemberRow false s n w ⊎ ChosenIndexedRow false s n w)

@@ -9,7 +9,8 @@ pub record Switches : Type 0 where
   pub sequences : Bool
   -- neighbouring declarations may be joined
   pub join_vars : Bool
-  -- the names of function expressions stay though nothing mentions them, and those of class expressions
+  -- the names of function expressions stay though nothing mentions them, and those of class
+  -- expressions
   pub keep_function_names : Bool
   pub keep_class_names : Bool
 
@@ -17,7 +18,8 @@ pub record Switches : Type 0 where
 abbrev pub let_go : Switches → Shape → Bool
 let_go o h = loses_name o.keep_function_names o.keep_class_names h
 
--- what a rewrite of names that go may do: the variables that can be written, whose `var` may go, and what the options let happen
+-- what a rewrite of names that go may do: the variables that can be written, whose `var` may go,
+-- and what the options let happen
 pub record Liberties : Type 0 where
   pub writable : VariableSet
   pub switches : Switches

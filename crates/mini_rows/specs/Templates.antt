@@ -1,5 +1,5 @@
--- Rows on templates, as equations: each is a shape and what is written in its place, with the JavaScript before and after. No order of
--- rewriting is meant.
+-- Rows on templates, as equations: each is a shape and what is written in its place, with the
+-- JavaScript before and after. No order of rewriting is meant.
 use Rattle.std.specs.Prelude.{◌≡◌, ◌<◌, ◌⊎◌, ◌||◌, ℕ, Bool, true, is_some, List, [], ◌∷◌, ◌++◌, length, Option, Some}
 use Rattle.mini_model.specs.declared.operator.BinaryOperator.TheVariants.{Addition}
 use Rattle.mini_model.specs.declared.place.Position.{Position}
@@ -51,7 +51,8 @@ told t = text_of (operand_value t)
 
 -- ---- rows
 
--- 18: `` `a${1}b${c}` `` becomes `` `a1b${c}` ``, and `` `${"x"}` `` becomes `` `x` ``: a part whose value is calculated goes into the text
+-- 18: `` `a${1}b${c}` `` becomes `` `a1b${c}` ``, and `` `${"x"}` `` becomes `` `x` ``: a part
+-- whose value is calculated goes into the text
 pub record Row18 (n w : Tree) : Type 0 where
   pub before : List Piece
   pub first : Piece
@@ -111,8 +112,9 @@ pub record Row5Before (n w : Tree) : Type 0 where
 abbrev pub Row5 : Tree → Tree → Type 0
 Row5 n w = Row5Both n w ⊎ (Row5After n w ⊎ Row5Before n w)
 
--- 6: `` a + `x${b}` + `y` `` becomes `` a + `x${b}y` ``. The sum of a and a text is a text, so a is converted once, before or after the
--- last operand is evaluated: that is one thing where a is primitive, or the value of the last operand is calculated
+-- 6: `` a + `x${b}` + `y` `` becomes `` a + `x${b}y` ``. The sum of a and a text is a text, so a is
+-- converted once, before or after the last operand is evaluated: that is one thing where a is
+-- primitive, or the value of the last operand is calculated
 pub record Row6 (n w : Tree) : Type 0 where
   pub left : Tree
   pub inner : Tree

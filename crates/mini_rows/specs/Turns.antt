@@ -1,5 +1,5 @@
--- Rows that turn a test and swap what it chooses between: each is a shape and what is written in its place, with the JavaScript
--- before and after.
+-- Rows that turn a test and swap what it chooses between: each is a shape and what is written in
+-- its place, with the JavaScript before and after.
 use Rattle.std.specs.Prelude.{◌≡◌, ◌⊎◌, ◌<◌, Bool, true, false}
 use Rattle.mini_model.specs.declared.operator.BinaryOperator.{BinaryOperator}
 use Rattle.mini_model.specs.declared.operator.BinaryOperator.TheVariants.{Equality, Inequality, StrictEquality, StrictInequality}
@@ -59,8 +59,8 @@ pub record HoldsOther (t : Tree) : Type 0 where
   pub is : t ≡ block statements
   pub other : one_chooses statements ≡ false
 
--- a consequent whose braces, if it has any, weigh as much as those of an alternate: those of a block that holds an `if` with
--- `else` alone weigh nothing
+-- a consequent whose braces, if it has any, weigh as much as those of an alternate: those of a
+-- block that holds an `if` with `else` alone weigh nothing
 abbrev pub KeepsBraces : Tree → Type 0
 KeepsBraces t = (is_block_shape (shape_of t) ≡ false) ⊎ HoldsOther t
 

@@ -1,5 +1,6 @@
--- Rows of names that nothing mentions: each is a shape and what is written in its place, with the JavaScript before and after. W has
--- the variables that the program mentions and that can be written in it, and what the options let happen.
+-- Rows of names that nothing mentions: each is a shape and what is written in its place, with the
+-- JavaScript before and after. W has the variables that the program mentions and that can be
+-- written in it, and what the options let happen.
 use Rattle.std.specs.Prelude.{◌≡◌, ◌<◌, ◌⊎◌, ◌||◌, ◌&&◌, not, ℕ, zero, suc, Bool, true, false, List, [], ◌∷◌, if◌then◌else◌}
 use Rattle.mini_model.specs.declared.kind.PropertyKind.TheVariants.{Init}
 use Rattle.mini_model.specs.declared.kind.VariableDeclarationKind.{VariableDeclarationKind}
@@ -60,8 +61,9 @@ declared_among k x first init last = declaration k (append first (declarator (bi
 abbrev pub declared_one : VariableDeclarationKind → Name → Tree → Tree
 declared_one k x init = declared_among k x none init none
 
--- In a block a name that a `let` or a `const` declares, and that is mentioned nowhere else in it: nothing else in the block has its
--- spelling either, and no direct eval, which would see it, stands there
+-- In a block a name that a `let` or a `const` declares, and that is mentioned nowhere else in it:
+-- nothing else in the block has its spelling either, and no direct eval, which would see it, stands
+-- there
 pub record Alone (k : VariableDeclarationKind) (x : Name) (before first : Trees) (init : Tree) (last after : Trees) : Type 0 where
   pub earlier : any_names x before ≡ false
   pub declared_earlier : any_names x first ≡ false
@@ -70,8 +72,8 @@ pub record Alone (k : VariableDeclarationKind) (x : Name) (before first : Trees)
   pub later : any_names x after ≡ false
   pub unseen : has_eval (block (append before (declared_among k x first init last ▸ after))) ≡ false
 
--- the declaration of a `let` or a `const` initialises it; that of a `var` writes it, which writes where it can be written
--- (ECMA-262, "PutValue")
+-- the declaration of a `let` or a `const` initialises it; that of a `var` writes it, which writes
+-- where it can be written (ECMA-262, "PutValue")
 abbrev pub lets_go : VariableSet → VariableDeclarationKind → ℕ → Bool
 lets_go W kind k = is_lexical kind || W (Declared k)
 
@@ -90,7 +92,8 @@ pub record Row72 (W : Liberties) (n w : Tree) : Type 0 where
   pub shape : n ≡ block (append before (declared_one kind (resolved spelling symbol) init ▸ after))
   pub written : w ≡ block (append before (expression_statement init ▸ after))
 
--- an initializer that nothing misses: none, or an expression that has no effect and leaves nothing behind
+-- an initializer that nothing misses: none, or an expression that has no effect and leaves nothing
+-- behind
 abbrev pub is_idle : Tree → Bool
 is_idle init = is_absent_part init || (declares_nothing init && (is_effect_free init && leaves_nothing init))
 
@@ -99,7 +102,8 @@ abbrev pub declared_left : VariableDeclarationKind → Trees → Tree
 declared_left k none = empty_statement
 declared_left k (d ▸ ds) = declaration k (d ▸ ds)
 
--- `{ let x, y = b(); c(y); }` becomes `{ let y = b(); c(y); }`, and `{ let x; b(); }` and `{ const x = 1; b(); }` become `{ ; b(); }`
+-- `{ let x, y = b(); c(y); }` becomes `{ let y = b(); c(y); }`, and `{ let x; b(); }` and
+-- `{ const x = 1; b(); }` become `{ ; b(); }`
 pub record Row72Idle (W : Liberties) (n w : Tree) : Type 0 where
   pub before : Trees
   pub kind : VariableDeclarationKind
@@ -130,9 +134,10 @@ is_member_shape h = false
 abbrev pub is_member : Tree → Bool
 is_member t = is_member_shape (shape_of t) && is_bare t 2
 
--- what evaluates this part, its first one, before all else, and asks for its value, for what is called, or for what `typeof` reads, or assigns to
--- it: a member, whose object and key are evaluated before all else. The name of a direct eval isn't such a part, and what a chain holds is a
--- link. Of a property it is a key in brackets
+-- what evaluates this part, its first one, before all else, and asks for its value, for what is
+-- called, or for what `typeof` reads, or assigns to it: a member, whose object and key are
+-- evaluated before all else. The name of a direct eval isn't such a part, and what a chain holds is
+-- a link. Of a property it is a key in brackets
 abbrev pub begins : Shape → Tree → Bool
 begins (shape.UnaryExpression LogicalNot) t = true
 begins (shape.UnaryExpression UnaryPlus) t = true
@@ -158,7 +163,8 @@ begins (shape.UpdateExpression o is_prefix) t = is_member t
 begins shape.ChainExpression t = not (is_childless t)
 begins h t = false
 
--- what evaluates its first part, if that is evaluated at all, and then this one, and asks for the value of this one alone
+-- what evaluates its first part, if that is evaluated at all, and then this one, and asks for the
+-- value of this one alone
 abbrev pub goes_on : Shape → Bool
 goes_on (shape.BinaryExpression o) = true
 goes_on (shape.CallExpression false) = true
@@ -167,8 +173,9 @@ goes_on (shape.ComputedMemberExpression false) = true
 goes_on shape.TemplateLiteral = true
 goes_on h = false
 
--- what evaluates its first part, or what is assigned to, or a key, and then, if at all, this one, and asks for the value of this one
--- alone: a link with `?.` asks for it where its first part is neither undefined nor null
+-- what evaluates its first part, or what is assigned to, or a key, and then, if at all, this one,
+-- and asks for the value of this one alone: a link with `?.` asks for it where its first part is
+-- neither undefined nor null
 abbrev pub may_go_on : Shape → Bool
 may_go_on (shape.LogicalExpression o) = true
 may_go_on shape.ConditionalExpression = true
@@ -190,13 +197,15 @@ continues (suc zero) h = goes_on h || may_go_on h
 continues (suc (suc zero)) h = has_branches h
 continues i h = false
 
--- an expression, which evaluates this part, at the place, after those before it, if at all, or a list of parts
+-- an expression, which evaluates this part, at the place, after those before it, if at all, or a
+-- list of parts
 abbrev pub leads : Bool → Shape → ℕ → Tree → Bool
 leads true h i t = is_listed_shape h
 leads false h zero t = begins h t
 leads false h (suc i) t = continues (suc i) h
 
--- its first part is a list: the parts of a sequence, the elements of an array, or the properties of an object
+-- its first part is a list: the parts of a sequence, the elements of an array, or the properties of
+-- an object
 abbrev pub begins_list : Shape → Bool
 begins_list shape.SequenceExpression = true
 begins_list shape.ArrayExpression = true
@@ -233,8 +242,9 @@ abbrev pub is_short : Shape → Bool
 is_short (shape.ObjectProperty Init false true false) = true
 is_short h = false
 
--- a shorthand property can be written in full: its value is a name alone, and its key isn't `__proto__`, by which `{ __proto__: a }` would
--- set the prototype (ECMA-262, "__proto__ Property Names in Object Initializers"). All else is in full
+-- a shorthand property can be written in full: its value is a name alone, and its key isn't
+-- `__proto__`, by which `{ __proto__: a }` would set the prototype (ECMA-262, "__proto__ Property
+-- Names in Object Initializers"). All else is in full
 abbrev pub can_be_full : Tree → Bool
 can_be_full t = not (is_short (shape_of t)) || (is_bare t 2 && (is_own_key (part t 0) && is_childless (part t 1)))
 
@@ -246,7 +256,8 @@ in_full h = if is_short h then shape.ObjectProperty Init false false false else 
 abbrev pub may_hold : Tree → Bool
 may_hold t = is_nameless t && can_be_full t
 
--- an expression, or a list of parts, reads the variable after the parts that stand before, and nothing else in it mentions the name
+-- an expression, or a list of parts, reads the variable after the parts that stand before, and
+-- nothing else in it mentions the name
 abbrev mutual
   pub is_first : Name → Bool → Tree → Bool
   is_first x in_list (node h ys n none) = not in_list && reads x (node h ys n none)
@@ -286,7 +297,8 @@ abbrev pub is_constant : Tree → Bool
 is_constant (node h ys n (t ▸ none)) = is_written_value h || (is_value_operator h && is_written_value (shape_of t))
 is_constant (node h ys n ts) = is_written_value h
 
--- it may be evaluated before r rather than after: one of both has the same value whenever it is evaluated, or neither of them has an effect
+-- it may be evaluated before r rather than after: one of both has the same value whenever it is
+-- evaluated, or neither of them has an effect
 abbrev pub passes : Tree → Tree → Bool
 passes r t = is_constant r || (is_constant t || (is_effect_free r && (is_effect_free t && is_item t)))
 
@@ -306,12 +318,13 @@ is_word h = false
 abbrev pub passes_word : Tree → Tree → Bool
 passes_word r t = is_word (shape_of t) || passes r t
 
--- so may a member that `=` assigns to: before the right side its object and its key are evaluated, and no more, whatever the object is
--- (ECMA-262, "Assignment Operators")
+-- so may a member that `=` assigns to: before the right side its object and its key are evaluated,
+-- and no more, whatever the object is (ECMA-262, "Assignment Operators")
 abbrev pub passes_member : Tree → AssignmentOperator → Tree → Bool
 passes_member r o t = is_member t && (is_plain_assignment o && (passes r (part t 0) && passes_word r (part t 1)))
 
--- and what else is assigned to: a name, of which `=` reads nothing before the right side, and any other operator the value
+-- and what else is assigned to: a name, of which `=` reads nothing before the right side, and any
+-- other operator the value
 abbrev pub passes_target : Tree → AssignmentOperator → Tree → Bool
 passes_target r o t = is_constant r || (passes_member r o t || ((is_identifier t && is_effect_free t) && (is_plain_assignment o || is_effect_free r)))
 
@@ -340,7 +353,8 @@ abbrev pub of_texts : Gathered → Bool
 of_texts OfTexts = true
 of_texts g = false
 
--- so may what is converted to a text: of a primitive value that runs nothing, and doesn't throw (ECMA-262, "ToString")
+-- so may what is converted to a text: of a primitive value that runs nothing, and doesn't throw
+-- (ECMA-262, "ToString")
 abbrev pub passes_text : Tree → Tree → Bool
 passes_text r t = is_constant r || (passes r t && is_primitive (kind_of t))
 
@@ -349,7 +363,8 @@ abbrev pub passes_item : Gathered → Tree → Tree → Bool
 passes_item OfTexts r t = passes_text r t
 passes_item gathered r t = passes r t || (of_entries gathered && (is_field t && passes r (part t 1)))
 
--- so may what stands before the read, at a place of such a shape; the texts of a template aren't evaluated
+-- so may what stands before the read, at a place of such a shape; the texts of a template aren't
+-- evaluated
 abbrev pub passes_at : Gathered → Tree → Shape → ℕ → Tree → Bool
 passes_at gathered r (shape.AssignmentExpression o) i t = passes_target r o t
 passes_at gathered r shape.ConditionalExpression i t = passes_branch r i t
@@ -358,8 +373,8 @@ passes_at gathered r shape.Listed i t = passes_item gathered r t
 passes_at gathered r shape.TemplateLiteral i t = true
 passes_at gathered r h i t = passes r t
 
--- what evaluates the part behind its first one whatever that gives; where r has no effect, it may be left out. A key that stands in
--- brackets is converted before the value is evaluated
+-- what evaluates the part behind its first one whatever that gives; where r has no effect, it may
+-- be left out. A key that stands in brackets is converted before the value is evaluated
 abbrev pub is_sure : Bool → Shape → Bool
 is_sure is_free (shape.LogicalExpression o) = is_free
 is_sure is_free shape.ConditionalExpression = is_free
@@ -375,8 +390,9 @@ is_placed gathered is_free (shape.ObjectProperty k is_method is_shorthand is_com
 is_placed gathered is_free shape.SpreadElement = of_entries gathered || is_free
 is_placed gathered is_free h = true
 
--- what is asked of the part at the place: an array and an object ask their elements and properties for entries, a call and `new` their arguments,
--- and a template what stands between its texts for a text each
+-- what is asked of the part at the place: an array and an object ask their elements and properties
+-- for entries, a call and `new` their arguments, and a template what stands between its texts for a
+-- text each
 abbrev pub gathered_by : Shape → ℕ → Gathered
 gathered_by shape.ArrayExpression i = OfEntries
 gathered_by shape.ObjectExpression i = OfEntries
@@ -394,7 +410,8 @@ abbrev pub begins_with : Name → Trees → Bool
 begins_with x none = true
 begins_with x (t ▸ ts) = names x t
 
--- the part that mentions the name is evaluated whatever those before it are; or it needn't be, since r is a constant or has no effect
+-- the part that mentions the name is evaluated whatever those before it are; or it needn't be,
+-- since r is a constant or has no effect
 abbrev pub is_reached : Name → Gathered → Tree → Shape → Trees → Bool
 is_reached x gathered r h ts = is_constant r || (is_placed gathered (is_effect_free r) h && (is_sure (is_effect_free r) h || begins_with x ts))
 
@@ -402,7 +419,8 @@ abbrev pub is_number_shape : Shape → Bool
 is_number_shape (shape.NumericLiteral n) = true
 is_number_shape h = false
 
--- where it is called, its value is, without a `this`: it is no member and no chain, and no name of a direct eval (ECMA-262, "EvaluateCall")
+-- where it is called, its value is, without a `this`: it is no member and no chain, and no name of
+-- a direct eval (ECMA-262, "EvaluateCall")
 abbrev pub is_called_by : Shape → List Name → Bool
 is_called_by shape.Identifier xs = not (is_eval xs)
 is_called_by h xs = is_lone_by h
@@ -410,8 +428,8 @@ is_called_by h xs = is_lone_by h
 abbrev pub is_called_by_value : Tree → Bool
 is_called_by_value t = is_called_by (shape_of t) (names_of t)
 
--- r may stand in the place of a name that is its first part: a number under `-` would be another literal, and `typeof` and a call read more of
--- some expressions than their value
+-- r may stand in the place of a name that is its first part: a number under `-` would be another
+-- literal, and `typeof` and a call read more of some expressions than their value
 abbrev pub suits_under : Tree → Shape → Bool
 suits_under r (shape.UnaryExpression UnaryNegation) = not (is_number_shape (shape_of r))
 suits_under r (shape.UnaryExpression Typeof) = is_typed_by_value r
@@ -432,8 +450,8 @@ suits_in r h = true
 abbrev pub suits : Name → Tree → Shape → Trees → Bool
 suits x r h ts = (not (begins_bare x ts) || suits_under r h) && suits_in r h
 
--- each part that is evaluated before the variable is read may be evaluated before r, the read is reached whatever they are, and r may stand
--- in its place
+-- each part that is evaluated before the variable is read may be evaluated before r, the read is
+-- reached whatever they are, and r may stand in its place
 abbrev mutual
   pub are_passed_in : Name → Gathered → Tree → Tree → Bool
   are_passed_in x gathered r (node h ys n ts) = suits x r h ts && (is_reached x gathered r h ts && all_passed x gathered r h 0 ts)
@@ -491,8 +509,8 @@ reads_declarators x l = not (is_childless l) && (reads_declarator x (part l 0) &
 abbrev pub reads_initially : Name → Tree → Bool
 reads_initially x t = declares_list t && reads_declarators x (part t 0)
 
--- what opens a scope, which the expression that it evaluates before all else is outside of: `switch (e) { .. }`, and
--- `for (e; ..; ..) ..` where no declaration stands there
+-- what opens a scope, which the expression that it evaluates before all else is outside of:
+-- `switch (e) { .. }`, and `for (e; ..; ..) ..` where no declaration stands there
 abbrev pub is_switch_shape : Shape → Bool
 is_switch_shape shape.SwitchStatement = true
 is_switch_shape _ = false
@@ -526,8 +544,8 @@ is_over_shape shape.ForInStatement = true
 is_over_shape shape.ForOfStatement = true
 is_over_shape _ = false
 
--- `for (l in e) ..` and `for (l of e) ..` with such a left side: no name is in scope where e is evaluated, before all else
--- (ECMA-262, "ForIn/OfHeadEvaluation")
+-- `for (l in e) ..` and `for (l of e) ..` with such a left side: no name is in scope where e is
+-- evaluated, before all else (ECMA-262, "ForIn/OfHeadEvaluation")
 abbrev pub goes_over : Tree → Bool
 goes_over t = is_over_shape (shape_of t) && (is_bare t 3 && is_open_left (part t 0))
 
@@ -542,8 +560,8 @@ has_declarator t = declares_list t && (not (is_childless (part t 0)) && is_decla
 abbrev pub first_value : Tree → Tree
 first_value t = part (part (part t 0) 0) 1
 
--- `for (var i = e; ..; ..) ..`: a `var` is declared around the loop, so that e is evaluated as in a declaration before that (ECMA-262,
--- "ForLoopEvaluation")
+-- `for (var i = e; ..; ..) ..`: a `var` is declared around the loop, so that e is evaluated as in a
+-- declaration before that (ECMA-262, "ForLoopEvaluation")
 abbrev pub begins_var : Tree → Bool
 begins_var t = is_for_shape (shape_of t) && (is_bare t 4 && (is_var_shape (shape_of (part t 0)) && has_declarator (part t 0)))
 
@@ -555,8 +573,8 @@ reads_begun x t = begins_var t && (reads_initially x (part t 0) && not (any_name
 abbrev pub reads_head : Name → Tree → Bool
 reads_head x t = reads_first x t || (reads_initially x t || (reads_outside x t || (reads_over x t || reads_begun x t)))
 
--- what a head evaluates: of a declaration, and of a `var` that begins a `for`, the first initializer, and of a loop over keys or values its
--- right side
+-- what a head evaluates: of a declaration, and of a `var` that begins a `for`, the first
+-- initializer, and of a loop over keys or values its right side
 abbrev pub evaluated : Tree → Tree
 evaluated t = if has_declarator t then first_value t else (if goes_over t then part t 1 else (if begins_var t then first_value (part t 0) else t))
 
@@ -565,8 +583,8 @@ abbrev pub is_lexical_shape : Shape → Bool
 is_lexical_shape (shape.VariableDeclaration k) = is_lexical k
 is_lexical_shape _ = false
 
--- `for (let i = e; ..; ..) ..`: e is evaluated where the names that the head declares are in scope, and uninitialised (ECMA-262,
--- "ForLoopEvaluation")
+-- `for (let i = e; ..; ..) ..`: e is evaluated where the names that the head declares are in scope,
+-- and uninitialised (ECMA-262, "ForLoopEvaluation")
 abbrev pub begins_let : Tree → Bool
 begins_let t = is_for_shape (shape_of t) && (is_bare t 4 && (is_lexical_shape (shape_of (part t 0)) && has_declarator (part t 0)))
 
@@ -594,16 +612,19 @@ evaluated_hidden t = if begins_let t then first_value (part t 0) else (if goes_o
 abbrev pub is_literal : Tree → Bool
 is_literal t = is_written_value (shape_of t) && is_bare t 0
 
--- a constant with nothing else in it: it mentions no name, so that no name around it changes what it is
+-- a constant with nothing else in it: it mentions no name, so that no name around it changes what
+-- it is
 abbrev pub is_closed : Tree → Bool
 is_closed t = is_literal t || (is_value_operator (shape_of t) && (is_bare t 1 && is_literal (part t 0)))
 
--- r may be put in the place of what a head reads: into a loop that hides its names first a constant alone
+-- r may be put in the place of what a head reads: into a loop that hides its names first a constant
+-- alone
 abbrev pub takes : Name → Tree → Tree → Bool
 takes x r t = (reads_head x t && are_passed x r (evaluated t)) || (is_closed r && (reads_hidden x t && are_passed x r (evaluated_hidden t)))
 
--- an arrow function, and a function or a class without a name of its own, gets the variable's name (ECMA-262, "NamedEvaluation"): none
--- of them moves where the names of functions, or of classes, have to stay
+-- an arrow function, and a function or a class without a name of its own, gets the variable's name
+-- (ECMA-262, "NamedEvaluation"): none of them moves where the names of functions, or of classes,
+-- have to stay
 abbrev pub takes_name : Switches → Shape → Tree → Bool
 takes_name o (shape.Function is_declaration is_generator directives) own = o.keep_function_names && is_absent_part own
 takes_name o (shape.ArrowFunctionExpression directives) own = o.keep_function_names
@@ -613,10 +634,12 @@ takes_name o h own = false
 abbrev pub may_move : Switches → Tree → Bool
 may_move o t = is_plain_part t && not (takes_name o (shape_of t) (part t 0))
 
--- 71: `{ let a, x = b(); return x + c; }` becomes `{ let a; return b() + c; }`, `{ const x = b(); return x; }` `{ ; return b(); }`,
--- `{ let x = a(); const y = x.b; c(y); }` `{ ; const y = a().b; c(y); }`, `{ let x = a(); switch (x.b) { } }` `{ ; switch (a().b) { } }`,
--- `{ let x = a(); for (c of x.b) d(); }` `{ ; for (c of a().b) d(); }`, `{ let x = a(); for (var i = x.b; i; ) c(i); }`
--- `{ ; for (var i = a().b; i; ) c(i); }`, and `{ let x = 1; for (let i = x; i < 9; ) c(i); }` `{ ; for (let i = 1; i < 9; ) c(i); }`
+-- 71: `{ let a, x = b(); return x + c; }` becomes `{ let a; return b() + c; }`,
+-- `{ const x = b(); return x; }` `{ ; return b(); }`, `{ let x = a(); const y = x.b; c(y); }`
+-- `{ ; const y = a().b; c(y); }`, `{ let x = a(); switch (x.b) { } }` `{ ; switch (a().b) { } }`,
+-- `{ let x = a(); for (c of x.b) d(); }` `{ ; for (c of a().b) d(); }`,
+-- `{ let x = a(); for (var i = x.b; i; ) c(i); }` `{ ; for (var i = a().b; i; ) c(i); }`, and
+-- `{ let x = 1; for (let i = x; i < 9; ) c(i); }` `{ ; for (let i = 1; i < 9; ) c(i); }`
 pub record Row71 (W : Liberties) (n w : Tree) : Type 0 where
   pub before : Trees
   pub kind : VariableDeclarationKind
@@ -637,7 +660,8 @@ pub record Row71 (W : Liberties) (n w : Tree) : Type 0 where
   pub shape : n ≡ block (append before (declared_among kind (resolved spelling symbol) first init none ▸ (head ▸ after)))
   pub written : w ≡ block (append before (declared_left kind first ▸ (put_first (resolved spelling symbol) init head ▸ after)))
 
--- where the next declarator reads it first: `{ let a, x = b(), y = x.c; d(y); }` becomes `{ let a, y = b().c; d(y); }`
+-- where the next declarator reads it first: `{ let a, x = b(), y = x.c; d(y); }` becomes
+-- `{ let a, y = b().c; d(y); }`
 pub record Row71Next (W : Liberties) (n w : Tree) : Type 0 where
   pub before : Trees
   pub kind : VariableDeclarationKind
@@ -677,8 +701,9 @@ statements ts = node shape.FunctionBody [] 0 (listed ts ▸ none)
 abbrev pub arrow_with : List (List ℕ) → ℕ → Trees → Trees → Tree
 arrow_with directives n parameters ts = node (shape.ArrowFunctionExpression directives) [] n (listed parameters ▸ (statements ts ▸ none))
 
--- 71 and 72 in its body: `(a) => { let x = b(); return x + a; }` becomes `(a) => { ; return b() + a; }`. Its parameters are read like
--- what stands before the declaration in a block
+-- 71 and 72 in its body: `(a) => { let x = b(); return x + a; }` becomes
+-- `(a) => { ; return b() + a; }`. Its parameters are read like what stands before the declaration
+-- in a block
 pub record ArrowBodyRow (W : Liberties) (n w : Tree) : Type 0 where
   pub directives : List (List ℕ)
   pub number : ℕ
@@ -691,12 +716,14 @@ pub record ArrowBodyRow (W : Liberties) (n w : Tree) : Type 0 where
 
 -- ---- in the body of any other function
 
--- a function with statements: whether it is declared, and a generator, its directives, its number, its name and its parameters
+-- a function with statements: whether it is declared, and a generator, its directives, its number,
+-- its name and its parameters
 abbrev pub function_with : Bool → Bool → List (List ℕ) → ℕ → Tree → Trees → Trees → Tree
 function_with is_declared is_generator directives n name parameters ts = node (shape.Function is_declared is_generator directives) [] n (name ▸ (listed parameters ▸ (statements ts ▸ none)))
 
--- 71 and 72 in its body: `function f(a) { let x = b(); return x + a; }` becomes `function f(a) { ; return b() + a; }`. Its name and its
--- parameters are read like what stands before the declaration in a block
+-- 71 and 72 in its body: `function f(a) { let x = b(); return x + a; }` becomes
+-- `function f(a) { ; return b() + a; }`. Its name and its parameters are read like what stands
+-- before the declaration in a block
 pub record FunctionBodyRow (W : Liberties) (n w : Tree) : Type 0 where
   pub is_declared : Bool
   pub is_generator : Bool
@@ -712,9 +739,10 @@ pub record FunctionBodyRow (W : Liberties) (n w : Tree) : Type 0 where
 
 -- ---- in a module
 
--- 71 and 72 in a module: `import "a"; const x = f(); g();` becomes `import "a"; f(); g();`. Its statements are read like those of a
--- function without parameters. `export { x }` mentions x, and what is exported where it is declared is no declaration of a list. What a
--- script declares stays: other scripts see it
+-- 71 and 72 in a module: `import "a"; const x = f(); g();` becomes `import "a"; f(); g();`. Its
+-- statements are read like those of a function without parameters. `export { x }` mentions x, and
+-- what is exported where it is declared is no declaration of a list. What a script declares stays:
+-- other scripts see it
 pub record ModuleRow (W : Liberties) (n w : Tree) : Type 0 where
   pub directives : List (List ℕ)
   pub before : Trees
@@ -729,9 +757,10 @@ pub record ModuleRow (W : Liberties) (n w : Tree) : Type 0 where
 abbrev pub static_block : ℕ → Trees → Tree
 static_block n ts = node shape.StaticBlock [] n (listed ts ▸ none)
 
--- 71 and 72 in a static block of a class: `class A { static { var x = f(); g(); } }` becomes `class A { static { f(); g(); } }`. Its
--- statements are read like those of a function without parameters, since it is a body of its own, whose `var`s nothing around it sees
--- (ECMA-262, "ClassStaticBlockDefinition")
+-- 71 and 72 in a static block of a class: `class A { static { var x = f(); g(); } }` becomes
+-- `class A { static { f(); g(); } }`. Its statements are read like those of a function without
+-- parameters, since it is a body of its own, whose `var`s nothing around it sees (ECMA-262,
+-- "ClassStaticBlockDefinition")
 pub record StaticBlockRow (W : Liberties) (n w : Tree) : Type 0 where
   pub number : ℕ
   pub before : Trees
@@ -746,9 +775,10 @@ pub record StaticBlockRow (W : Liberties) (n w : Tree) : Type 0 where
 abbrev pub switch_around : Tree → Trees → Tree → Trees → Tree
 switch_around d first test last = switch d (listed (append first (node shape.SwitchCase [] 0 (test ▸ (absent ▸ none)) ▸ last)))
 
--- 71 and 72 among the statements of a case: `switch (a) { case 1: let x = f(); g(); }` becomes `switch (a) { case 1: f(); g(); }`. All cases
--- are one scope (ECMA-262, "Runtime Semantics: Evaluation" of SwitchStatement), so all else that stands in the switch is read like what
--- stands before the declaration in a block
+-- 71 and 72 among the statements of a case: `switch (a) { case 1: let x = f(); g(); }` becomes
+-- `switch (a) { case 1: f(); g(); }`. All cases are one scope (ECMA-262, "Runtime Semantics:
+-- Evaluation" of SwitchStatement), so all else that stands in the switch is read like what stands
+-- before the declaration in a block
 pub record SwitchRow (o : Switches) (n w : Tree) : Type 0 where
   pub discriminant : Tree
   pub first : Trees
@@ -767,9 +797,11 @@ abbrev pub head_left : VariableDeclarationKind → Trees → Tree
 head_left k none = absent
 head_left k (d ▸ ds) = declaration k (d ▸ ds)
 
--- 72 among the declarators of its head: `for (let i = 0, x = 1; i < a; i++) b(i);` becomes `for (let i = 0; i < a; i++) b(i);`, and
--- `for (let x = 1; a; b) c();` becomes `for (; a; b) c();`. What is declared there is seen in the loop alone, and copied for each turn
--- (ECMA-262, "ForLoopEvaluation", "CreatePerIterationEnvironment"); of what nobody sees no copy is missed
+-- 72 among the declarators of its head: `for (let i = 0, x = 1; i < a; i++) b(i);` becomes
+-- `for (let i = 0; i < a; i++) b(i);`, and `for (let x = 1; a; b) c();` becomes
+-- `for (; a; b) c();`. What is declared there is seen in the loop alone, and copied for each turn
+-- (ECMA-262, "ForLoopEvaluation", "CreatePerIterationEnvironment"); of what nobody sees no copy is
+-- missed
 pub record ForRow (n w : Tree) : Type 0 where
   pub kind : VariableDeclarationKind
   pub first : Trees
@@ -790,9 +822,10 @@ pub record ForRow (n w : Tree) : Type 0 where
   pub shape : n ≡ for_loop (declared_among kind (resolved spelling symbol) first init last) test update body
   pub written : w ≡ for_loop (head_left kind (append first last)) test update body
 
--- 71 among them: `for (let x = 1, y = g(x); y(); ) y(y);` becomes `for (let y = g(1); y(); ) y(y);`. The head is evaluated once, before the
--- copies that the turns have of its names (ECMA-262, "ForLoopEvaluation", "CreatePerIterationEnvironment"), so it is read like a declaration
--- in a block, and all else of the `for` like what stands behind that
+-- 71 among them: `for (let x = 1, y = g(x); y(); ) y(y);` becomes
+-- `for (let y = g(1); y(); ) y(y);`. The head is evaluated once, before the copies that the turns
+-- have of its names (ECMA-262, "ForLoopEvaluation", "CreatePerIterationEnvironment"), so it is read
+-- like a declaration in a block, and all else of the `for` like what stands behind that
 pub record ForNextRow (o : Switches) (n w : Tree) : Type 0 where
   pub before : Tree
   pub after : Tree
@@ -809,11 +842,12 @@ pub record ForNextRow (o : Switches) (n w : Tree) : Type 0 where
 abbrev pub ForHeadRow : Switches → Tree → Tree → Type 0
 ForHeadRow o n w = ForRow n w ⊎ ForNextRow o n w
 
--- a row reads n as w at this place: a function may be a statement, an expression, the value of a method, or exported, a program stands
--- nowhere else, and a static block in a class. A block is a statement, or one of the blocks of a `try`, which stand elsewhere: of
--- `try { let x = a(); b(); } catch (e) { }` the first becomes `{ a(); b(); }`. What a `catch` takes is declared around its block (ECMA-262,
--- "CatchClauseEvaluation"), like parameters around a body, and stays. A block that is no body and a switch keep each
--- `var`: its name is seen around it
+-- a row reads n as w at this place: a function may be a statement, an expression, the value of a
+-- method, or exported, a program stands nowhere else, and a static block in a class. A block is a
+-- statement, or one of the blocks of a `try`, which stand elsewhere: of
+-- `try { let x = a(); b(); } catch (e) { }` the first becomes `{ a(); b(); }`. What a `catch` takes
+-- is declared around its block (ECMA-262, "CatchClauseEvaluation"), like parameters around a body,
+-- and stays. A block that is no body and a switch keep each `var`: its name is seen around it
 abbrev pub UnusedRow : Liberties → Position → Tree → Tree → Type 0
 UnusedRow W (Stmt q) n w = BlockRow (without_vars W.switches) n w ⊎ (FunctionBodyRow W n w ⊎ (SwitchRow W.switches n w ⊎ ForHeadRow W.switches n w))
 UnusedRow W (Expr s) n w = ArrowBodyRow W n w ⊎ FunctionBodyRow W n w
@@ -833,6 +867,7 @@ UnusedLighter = (W : Liberties) (p : Position) (n w : Tree) → UnusedRow W p n 
 abbrev pub UnusedLighten : Type 0
 UnusedLighten = (W : Liberties) → Lightens (UnusedContracts W)
 
--- it drops a name that nothing mentions, where those variables can be written, whichever functions and classes may lose their own
+-- it drops a name that nothing mentions, where those variables can be written, whichever functions
+-- and classes may lose their own
 abbrev pub UnusedAreLawful : Type 0
 UnusedAreLawful = (K : Shape → Bool) (W : Liberties) → LawfulWith K W.writable (UnusedContracts W)

@@ -1,6 +1,8 @@
--- Rows of names that can be written, as equations: each is a shape and what is written in its place, with the JavaScript before and
--- after. W has the variables that the program mentions and that can be written in it: a write of a `const` raises, and one of the own
--- name of a function expression does nothing (ECMA-262, "CreateImmutableBinding"), where what is written in place of it may do neither.
+-- Rows of names that can be written, as equations: each is a shape and what is written in its
+-- place, with the JavaScript before and after. W has the variables that the program mentions and
+-- that can be written in it: a write of a `const` raises, and one of the own name of a function
+-- expression does nothing (ECMA-262, "CreateImmutableBinding"), where what is written in place of
+-- it may do neither.
 use Rattle.std.specs.Prelude.{◌≡◌, ◌<◌, ◌⊎◌, ℕ, Bool, true, false, List, Option, codes}
 use Rattle.mini_model.specs.declared.operator.BinaryOperator.TheVariants.{Equality, Inequality}
 use Rattle.mini_model.specs.declared.operator.LogicalOperator.{LogicalOperator}
@@ -20,8 +22,8 @@ use Rattle.mini_rows.specs.Choices.{assign, deciding, strictly, loosely, joining
 use Rattle.mini_rows.specs.Spellings.{IsUndefined, assignment, binary}
 use Rattle.mini_rows.specs.Unused.{resolved}
 
--- 34: `x = x || b` becomes `x ||= b`, and so of `&&` and `??`, where a scope declares x and it can be written: where the old value
--- decides, the first writes it once more
+-- 34: `x = x || b` becomes `x ||= b`, and so of `&&` and `??`, where a scope declares x and it can
+-- be written: where the old value decides, the first writes it once more
 pub record Row34 (W : VariableSet) (n w : Tree) : Type 0 where
   pub operator : LogicalOperator
   pub spelling : List ℕ
@@ -36,8 +38,9 @@ abbrev pub if_null : Bool → Tree → Tree → Tree → Tree
 if_null true t b y = conditional (binary Equality t null_literal) b y
 if_null false t b y = conditional (binary Inequality t null_literal) y b
 
--- 46: `(x = a) == null ? b : x` becomes `(x = a) ?? b`, and so does `(x = a) != null ? x : b`, where a scope declares x and it can be
--- written: the value that is assigned is the one that it then has
+-- 46: `(x = a) == null ? b : x` becomes `(x = a) ?? b`, and so does `(x = a) != null ? x : b`,
+-- where a scope declares x and it can be written: the value that is assigned is the one that it
+-- then has
 pub record Row46Assigned (W : VariableSet) (n w : Tree) : Type 0 where
   pub equal : Bool
   pub spelling : List ℕ
@@ -48,9 +51,9 @@ pub record Row46Assigned (W : VariableSet) (n w : Tree) : Type 0 where
   pub shape : n ≡ if_null equal (assign (resolved spelling symbol) a) b (identifier (resolved spelling symbol))
   pub written : w ≡ logical Coalesce (assign (resolved spelling symbol) a) b
 
--- 37: `(x = a) === null || x === undefined` becomes `(x = a) == null`, and `(x = a) !== null && x !== undefined` becomes
--- `(x = a) != null`, null and undefined in any order, and after an equal operator to the left: the name that is read then has what was
--- assigned
+-- 37: `(x = a) === null || x === undefined` becomes `(x = a) == null`, and
+-- `(x = a) !== null && x !== undefined` becomes `(x = a) != null`, null and undefined in any order,
+-- and after an equal operator to the left: the name that is read then has what was assigned
 pub record Row37Assigned (W : VariableSet) (n w : Tree) : Type 0 where
   pub equal : Bool
   pub before : Option Tree
@@ -64,9 +67,10 @@ pub record Row37Assigned (W : VariableSet) (n w : Tree) : Type 0 where
   pub shape : n ≡ logical (joining equal) (ended (joining equal) before (binary (strictly equal) (assign (resolved spelling symbol) a) first)) (binary (strictly equal) (identifier (resolved spelling symbol)) second)
   pub written : w ≡ ended (joining equal) before (binary (loosely equal) (assign (resolved spelling symbol) a) null_literal)
 
--- 46: `(x = a) == null ? void 0 : x.m` becomes `(x = a)?.m`, and so do `x.m(b)` and what else is of members and calls over x, and
--- `(x = a) != null ? x.m : void 0`, where x isn't named `eval` (`eval(b)` is a direct call). Nothing in a ends the chain itself. As a callee and
--- under `delete` the chain stands behind a `0`: `((x = a) == null ? void 0 : x.m)()` becomes `(0, (x = a)?.m)()`
+-- 46: `(x = a) == null ? void 0 : x.m` becomes `(x = a)?.m`, and so do `x.m(b)` and what else is of
+-- members and calls over x, and `(x = a) != null ? x.m : void 0`, where x isn't named `eval`
+-- (`eval(b)` is a direct call). Nothing in a ends the chain itself. As a callee and under `delete`
+-- the chain stands behind a `0`: `((x = a) == null ? void 0 : x.m)()` becomes `(0, (x = a)?.m)()`
 pub record Row46AssignedChain (W : VariableSet) (s : Seat) (n w : Tree) : Type 0 where
   pub equal : Bool
   pub spelling : List ℕ
@@ -100,6 +104,7 @@ WritesLighter = (W : VariableSet) (p : Position) (n w : Tree) → WriteRow W p n
 abbrev pub WritesLighten : Type 0
 WritesLighten = (W : VariableSet) → Lightens (WriteContracts W)
 
--- it keeps all that a program has to keep, where those variables can be written, whichever functions and classes may lose their own name
+-- it keeps all that a program has to keep, where those variables can be written, whichever
+-- functions and classes may lose their own name
 abbrev pub WritesAreLawful : Type 0
 WritesAreLawful = (K : Shape → Bool) (W : VariableSet) → LawfulWith K W (WriteContracts W)

@@ -1,7 +1,8 @@
 -- A source and a sink in memory: which call fails, and how much any other moves.
 use Rattle.std.specs.Prelude.{ℕ, ◌+◌, ◌-◌, ◌^◌, ◌<◌, min, max, List, drop, Contains}
 
--- the most bytes that a call moves, the numbers of the calls that fail, how many calls there were, and how many failed
+-- the most bytes that a call moves, the numbers of the calls that fail, how many calls there were,
+-- and how many failed
 pub record Schedule : Type 0 where
   pub limit : ℕ
   pub fails : List ℕ

@@ -8,7 +8,8 @@ ghost use Rattle.mini_run.specs.Causes.{Rose, HasCause};
 use crate::outside::{Failed, Sink, Source};
 use std::marker::Model;
 
-/// Gives the bytes that it was made with. A call moves as many as the piece has room for, and never fails.
+/// Gives the bytes that it was made with. A call moves as many as the piece has room for, and never
+/// fails.
 #[derive(Drop)]
 pub struct PlainSource {
     bytes: Vec<u8>,
@@ -70,7 +71,8 @@ impl Source for PlainSource {
     }
 }
 
-/// Takes each piece whole, and keeps how many bytes that were, up to the greatest u64. It never fails, and doesn't tell the bytes.
+/// Takes each piece whole, and keeps how many bytes that were, up to the greatest u64. It never
+/// fails, and doesn't tell the bytes.
 #[derive(Drop)]
 pub struct PlainSink {
     taken: u64,

@@ -13,7 +13,8 @@ abbrev pub first_path : List Path → Option Path
 first_path [] = None
 first_path (p ∷ ps) = Some p
 
--- the error stands in the program: the first name that is declared twice, or, where there is none, the first such jump
+-- the error stands in the program: the first name that is declared twice, or, where there is none,
+-- the first such jump
 abbrev pub Stands : Tree → EarlyError → Type 0
 Stands t (error.Name p) = Some p ≡ first_path (early_names [] t)
 Stands t (error.Jump p) = (early_names [] t ≡ []) × (Some p ≡ first_path (early_jumps no_targets [] t))

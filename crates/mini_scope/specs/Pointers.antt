@@ -1,4 +1,5 @@
--- The JSON pointer (RFC 6901) to the node at a path of a tree: the fields of each type are those of ESTree (ES5 to ES2022).
+-- The JSON pointer (RFC 6901) to the node at a path of a tree: the fields of each type are those of
+-- ESTree (ES5 to ES2022).
 use Rattle.std.specs.Prelude.{ℕ, zero, suc, ◌+◌, List, [], ◌∷◌, ◌++◌, length, codes, decimal, Option, Some, None, option_map, IfSome, ◌≡◌}
 use Rattle.mini_model.specs.declared.shape.Shape.{Shape}
 use Rattle.mini_model.specs.declared.shape.Shape.TheVariants as shape
@@ -87,13 +88,15 @@ key_of (shape.MetaProperty a) i = picked i (codes "meta") (codes "property") [] 
 key_of shape.ImportExpression i = picked i (codes "source") [] [] []
 key_of h i = []
 
--- from a node to its child: to an item of a list, to a field, or nowhere, where the node is none of ESTree
+-- from a node to its child: to an item of a list, to a field, or nowhere, where the node is none of
+-- ESTree
 abbrev pub step_text : Shape → ℕ → ℕ → List ℕ
 step_text shape.Listed shift i = 47 ∷ decimal (shift + i)
 step_text shape.InnerExpression shift i = []
 step_text h shift i = 47 ∷ key_of h i
 
--- how many items a list has before the first of the tree: the directives of a body stand before its statements
+-- how many items a list has before the first of the tree: the directives of a body stand before its
+-- statements
 abbrev pub shift_below : Shape → ℕ → ℕ → ℕ
 shift_below (shape.Program is_module ds) shift i = length ds
 shift_below (shape.Function d g ds) shift (suc (suc i)) = length ds
@@ -105,7 +108,8 @@ abbrev pub pointer_in : ℕ → Tree → Path → List ℕ
 pointer_in shift t [] = []
 pointer_in shift t (i ∷ p) = step_text (shape_of t) shift i ++ pointer_in (shift_below (shape_of t) shift i) (child_or_absent (children t) i) p
 
--- the early error of a program that is told: its first name that is declared twice, or else its first jump without a target
+-- the early error of a program that is told: its first name that is declared twice, or else its
+-- first jump without a target
 abbrev pub fault_by : List Path → List Path → Tree → Option Fault
 fault_by [] [] t = None
 fault_by [] (p ∷ ps) t = Some (record { defect = early_jump; at = pointer_in 0 t p })

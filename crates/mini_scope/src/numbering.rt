@@ -46,7 +46,8 @@ fn is_same_symbol(one: Option<SymbolId>, other: Option<SymbolId>) -> bool
     }
 }
 
-// The name of the innermost variable with a spelling, where it is another than the one that is declared.
+// The name of the innermost variable with a spelling, where it is another than the one that is
+// declared.
 fn other_name(
     alloc: Global,
     environment: &Environment,
@@ -83,8 +84,9 @@ fn is_absent(node: &Node) -> bool
     matches!(node.shape(), Shape::Absent)
 }
 
-/// The name that a declarator over these children has of its own: that of the variable that it writes, where it is another than the
-/// one that it declares, as under a parameter of `catch` of its name. (ECMA-262, "VariableStatements in Catch Clauses".)
+/// The name that a declarator over these children has of its own: that of the variable that it
+/// writes, where it is another than the one that it declares, as under a parameter of `catch` of
+/// its name. (ECMA-262, "VariableStatements in Catch Clauses".)
 fn written_name(
     alloc: Global,
     environment: &Environment,

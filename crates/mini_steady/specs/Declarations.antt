@@ -171,7 +171,8 @@ is_lexical_shape (shape.VariableDeclaration Let) = true
 is_lexical_shape (shape.VariableDeclaration Const) = true
 is_lexical_shape h = false
 
--- where a declaration is a statement, the head of a `for`, or exported, if the node stands in an export
+-- where a declaration is a statement, the head of a `for`, or exported, if the node stands in an
+-- export
 abbrev pub may_begin : Bool → Position → Bool
 may_begin b (Stmt q) = true
 may_begin b (Expr s) = s.unused
@@ -202,7 +203,8 @@ begin_in b p t i = begin_by (beginning b (shape_of t) p i) t i
 
 -- ---- what is known
 
--- the symbols that are begun, if the code declares them once, and the variables of X that no scope there declares
+-- the symbols that are begun, if the code declares them once, and the variables of X that no scope
+-- there declares
 abbrev pub unlisted : List SymbolId → Symbols → VariableSet → VariableSet
 unlisted ss L X (Declared k) = (L k && not (is_listed_twice k ss)) || (X (Declared k) && not (is_listed k ss))
 unlisted ss L X (Global s) = false

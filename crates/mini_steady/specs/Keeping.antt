@@ -1,4 +1,5 @@
--- What the rows of members write is read alike, declares no name that what stood there didn't and no symbol more often, and is lighter: they keep all that the code of a body has to keep.
+-- What the rows of members write is read alike, declares no name that what stood there didn't and
+-- no symbol more often, and is lighter: they keep all that the code of a body has to keep.
 use Rattle.mini_model.specs.declared.place.Position.{Position}
 use Rattle.mini_model.specs.Tree.{Tree}
 use Rattle.mini_kept.specs.Without.{Assured}

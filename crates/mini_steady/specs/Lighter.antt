@@ -1,4 +1,5 @@
--- A step in the own code of a function, of an arrow function, of a program or of a part of a class or a pattern is a rewrite, so it makes the whole lighter.
+-- A step in the own code of a function, of an arrow function, of a program or of a part of a class
+-- or a pattern is a rewrite, so it makes the whole lighter.
 use Rattle.mini_kept.specs.Without.{BodySets}
 use Rattle.mini_laws.proofs.Lighter.{any_step_lighter}
 use Rattle.mini_rows.specs.OwnArrows.{OwnArrow}

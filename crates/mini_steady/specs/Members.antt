@@ -1,4 +1,5 @@
--- What is done to members of `this` and of steady names, of which V says what is known of the body around: 35, 38 and 45.
+-- What is done to members of `this` and of steady names, of which V says what is known of the body
+-- around: 35, 38 and 45.
 use Rattle.std.specs.Prelude.{◌≡◌, Bool, true, false, ◌&&◌, ◌||◌, List, [], ◌∷◌, Option, Some, None, is_some, unwrap_or, if◌then◌else◌, ◌⊎◌}
 use Rattle.std.proofs.Common.{ap, inl, inr}
 use Rattle.mini_model.specs.declared.name.Name.{Name}
@@ -94,7 +95,8 @@ member_combined t = combined (unwrap_or (computing_operator (part t 1)) Assign) 
 
 -- ---- 45
 
--- it may be evaluated before this: it is `this`, or a name that is left, and that has a value there or is read first
+-- it may be evaluated before this: it is `this`, or a name that is left, and that has a value there
+-- or is read first
 abbrev pub is_ready_before : Assured → Tree → Tree → Bool
 is_ready_before V o t = is_this o || ((is_steady_in V.initial (names_of o) || begins_at o t) && leaves_object o t)
 
@@ -110,7 +112,8 @@ is_ready_member V a t = (is_kept_member V t && is_ready_before V (part t 0) a) |
 abbrev pub assigns_either : Assured → Tree → Tree → Tree → Bool
 assigns_either V a t u = is_plain (assignment_operator t) && (is_plain (assignment_operator u) && (same_tree (part t 0) (part u 0) && is_ready_member V a (part t 0)))
 
--- `a ? this.k = b : this.k = c`, or `a ? x.k = b : x.k = c`, where an assignment stands as a conditional does
+-- `a ? this.k = b : this.k = c`, or `a ? x.k = b : x.k = c`, where an assignment stands as a
+-- conditional does
 abbrev pub chooses_member : Assured → Seat → Tree → Bool
 chooses_member V s t = is_seated s && (is_conditional t && assigns_either V (part t 0) (part t 1) (part t 2))
 

@@ -23,7 +23,8 @@ is_open t = (number_of t == 0) && not (has_body (shape_of t))
 abbrev pub ReadsOpen : OwnRows → Type 0
 ReadsOpen F = (V : Assured) (p : Position) (n w : Tree) → F V p n w → is_open n ≡ true
 
--- what it writes is read alike by a parent, declares no name that what stood there didn't and no symbol more often, and is lighter
+-- what it writes is read alike by a parent, declares no name that what stood there didn't and no
+-- symbol more often, and is lighter
 pub record KeepsCode (R : Position → Tree → Tree → Type 0) : Type 0 where
   pub reads : (p : Position) (n w : Tree) → R p n w → summary n ≡ summary w
   pub declared : (p : Position) (n w : Tree) → R p n w → (x : Name) → Contains (declared w) x → Contains (declared n) x

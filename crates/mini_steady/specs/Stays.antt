@@ -1,4 +1,5 @@
--- What was told of the bodies of one program is told of those of the next, if a second look says that it stays so.
+-- What was told of the bodies of one program is told of those of the next, if a second look says
+-- that it stays so.
 use Rattle.std.specs.Prelude.{ℕ, true}
 use Rattle.mini_model.specs.Tree.{Tree}
 use Rattle.mini_tree.specs.declared.options.CompressOptions.{CompressOptions}

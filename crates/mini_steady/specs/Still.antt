@@ -1,4 +1,5 @@
--- What is written in the place of what has no effect where a body has its `this`: 21 with a `0`, 1 of `void`, 44, 17 and 45.
+-- What is written in the place of what has no effect where a body has its `this`: 21 with a `0`, 1
+-- of `void`, 44, 17 and 45.
 use Rattle.std.specs.Prelude.{Bool, true, false, not, ◌&&◌, ◌||◌, Option, Some, None, if◌then◌else◌}
 use Rattle.mini_model.specs.declared.operator.BinaryOperator.{BinaryOperator}
 use Rattle.mini_model.specs.declared.operator.UnaryOperator.{UnaryOperator}

@@ -1,5 +1,6 @@
--- The tables of a context tell what is known of bodies, of every symbol: of those for which they have room by what they say, and of others nothing is said in
--- the program. And what was told of one program is told of the next that stays so.
+-- The tables of a context tell what is known of bodies, of every symbol: of those for which they
+-- have room by what they say, and of others nothing is said in the program. And what was told of
+-- one program is told of the next that stays so.
 use Rattle.std.specs.Prelude.{ℕ, zero, suc, ◌≡◌, ◌<◌, refl, nat_eq, nat_lt, Bool, true, false, not, ◌&&◌, ◌||◌, List, [], ◌∷◌, length}
 use Rattle.std.specs.List.{list_any}
 use Rattle.std.proofs.Common.{ap, ◌∙◌, sym, subst}
@@ -111,7 +112,8 @@ module _ (k : ℕ) where
 
 -- ---- what is told of each symbol
 
--- of two lists of facts that agree where there is room and else say that nothing is known to the contrary
+-- of two lists of facts that agree where there is room and else say that nothing is known to the
+-- contrary
 by_room : (n s : ℕ) (here there : Bool) → (s < n → here ≡ there) → (nat_lt s n ≡ false → there ≡ true) → (not (nat_lt s n) || here) ≡ there
 by_room n s here there f g = by (nat_lt s n) refl
   where
@@ -184,7 +186,8 @@ module _ (f g : Facts) (q u : Tree) (n : ℕ) (v : Told f n q) (w : Told g n u) 
       begun (Declared s) e = carried_on n s (stays_as_it_is q b s && not (is_among (named s) (lexical_variables false q))) (is_initial f s b) (is_initial g s b) (stays_as_it_is u b s && not (is_among (named s) (lexical_variables false u))) (was.initial s b) (stays.initial s b) (now.initial s b) (λ h. initial_there s u (gone s h) b) e
       begun (Global s) e = absurd (false≢true e)
 
--- what a context told of the program that it knew it tells of the next, if a second look says that it stays so
+-- what a context told of the program that it knew it tells of the next, if a second look says that
+-- it stays so
 pub told_stays : (c d : TraverseCtx) (o : CompressOptions) (q u : Tree) → Knows c o q → Renewed true c.scopes d.scopes u → (b : ℕ) → Within (told_in q b) (told_in u b)
 told_stays c d o q u k r =
     let n = length k.told.reads in

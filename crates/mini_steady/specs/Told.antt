@@ -30,9 +30,10 @@ abbrev pub of_symbols : (ℕ → Bool) → VariableSet
 of_symbols p (Declared s) = p s
 of_symbols p (Global s) = false
 
--- Of the body with a number: no answer changes what nothing writes and what isn't foreign to it; no event shows what it doesn't share; of the former
--- what is nowhere lexical is initialised as the body starts (ECMA-262, "FunctionDeclarationInstantiation", "GlobalDeclarationInstantiation"); and it
--- has a `this` if no body of that number asks the world for it
+-- Of the body with a number: no answer changes what nothing writes and what isn't foreign to it; no
+-- event shows what it doesn't share; of the former what is nowhere lexical is initialised as the
+-- body starts (ECMA-262, "FunctionDeclarationInstantiation", "GlobalDeclarationInstantiation"); and
+-- it has a `this` if no body of that number asks the world for it
 abbrev pub told_in : Tree → BodySets
 told_in t b = record {
   steady = of_symbols (stays_as_it_is t b);

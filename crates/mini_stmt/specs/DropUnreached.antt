@@ -1,4 +1,5 @@
--- 77: what never runs after a jump goes, and its `var` names stay: `return a; if (b) { var x = 1; }` becomes `return a; var x;`.
+-- 77: what never runs after a jump goes, and its `var` names stay:
+-- `return a; if (b) { var x = 1; }` becomes `return a; var x;`.
 use Rattle.std.specs.Prelude.{◌≡◌, ◌<◌, nat_lt, ℕ, suc, Bool, true, false, not, ◌&&◌, ◌||◌, Option, Some, None, if◌then◌else◌}
 use Rattle.mini_model.specs.declared.place.Position.TheVariants.{Stmt, StatementList}
 use Rattle.mini_model.specs.declared.seat.StmtSeat.TheVariants as stmt_seat
@@ -13,7 +14,8 @@ use Rattle.mini_stmt.specs.declared.rewrites.drop_unreached.Going.{Going}
 use Rattle.mini_stmt.specs.declared.rewrites.drop_unreached.Going.TheVariants.{Statements, Lexicals}
 use Rattle.mini_stmt.specs.MinimizeStatements.{Changes}
 
--- a statement that declares nothing else in its list, and takes along each name in it that can't be written
+-- a statement that declares nothing else in its list, and takes along each name in it that can't be
+-- written
 abbrev pub is_loose : Tree → Bool
 is_loose t = is_unscoped t && encloses false t
 
@@ -77,7 +79,8 @@ abbrev pub EndsAt : Trees → Option ℕ → Type 0
 EndsAt ts (Some i) = (i < count ts) × (is_terminated (child_or_absent ts i) ≡ true) × (after_jump ts ≡ rest_children (suc i) ts)
 EndsAt ts None = after_jump ts ≡ none
 
--- up to the first statement that ends in a jump all of them, and of what comes after it what is left
+-- up to the first statement that ends in a jump all of them, and of what comes after it what is
+-- left
 abbrev pub left_behind_all : Going → Trees → Trees
 left_behind_all g none = none
 left_behind_all g (t ▸ ts) = if is_terminated t then t ▸ all_left g ts else t ▸ left_behind_all g ts

@@ -1,5 +1,5 @@
--- 70: `var a, c; a = b;` becomes `var a = b, c;`, and so where the assignment begins a sequence or the head of a `for`. 69:
--- `var a; for (a of b) c` becomes `for (var a of b) c`.
+-- 70: `var a, c; a = b;` becomes `var a = b, c;`, and so where the assignment begins a sequence or
+-- the head of a `for`. 69: `var a; for (a of b) c` becomes `for (var a of b) c`.
 use Rattle.std.specs.Prelude.{◌≡◌, ◌<◌, ◌+◌, ℕ, suc, Bool, true, false, not, ◌&&◌, ◌||◌, List, [], ◌∷◌, Option, Some, None, if◌then◌else◌}
 use Rattle.mini_model.specs.declared.kind.VariableDeclarationKind.{VariableDeclarationKind}
 use Rattle.mini_model.specs.declared.kind.VariableDeclarationKind.TheVariants.{Var}

@@ -1,4 +1,5 @@
--- 74: `if (a) s; if (b) s;` becomes `if (a || b) s`, where s ends in a jump. 77: `return a; b();` becomes `return a;`.
+-- 74: `if (a) s; if (b) s;` becomes `if (a || b) s`, where s ends in a jump. 77: `return a; b();`
+-- becomes `return a;`.
 use Rattle.std.specs.Prelude.{◌≡◌, Bool, true, false, not, ◌&&◌, ◌||◌, if◌then◌else◌}
 use Rattle.mini_model.specs.declared.operator.LogicalOperator.TheVariants.{Or}
 use Rattle.mini_model.specs.declared.place.Position.{Position}

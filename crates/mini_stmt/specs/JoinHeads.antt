@@ -1,4 +1,5 @@
--- 67: `a; return b;` becomes `return a, b;`, and so with the heads of `throw`, `if`, `switch`, `for` and `for..in`.
+-- 67: `a; return b;` becomes `return a, b;`, and so with the heads of `throw`, `if`, `switch`,
+-- `for` and `for..in`.
 use Rattle.std.specs.Prelude.{Bool, true, false, ◌&&◌, ◌||◌}
 use Rattle.mini_model.specs.declared.shape.Shape.{Shape}
 use Rattle.mini_model.specs.declared.shape.Shape.TheVariants as shape

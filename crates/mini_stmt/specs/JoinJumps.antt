@@ -1,5 +1,5 @@
--- 73: `if (a) return b; return c;` becomes `return a ? b : c;`, and `throw` likewise; `if (a) return; return;` becomes
--- `a; return;`.
+-- 73: `if (a) return b; return c;` becomes `return a ? b : c;`, and `throw` likewise;
+-- `if (a) return; return;` becomes `a; return;`.
 use Rattle.std.specs.Prelude.{Bool, not, ◌&&◌, ◌||◌}
 use Rattle.mini_model.specs.Tree.{Tree, is_absent, conditional, expression_statement}
 use Rattle.mini_node.specs.Children.{part}

@@ -1,4 +1,5 @@
--- 70: `let a; a = 1;` becomes `let a = 1;`, and `let a; return a = 1, b;` becomes `let a = 1; return b;`, where a can be written.
+-- 70: `let a; a = 1;` becomes `let a = 1;`, and `let a; return a = 1, b;` becomes
+-- `let a = 1; return b;`, where a can be written.
 use Rattle.std.specs.Prelude.{◌≡◌, ℤ, zero, suc, pos, Bool, true, false, not, ◌&&◌, List, [], ◌∷◌, Option, Some, None}
 use Rattle.mini_model.specs.declared.kind.VariableDeclarationKind.TheVariants.{Let}
 use Rattle.mini_model.specs.declared.name.Name.{Name}

@@ -1,4 +1,5 @@
--- 68: `var a; var b;` becomes `var a, b;`, and so with `let` and `const`; `var a; for (var b;;) c` becomes `for (var a, b;;) c`.
+-- 68: `var a; var b;` becomes `var a, b;`, and so with `let` and `const`; `var a; for (var b;;) c`
+-- becomes `for (var a, b;;) c`.
 use Rattle.std.specs.Prelude.{Bool, true, false, ◌&&◌, ◌||◌, Option, Some, None, if◌then◌else◌}
 use Rattle.mini_model.specs.declared.kind.VariableDeclarationKind.{VariableDeclarationKind}
 use Rattle.mini_model.specs.declared.kind.VariableDeclarationKind.TheVariants.{Var, Let, Const}

@@ -1,4 +1,5 @@
--- A step of the rule of lists makes the whole lighter, and so does one of guards in the bodies of loops, or of a `let` and an assignment.
+-- A step of the rule of lists makes the whole lighter, and so does one of guards in the bodies of
+-- loops, or of a `let` and an assignment.
 use Rattle.mini_model.specs.Tree.{Tree}
 use Rattle.mini_laws.proofs.Lighter.{any_step_lighter}
 use Rattle.mini_laws.specs.Writable.{writable_in}

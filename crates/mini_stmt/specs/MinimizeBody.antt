@@ -1,5 +1,6 @@
--- `minimize_body`: the list of a function's body, with the rows at its end: 78, the last `return;` goes, and 75,
--- `if (a) return; b; c;` becomes `if (!a) { b; c; }`, and `if (a) { b; return; } c;` becomes `if (a) { b; } else { c; }`.
+-- `minimize_body`: the list of a function's body, with the rows at its end: 78, the last `return;`
+-- goes, and 75, `if (a) return; b; c;` becomes `if (!a) { b; c; }`, and `if (a) { b; return; } c;`
+-- becomes `if (a) { b; } else { c; }`.
 use Rattle.std.specs.Prelude.{◌≡◌, ◌⊎◌, ◌<◌, ℕ, suc, Bool, true, false, not, ◌&&◌, ◌||◌, Option, Some, None}
 use Rattle.mini_model.specs.declared.place.Position.{Position}
 use Rattle.mini_model.specs.declared.place.Position.TheVariants.{BodyList}
@@ -108,7 +109,7 @@ EndsBody o t u changed = rule.Applied (ListContracts o) (λ p. EndRests o) BodyL
 abbrev pub MinimizesBody : Switches → Tree → Tree → Bool → Type 0
 MinimizesBody o t u changed = rule.Applied (ListContracts o) (Rests o) BodyList t u changed
 
--- no row at all reads a list that is quiet, and in which no two neighbours are guards to join and no assignment goes into a `var`
--- before it; nor one of a function's body, if its end isn't read
+-- no row at all reads a list that is quiet, and in which no two neighbours are guards to join and
+-- no assignment goes into a `var` before it; nor one of a function's body, if its end isn't read
 abbrev pub QuietRests : Type 0
 QuietRests = (o : Switches) (t : Trees) → is_quiet o t ≡ true → is_apart o t ≡ true → are_entered o t ≡ true → (p : Position) → (p ≡ BodyList → is_ended o t ≡ true) → Rests o p (listed t)

@@ -1,6 +1,7 @@
--- 75 of loops, `turn_loop_guard`: `while (a) { if (b) continue; c(); }` becomes `while (a) { if (!b) { c(); } }`, and
--- `while (a) { if (b) { c(); continue; } d(); }` becomes `while (a) { if (b) { c(); } else { d(); } }`; and `while (a) if (b) { c(); continue; }`
--- becomes `while (a) if (b) { c(); }`.
+-- 75 of loops, `turn_loop_guard`: `while (a) { if (b) continue; c(); }` becomes
+-- `while (a) { if (!b) { c(); } }`, and `while (a) { if (b) { c(); continue; } d(); }` becomes
+-- `while (a) { if (b) { c(); } else { d(); } }`; and `while (a) if (b) { c(); continue; }` becomes
+-- `while (a) if (b) { c(); }`.
 use Rattle.std.specs.Prelude.{◌≡◌, ℕ, Bool, true, false, Option, Some, None, if◌then◌else◌}
 use Rattle.mini_model.specs.declared.place.Position.{Position}
 use Rattle.mini_model.specs.declared.shape.Shape.{Shape}

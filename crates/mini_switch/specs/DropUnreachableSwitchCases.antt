@@ -1,4 +1,5 @@
--- 81, `drop_unreachable_switch_cases`: `switch (2) { case 1: a(); case 2: b(); case 3: c(); }` becomes `switch (2) { case 2: b(); c(); }`.
+-- 81, `drop_unreachable_switch_cases`: `switch (2) { case 1: a(); case 2: b(); case 3: c(); }`
+-- becomes `switch (2) { case 2: b(); c(); }`.
 use Rattle.std.specs.Prelude.{ℕ, zero, ◌-◌, nat_lt, Bool, true, false, ◌&&◌, ◌||◌, Option, Some, None, if◌then◌else◌}
 use Rattle.mini_model.specs.declared.shape.Shape.{Shape}
 use Rattle.mini_model.specs.declared.shape.Shape.TheVariants as shape
@@ -124,7 +125,8 @@ place t = if is_read t then place_over (children (part t 1)) (asked (part t 0)) 
 
 -- ---- what is written
 
--- the case that is taken, behind the names of those before it, or the first one with the names of all
+-- the case that is taken, behind the names of those before it, or the first one with the names of
+-- all
 abbrev pub left_by : Choices → Choices → Choices → Tree
 left_by all before (choice test statements cs) = switch_case test (append (left_cases before) (running statements cs))
 left_by (choice test statements cs) before no_choices = switch_case test (left_cases (choice test statements cs))

@@ -1,5 +1,6 @@
--- 80, `minimize_switch_statement`: `switch (a) { case 1: b(); break; }` becomes `if (a === 1) { b(); }`,
--- `switch (a) { default: b(); break; }` becomes `{ a; b(); }`, and `switch (a) { default: let x = b(); c(x); }` `{ a; { let x = b(); c(x); } }`.
+-- 80, `minimize_switch_statement`: `switch (a) { case 1: b(); break; }` becomes
+-- `if (a === 1) { b(); }`, `switch (a) { default: b(); break; }` becomes `{ a; b(); }`, and
+-- `switch (a) { default: let x = b(); c(x); }` `{ a; { let x = b(); c(x); } }`.
 use Rattle.std.specs.Prelude.{ℕ, ◌-◌, ◌<◌, Bool, true, false, not, ◌&&◌, ◌||◌, Option, Some, None, if◌then◌else◌}
 use Rattle.mini_model.specs.declared.operator.BinaryOperator.TheVariants.{StrictEquality}
 use Rattle.mini_model.specs.declared.place.Position.{Position}

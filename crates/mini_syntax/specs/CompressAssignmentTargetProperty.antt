@@ -1,5 +1,5 @@
--- 53, `compress_assignment_target_property`: a property that is assigned to whose key is the name assigned to, with a default or without,
--- becomes the shorthand.
+-- 53, `compress_assignment_target_property`: a property that is assigned to whose key is the name
+-- assigned to, with a default or without, becomes the shorthand.
 use Rattle.std.specs.Prelude.{ℕ, Bool, true, false, ◌&&◌, List, [], ◌∷◌, Option, Some, if◌then◌else◌}
 use Rattle.mini_model.specs.declared.name.Name.{Name}
 use Rattle.mini_model.specs.declared.shape.Shape.{Shape}

@@ -1,4 +1,5 @@
--- 33, `convert_to_dotted_properties`: `o["x"]` becomes `o.x`, `o["1"]` becomes `o[1]`, also where it is assigned to or updated.
+-- 33, `convert_to_dotted_properties`: `o["x"]` becomes `o.x`, `o["1"]` becomes `o[1]`, also where
+-- it is assigned to or updated.
 use Rattle.std.specs.Prelude.{Bool, false, ◌&&◌, List, [], ℕ, Option, Some, None, ℤ, if◌then◌else◌}
 use Rattle.mini_model.specs.Texts.{is_identifier_name}
 use Rattle.mini_model.specs.Numerals.{safe_number}

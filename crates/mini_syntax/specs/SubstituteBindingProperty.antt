@@ -1,5 +1,6 @@
--- 52 of brackets in a pattern that is declared, `substitute_binding_property`: a text or a whole number in brackets loses them, one key
--- of a pattern after another. It is read at what declares the pattern, a declarator or a `catch`.
+-- 52 of brackets in a pattern that is declared, `substitute_binding_property`: a text or a whole
+-- number in brackets loses them, one key of a pattern after another. It is read at what declares
+-- the pattern, a declarator or a `catch`.
 use Rattle.std.specs.Prelude.{Bool, true, false, not, ◌&&◌, ◌||◌, nat_eq, [], if◌then◌else◌}
 use Rattle.mini_model.specs.declared.shape.Shape.{Shape}
 use Rattle.mini_model.specs.declared.shape.Shape.TheVariants as shape

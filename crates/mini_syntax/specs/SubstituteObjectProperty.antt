@@ -1,5 +1,5 @@
--- 51 and 52 of object literals, `substitute_object_property`: of each property a key in brackets loses them, a text becomes a
--- name or a number, and `x: x` becomes `x`.
+-- 51 and 52 of object literals, `substitute_object_property`: of each property a key in brackets
+-- loses them, a text becomes a name or a number, and `x: x` becomes `x`.
 use Rattle.std.specs.Prelude.{◌≡◌, ℕ, Bool, true, false, not, ◌&&◌, ◌||◌, nat_le, List, [], ◌∷◌, Option, Some, None, is_some, if◌then◌else◌, ℤ, pos}
 use Rattle.mini_model.specs.Texts.{is_identifier_name}
 use Rattle.mini_model.specs.Numerals.{max_safe_integer}

@@ -1,6 +1,6 @@
--- 52 of patterns and classes, `substitute_property_key`: of a property of a pattern, a method or a field a text becomes the name or
--- the number that it writes; and a text or a whole number in brackets loses them, but of a parameter. With 53, of a key that is the name
--- assigned to.
+-- 52 of patterns and classes, `substitute_property_key`: of a property of a pattern, a method or a
+-- field a text becomes the name or the number that it writes; and a text or a whole number in
+-- brackets loses them, but of a parameter. With 53, of a key that is the name assigned to.
 use Rattle.std.specs.Prelude.{◌≡◌, Bool, true, false, not, ◌&&◌, ◌||◌, [], Option, Some, None, is_some, if◌then◌else◌, ℤ}
 use Rattle.mini_model.specs.declared.place.Position.{Position}
 use Rattle.mini_model.specs.declared.place.Position.TheVariants.{Elsewhere}

@@ -1,4 +1,5 @@
--- 60 of `return`, `substitute_return_statement`: `return undefined;`, `return void 0;` and `return void a;` become `return;`.
+-- 60 of `return`, `substitute_return_statement`: `return undefined;`, `return void 0;` and
+-- `return void a;` become `return;`.
 use Rattle.std.specs.Prelude.{◌≡◌, ◌<◌, Bool, ◌&&◌, ◌||◌, Option, Some, None, if◌then◌else◌}
 use Rattle.mini_model.specs.declared.place.Position.{Position}
 use Rattle.mini_model.specs.declared.place.Position.TheVariants.{Stmt}

@@ -7,7 +7,8 @@ use Rattle.mini_node.specs.Children.{part}
 use Rattle.mini_rows.specs.Spellings.{text}
 use Rattle.mini_syntax.specs.Forms.{is_text_template}
 
--- the text that is written for the one piece of a template, where it is no longer than what is written there
+-- the text that is written for the one piece of a template, where it is no longer than what is
+-- written there
 abbrev pub piece_text : Shape → Option Tree
 piece_text (shape.TemplateElement is_tail raw (Some content)) = if nat_le (length content) (length raw) then Some (text content) else None
 piece_text _ = None

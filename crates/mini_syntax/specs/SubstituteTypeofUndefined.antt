@@ -1,5 +1,6 @@
--- 55, `substitute_typeof_undefined`: `typeof x == "undefined"` becomes `typeof x > "u"`, of a name that no scope declares, and of an
--- inequality `typeof x < "u"`; of another operand it becomes `x === void 0`.
+-- 55, `substitute_typeof_undefined`: `typeof x == "undefined"` becomes `typeof x > "u"`, of a name
+-- that no scope declares, and of an inequality `typeof x < "u"`; of another operand it becomes
+-- `x === void 0`.
 use Rattle.std.specs.Prelude.{Bool, true, false, ◌&&◌, List, [], ◌∷◌, Option, Some, None, is_none, codes, if◌then◌else◌}
 use Rattle.mini_model.specs.declared.name.Name.{Name}
 use Rattle.mini_model.specs.declared.operator.BinaryOperator.{BinaryOperator}

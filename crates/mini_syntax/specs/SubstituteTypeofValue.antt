@@ -1,5 +1,5 @@
--- 55, `substitute_typeof_value`: `typeof a == "undefined"` becomes `a === void 0`, and of an inequality `a !== void 0`, of what `typeof`
--- reads by its value.
+-- 55, `substitute_typeof_value`: `typeof a == "undefined"` becomes `a === void 0`, and of an
+-- inequality `a !== void 0`, of what `typeof` reads by its value.
 use Rattle.std.specs.Prelude.{ℕ, Bool, true, false, ◌&&◌, List, Option, Some, None, codes, if◌then◌else◌}
 use Rattle.mini_model.specs.declared.operator.BinaryOperator.{BinaryOperator}
 use Rattle.mini_model.specs.declared.operator.UnaryOperator.{UnaryOperator}

@@ -96,13 +96,14 @@ abbrev pub or_else : Option Value → Option Value → Option Value
 or_else (Some v) c = Some v
 or_else None c = c
 
--- the value of a literal, or of operators over literals, of which at most so many lie one within another
+-- the value of a literal, or of operators over literals, of which at most so many lie one within
+-- another
 abbrev pub value_within : Bool → ℕ → Tree → Option Value
 value_within is_free zero t = leaf_value t
 value_within is_free (suc k) t = or_else (calculated_over is_free (value_within is_free k) t) (or_else (chosen_over is_free (value_within is_free k) t) (leaf_value t))
 
--- No further is looked into an operand. What is left of a constant weighs no more than its literal, so of a number there are hardly
--- as many.
+-- No further is looked into an operand. What is left of a constant weighs no more than its literal,
+-- so of a number there are hardly as many.
 abbrev pub operand_depth : ℕ
 operand_depth = 8
 
@@ -114,7 +115,8 @@ operand_value t = value_within false operand_depth t
 abbrev pub free_value : Tree → Option Value
 free_value t = value_within true operand_depth t
 
--- the constant of an effect-free unary or binary expression, as far as it is calculated: `(1 << 20) - 1` is 1048575
+-- the constant of an effect-free unary or binary expression, as far as it is calculated:
+-- `(1 << 20) - 1` is 1048575
 abbrev pub calculated : Tree → Option Value
 calculated t = choose (is_effect_free t) (calculated_over true free_value t) None
 

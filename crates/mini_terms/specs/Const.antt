@@ -1,4 +1,5 @@
--- Const: the primitive value of an expression, where it is known from its text. It says nothing of effects.
+-- Const: the primitive value of an expression, where it is known from its text. It says nothing of
+-- effects.
 use Rattle.std.specs.Prelude.{◌≡◌, ℕ, ℤ, zero, suc, pos, Bool, not, List, [], ◌∷◌, length, codes, Option, Some, None}
 use Rattle.mini_model.specs.declared.operator.BinaryOperator.{BinaryOperator}
 use Rattle.mini_model.specs.declared.operator.BinaryOperator.TheVariants as binary
@@ -112,7 +113,8 @@ nth_texts [] i = None
 nth_texts (c ∷ cs) zero = c
 nth_texts (c ∷ cs) (suc i) = nth_texts cs i
 
--- by the constants of the children, that of a list being that of its last item, and by the texts of their items
+-- by the constants of the children, that of a list being that of its last item, and by the texts of
+-- their items
 abbrev pub const_by : Shape → List NameKind → List Facts → List (Option Value) → List (Option (List (List ℕ))) → Option Value
 const_by shape.Listed xs fs cs ss = last_const cs
 const_by shape.InnerExpression xs fs cs ss = nth_const cs 0

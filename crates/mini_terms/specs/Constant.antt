@@ -1,5 +1,6 @@
--- The constant of an expression as it is calculated, whatever the expression does besides: its Const, of a number only where that is safe, and of
--- a template whose lists are those of pieces and of parts.
+-- The constant of an expression as it is calculated, whatever the expression does besides: its
+-- Const, of a number only where that is safe, and of a template whose lists are those of pieces and
+-- of parts.
 use Rattle.std.specs.Prelude.{◌≡◌, ℕ, zero, suc, pos, nat_le, Bool, true, ◌&&◌, List, [], ◌∷◌, length, codes, Option, Some, None, if◌then◌else◌}
 use Rattle.mini_model.specs.Numerals.{max_safe_integer}
 use Rattle.mini_model.specs.declared.shape.Shape.{Shape}

@@ -71,8 +71,9 @@ ef_operands binary.In j k = false
 ef_operands binary.Instanceof j k = false
 ef_operands o j k = is_primitive j && is_primitive k
 
--- by the Kinds of the children, which are identifiers, which are lists of primitive Kind, and which are effect-free.
--- `asked` says that `this` is asked of the world: inside a constructor of a class with `superClass`, arrows included
+-- by the Kinds of the children, which are identifiers, which are lists of primitive Kind, and which
+-- are effect-free. `asked` says that `this` is asked of the world: inside a constructor of a class
+-- with `superClass`, arrows included
 abbrev pub ef_by : Bool → Shape → List Name → List Kind → List Bool → List Bool → List Bool → Bool
 ef_by asked shape.Listed xs ks is ps bs = all_true bs
 ef_by asked shape.Identifier xs ks is ps bs = ef_names xs

@@ -1,5 +1,5 @@
--- The truth of an expression for which no text has to be made: what is evident of its constant is the constant itself, but of a text only
--- whether it has units.
+-- The truth of an expression for which no text has to be made: what is evident of its constant is
+-- the constant itself, but of a text only whether it has units.
 use Rattle.std.specs.Prelude.{ℕ, ℤ, zero, suc, pos, nat_eq, Bool, true, false, not, ◌&&◌, ◌||◌, List, [], ◌∷◌, Option, Some, None, if◌then◌else◌}
 use Rattle.mini_model.specs.declared.operator.BinaryOperator.{BinaryOperator}
 use Rattle.mini_model.specs.declared.operator.BinaryOperator.TheVariants as binary
@@ -45,7 +45,8 @@ abbrev pub has_units : Evidence → Bool
 has_units (evident.Text b n) = b
 has_units x = true
 
--- its number, where that is whole and evident (ECMA-262, "ToNumber"): of a text that is written out it is
+-- its number, where that is whole and evident (ECMA-262, "ToNumber"): of a text that is written out
+-- it is
 abbrev pub number_of : Evidence → Option ℤ
 number_of evident.Undefined = None
 number_of evident.Null = Some (pos 0)
@@ -177,7 +178,8 @@ last_evidence [] = None
 last_evidence (c ∷ []) = c
 last_evidence (c ∷ (d ∷ cs)) = last_evidence (d ∷ cs)
 
--- by what is evident of the children, that of a list being that of its last item, and of their items
+-- by what is evident of the children, that of a list being that of its last item, and of their
+-- items
 abbrev pub evidence_by : Shape → List NameKind → Trees → List (Option Evidence) → List (List (Option Evidence)) → Option Evidence
 evidence_by shape.Listed xs ts cs css = last_evidence cs
 evidence_by shape.Identifier xs ts cs css = undefined_if (is_undefined_name (first_kind xs))

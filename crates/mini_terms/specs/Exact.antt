@@ -40,13 +40,15 @@ int32_by (shape.UnaryExpression BitwiseNot) ks = is_number (nth_kind ks 0)
 int32_by (shape.BinaryExpression o) ks = makes_32 o && (is_number (nth_kind ks 0) || is_number (nth_kind ks 1))
 int32_by h ks = false
 
--- `~`, a bitwise or a shift operator with an operand that is a number, and whole literals in that range
+-- `~`, a bitwise or a shift operator with an operand that is a number, and whole literals in that
+-- range
 abbrev pub is_int32_or_uint32 : Tree → Bool
 is_int32_or_uint32 (node h xs n ts) = int32_by h (each_kind ts)
 
 -- ---- undefined, as it is written
 
--- `void` of these children, where it is `void 0`, and a template of these, where it has no expressions
+-- `void` of these children, where it is `void 0`, and a template of these, where it has no
+-- expressions
 abbrev pub is_over_zero : Trees → Bool
 is_over_zero (a ▸ none) = is_zero a
 is_over_zero ts = false
@@ -84,9 +86,10 @@ abbrev pub is_name_by : Bool → Shape → Bool
 is_name_by b shape.Identifier = b
 is_name_by b h = false
 
--- a call of a member has its object as `this`, and a call of `eval` is a direct one; `delete` deletes a member, and of a name it is false, or no
--- program at all in strict code, where of a value it is true; `typeof` of a name that no scope declares raises nothing (ECMA-262, "EvaluateCall",
--- "The delete Operator", "The typeof Operator")
+-- a call of a member has its object as `this`, and a call of `eval` is a direct one; `delete`
+-- deletes a member, and of a name it is false, or no program at all in strict code, where of a
+-- value it is true; `typeof` of a name that no scope declares raises nothing (ECMA-262,
+-- "EvaluateCall", "The delete Operator", "The typeof Operator")
 abbrev pub asks_guard : Guard → Shape → List Name → Bool
 asks_guard guard.None h xs = false
 asks_guard guard.Callee h xs = is_access h || is_name_by (is_eval xs) h

@@ -223,7 +223,8 @@ evident_void = refl
 evident_undefined : evident_truth (global (codes "undefined")) ≡ Some false
 evident_undefined = refl
 
--- `!1 || "a"`, `0 && x`, which is no Const either, `1 << 30` and `1 - 1`, which are calculated, and `typeof 1`
+-- `!1 || "a"`, `0 && x`, which is no Const either, `1 << 30` and `1 - 1`, which are calculated, and
+-- `typeof 1`
 evident_or : evident_truth (logical Or (negation (number 1)) (text (codes "a"))) ≡ Some true
 evident_or = refl
 

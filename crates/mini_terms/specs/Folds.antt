@@ -44,8 +44,8 @@ stops And a = is_false (evident_truth a)
 stops Or a = is_true (evident_truth a)
 stops Coalesce a = is_known (kind a) && not (is_nullish_kind (kind a))
 
--- `a && b` means b, where a is effect-free and known to be true; so do `a || b` with a known to be false, and `a ?? b` with a
--- known to be undefined or null
+-- `a && b` means b, where a is effect-free and known to be true; so do `a || b` with a known to be
+-- false, and `a ?? b` with a known to be undefined or null
 abbrev pub GoesOnSame : Type 0
 GoesOnSame = (o : LogicalOperator) (a b : Tree) → goes_on o a ≡ true → is_effect_free a ≡ true → SameWanted (logical o a b) b
 

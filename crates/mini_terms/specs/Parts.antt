@@ -18,8 +18,9 @@ is_number _ = false
 abbrev pub takes_numbers : Seat → Bool
 takes_numbers s = s.boolean || not s.minus
 
--- it may stand in the seat of its node: a parent reads no more of it than that it is there, no reference is asked there or it is
--- none, and it is no number where a minus before it would be one with it
+-- it may stand in the seat of its node: a parent reads no more of it than that it is there, no
+-- reference is asked there or it is none, and it is no number where a minus before it would be one
+-- with it
 abbrev pub suits : Seat → Tree → Bool
 suits s t = is_plain_part t && (is_read_by_value s t && (takes_numbers s || not (is_number t)))
 

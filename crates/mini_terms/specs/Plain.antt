@@ -9,7 +9,8 @@ use Rattle.mini_laws.specs.Value.{Value, Undefined, Null, Boolean, Number, Strin
 abbrev pub void_zero : Tree
 void_zero = unary Void (leaf (shape.NumericLiteral (pos 0)))
 
--- the literal of a primitive value, of which a negative number is one literal; none of a symbol or an object
+-- the literal of a primitive value, of which a negative number is one literal; none of a symbol or
+-- an object
 abbrev pub lit : Value → Option Tree
 lit Undefined = Some void_zero
 lit Null = Some (leaf shape.NullLiteral)

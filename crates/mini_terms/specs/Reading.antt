@@ -18,7 +18,8 @@ use Rattle.mini_laws.specs.Same.{Same}
 use Rattle.mini_laws.specs.Rows.{SameAt}
 use Rattle.mini_laws.specs.Truth.{told}
 
--- no name, member or chain, which a callee, `delete` and `typeof` read by reference, and no item of a list alone
+-- no name, member or chain, which a callee, `delete` and `typeof` read by reference, and no item of
+-- a list alone
 abbrev pub stands_by : Shape → Bool
 stands_by (shape.NumericLiteral n) = true
 stands_by (shape.StringLiteral s) = true
@@ -92,7 +93,8 @@ abbrev pub is_declared : List Name → Bool
 is_declared (x ∷ []) = not (is_none x.symbol)
 is_declared _ = false
 
--- an expression that `typeof` reads by its value: of names those that a scope declares, since another may be absent
+-- an expression that `typeof` reads by its value: of names those that a scope declares, since
+-- another may be absent
 abbrev pub is_typed_by : Shape → List Name → Bool
 is_typed_by shape.Identifier xs = is_declared xs
 is_typed_by h xs = is_item_by h
@@ -105,7 +107,8 @@ TypedByValue = (n : Tree) → is_typed_by_value n ≡ true → (e : Environment)
 
 -- Expressions of which a parent reads no more than that they are there
 
--- by whether the first child is one: a link of a chain is read through, and so is the operand of a `!`
+-- by whether the first child is one: a link of a chain is read through, and so is the operand of a
+-- `!`
 abbrev pub is_plain_part_by : Shape → Bool → Bool
 is_plain_part_by (shape.CallExpression is_optional) b = not is_optional && b
 is_plain_part_by (shape.StaticMemberExpression is_optional) b = not is_optional && b

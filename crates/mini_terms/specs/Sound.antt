@@ -22,7 +22,8 @@ Gives P out = Unit {0}
 abbrev pub KindSound : Type 0
 KindSound = (n : Tree) (e : Environment) (s : State) → Gives (OfKind (kind n)) (means e n (As Val) tt s)
 
--- replies and leaves the state as it was, with the events, the answers, the turns and all variables; or leaves the model
+-- replies and leaves the state as it was, with the events, the answers, the turns and all
+-- variables; or leaves the model
 unfoldable pub Quiet : {A : Type 0} → State → Completion A → Type 0
 Quiet s (ok a t) = t ≡ s
 Quiet s (stop x t) = ⊥

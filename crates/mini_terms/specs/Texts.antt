@@ -1,5 +1,5 @@
--- Texts and other values beside one another: their order and their equality, and the number of a text, which is read as long as it is
--- safe.
+-- Texts and other values beside one another: their order and their equality, and the number of a
+-- text, which is read as long as it is safe.
 use Rattle.std.specs.Prelude.{ℕ, ℤ, ◌+◌, ◌*◌, ◌<◌, nat_lt, Bool, true, false, not, List, [], ◌∷◌, Option, Some, None}
 use Rattle.mini_model.specs.declared.operator.BinaryOperator.{BinaryOperator}
 use Rattle.mini_model.specs.declared.operator.BinaryOperator.TheVariants as binary

@@ -1,5 +1,5 @@
--- What a context knows: options, and a program at which it has looked. What it is to know them is a relation, which is handed
--- in.
+-- What a context knows: options, and a program at which it has looked. What it is to know them is a
+-- relation, which is handed in.
 use Rattle.mini_model.specs.Tree.{Tree}
 use Rattle.mini_tree.specs.declared.options.CompressOptions.{CompressOptions}
 

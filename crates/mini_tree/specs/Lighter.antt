@@ -1,4 +1,5 @@
--- A step of one rule or the other is a step of one of them, so it makes the whole lighter where both do.
+-- A step of one rule or the other is a step of one of them, so it makes the whole lighter where
+-- both do.
 use Rattle.std.specs.Prelude.{◌⊎◌, ℕ, ◌<◌}
 use Rattle.std.proofs.Common.{inl, inr}
 use Rattle.mini_model.specs.Tree.{Tree, Trees}

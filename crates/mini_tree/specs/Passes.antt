@@ -1,5 +1,5 @@
--- What passes of a rule over a program come to. What a pass may make is over the program as that pass began: G says what,
--- and D where nothing is left.
+-- What passes of a rule over a program come to. What a pass may make is over the program as that
+-- pass began: G says what, and D where nothing is left.
 use Rattle.std.specs.Prelude.{◌≡◌, ℕ, zero, suc, ◌+◌, ◌≤◌, max, Bool, true, false}
 use Rattle.mini_model.specs.Tree.{Tree}
 use Rattle.mini_model.specs.declared.place.Position.{Position}
@@ -12,8 +12,8 @@ pub data PassesReach (G : Tree → Position → Tree → Tree → Type 0) : ℕ 
   no_pass : (t : Tree) → PassesReach G zero t t
   one_more : (n : ℕ) (t u v : Tree) → PassesReach G n t u → Reaches (G u) Elsewhere u v → PassesReach G (suc n) t v
 
--- some passes over a program, of at most so many: each but a last one that finds nothing makes it lighter, so where the
--- first is the last the tree is the same
+-- some passes over a program, of at most so many: each but a last one that finds nothing makes it
+-- lighter, so where the first is the last the tree is the same
 pub record MakesPasses (G : Tree → Position → Tree → Tree → Type 0) (D : Tree → Position → Tree → Type 0) (t u : Tree) (bound passes : ℕ) (settled : Bool) : Type 0 where
   pub reached : PassesReach G passes t u
   pub some_pass : 1 ≤ passes

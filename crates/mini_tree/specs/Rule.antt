@@ -1,5 +1,6 @@
--- What a rule does at a node in its place: what it may make of a tree there is a relation, that it has nothing to do there
--- a predicate. Both are of the options, and of the program at which the context looked last.
+-- What a rule does at a node in its place: what it may make of a tree there is a relation, that it
+-- has nothing to do there a predicate. Both are of the options, and of the program at which the
+-- context looked last.
 use Rattle.std.specs.Prelude.{◌≡◌, ◌<◌, ◌⊎◌, Bool, true, false}
 use Rattle.mini_model.specs.Tree.{Tree}
 use Rattle.mini_model.specs.declared.place.Position.{Position}
@@ -13,7 +14,8 @@ pub record Moves (R : Position → Tree → Tree → Type 0) (p : Position) (t u
   pub step : Step R p t next
   pub others : Reaches R p next u
 
--- one call of a rule: steps at the node or below it; or none, and then it has nothing to do at the node
+-- one call of a rule: steps at the node or below it; or none, and then it has nothing to do at the
+-- node
 abbrev pub Applied : (Position → Tree → Tree → Type 0) → (Position → Tree → Type 0) → Position → Tree → Tree → Bool → Type 0
 Applied R D p t u true = Moves R p t u
 Applied R D p t u false = (u ≡ t) × D p t

@@ -27,7 +27,8 @@ is_class h = false
 abbrev pub may_go_alone : Tree → Bool
 may_go_alone init = is_absent_part init || declares_nothing init
 
--- the declarator at the place in the list of a declaration has a name that nothing else mentions, which may go
+-- the declarator at the place in the list of a declaration has a name that nothing else mentions,
+-- which may go
 abbrev pub goes_alone : Bool → Liberties → Tree → ℕ → Tree → Trees → ℕ → Bool
 goes_alone free W l j o ts i = declares_name (part l j) && (may_lose free W (names_of (part (part l j) 0)) && (may_go_alone (part (part l j) 1) && is_alone (names_of (part (part l j) 0)) o (part (part l j) 1) (children l) j ts i))
 

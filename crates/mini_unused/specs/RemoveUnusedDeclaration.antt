@@ -1,5 +1,6 @@
--- 72 of a list of statements with what stands outside of it: `let x = a(); b();` becomes `a(); b();`, `let x = 1; b();` becomes `; b();`, and
--- `let x, y = b(); c(y);` becomes `let y = b(); c(y);`; and of a `var`, too, that can be written.
+-- 72 of a list of statements with what stands outside of it: `let x = a(); b();` becomes
+-- `a(); b();`, `let x = 1; b();` becomes `; b();`, and `let x, y = b(); c(y);` becomes
+-- `let y = b(); c(y);`; and of a `var`, too, that can be written.
 use Rattle.std.specs.Prelude.{◌≡◌, ◌<◌, ℕ, suc, Bool, true, false, not, ◌&&◌, ◌||◌, List, [], ◌∷◌, Option, Some, None, is_some, if◌then◌else◌}
 use Rattle.mini_model.specs.declared.name.Name.{Name}
 use Rattle.mini_model.specs.declared.name.SymbolId.{SymbolId}
@@ -40,7 +41,8 @@ shows_vars shape.BlockStatement = true
 shows_vars shape.SwitchStatement = true
 shows_vars _ = false
 
--- those of them whose `var` may go from statements with what stands outside of them: of a block that is no body, and of a switch, none
+-- those of them whose `var` may go from statements with what stands outside of them: of a block
+-- that is no body, and of a switch, none
 abbrev pub open_in : Tree → Liberties → Liberties
 open_in o W = liberties W.switches (λ x. not (shows_vars (shape_of o)) && W.writable x)
 
@@ -56,12 +58,13 @@ may_write_in W xs = false
 abbrev pub may_lose : Bool → Liberties → List Name → Bool
 may_lose free W xs = free || may_write_in W xs
 
--- of a declarator that goes nothing misses the initializer, or it is the only one of the list and leaves an expression
+-- of a declarator that goes nothing misses the initializer, or it is the only one of the list and
+-- leaves an expression
 abbrev pub may_go : Tree → Tree → Bool
 may_go init l = is_idle init || (is_bare l 1 && declares_nothing init)
 
--- no name like this one stands in the initializer of the declarator at the place, in another declarator of the `let` at its place, or in
--- another statement
+-- no name like this one stands in the initializer of the declarator at the place, in another
+-- declarator of the `let` at its place, or in another statement
 abbrev pub is_alone_inside : Name → Tree → Trees → ℕ → Trees → ℕ → Bool
 is_alone_inside x init ds j ts i = not (names x init) && (not (any_names x (rest_children (suc j) ds)) && (not (any_names x (rest_children (suc i) ts)) && (not (any_names x (first_children j ds)) && not (any_names x (first_children i ts)))))
 
@@ -70,8 +73,8 @@ abbrev pub is_alone : List Name → Tree → Tree → Trees → ℕ → Trees �
 is_alone [] o init ds j ts i = false
 is_alone (x ∷ xs) o init ds j ts i = not (names x o) && is_alone_inside x init ds j ts i
 
--- the declarator at the place in the list of a declaration, which is a statement at its place, has a name that nothing else mentions,
--- which is free to go, or one of these variables
+-- the declarator at the place in the list of a declaration, which is a statement at its place, has
+-- a name that nothing else mentions, which is free to go, or one of these variables
 abbrev pub is_unused_declarator : Bool → Liberties → Tree → ℕ → Tree → Trees → ℕ → Bool
 is_unused_declarator free W l j o ts i = declares_name (part l j) && (may_lose free W (names_of (part (part l j) 0)) && (may_go (part (part l j) 1) l && is_alone (names_of (part (part l j) 0)) o (part (part l j) 1) (children l) j ts i))
 
@@ -87,8 +90,8 @@ is_free_at ts i = is_lexical_shape (shape_of (child_or_absent ts i))
 abbrev pub is_var : Tree → Bool
 is_var t = declares_list t && not (is_lexical_shape (shape_of t))
 
--- a declaration from which names may go: where a list stands outside of the statements, as the nodes above a list further inside a body do,
--- these are `var`s alone
+-- a declaration from which names may go: where a list stands outside of the statements, as the
+-- nodes above a list further inside a body do, these are `var`s alone
 abbrev pub may_declare : Tree → Tree → Bool
 may_declare o t = if is_listed_shape (shape_of o) then is_var t else declares_list t
 

@@ -1,5 +1,5 @@
--- 62, `remove_unused_name`: `f(function g() { return 1; })` becomes `f(function () { return 1; })`, and `f(class C {})` becomes
--- `f(class {})`.
+-- 62, `remove_unused_name`: `f(function g() { return 1; })` becomes `f(function () { return 1; })`,
+-- and `f(class C {})` becomes `f(class {})`.
 use Rattle.std.specs.Prelude.{nat_eq, Bool, true, false, not, ◌&&◌, List, [], ◌∷◌}
 use Rattle.mini_model.specs.declared.name.Name.{Name}
 use Rattle.mini_model.specs.declared.place.Position.{Position}
@@ -21,7 +21,8 @@ abbrev pub is_nameless : List Name → Bool
 is_nameless [] = true
 is_nameless (x ∷ xs) = false
 
--- a function's name, parameters and body; a class's name, what it extends and its body, and no name that is held once more
+-- a function's name, parameters and body; a class's name, what it extends and its body, and no name
+-- that is held once more
 abbrev pub has_its_parts : Shape → Trees → Bool
 has_its_parts (shape.Function is_declaration is_generator directives) ts = nat_eq (count ts) 3
 has_its_parts (shape.Class is_declaration) ts = nat_eq (count ts) 4 && is_absent_part (child_or_absent ts 3)

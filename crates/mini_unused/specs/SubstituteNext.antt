@@ -1,5 +1,5 @@
--- 71, `substitute_single_use`, in one declaration: `{ let x = a(), y = x.b; c(y); }` becomes `{ let y = a().b; c(y); }`; so do the
--- statements of a function, and there each `var`, too.
+-- 71, `substitute_single_use`, in one declaration: `{ let x = a(), y = x.b; c(y); }` becomes
+-- `{ let y = a().b; c(y); }`; so do the statements of a function, and there each `var`, too.
 use Rattle.std.specs.Prelude.{◌≡◌, ◌<◌, ℕ, suc, Bool, true, false, not, ◌&&◌, ◌||◌, List, [], ◌∷◌, Option, Some, None}
 use Rattle.mini_model.specs.declared.name.Name.{Name}
 use Rattle.mini_model.specs.Tree.{Tree, Trees, count, child_or_absent, children}
@@ -17,7 +17,8 @@ reads_in x r v = is_first x false v && are_passed x r v
 abbrev pub reads_then : Name → Tree → Tree → Bool
 reads_then x r e = reads_in x r (part e 1)
 
--- a name like it stands in the initializer, in what the next declarator declares, or in another declarator
+-- a name like it stands in the initializer, in what the next declarator declares, or in another
+-- declarator
 abbrev pub is_mentioned_beside : Name → Tree → Tree → Trees → ℕ → Bool
 is_mentioned_beside x d e ds j = names x (part d 1) || (names x (part e 0) || (any_names x (first_children j ds) || any_names x (rest_children (suc (suc j)) ds)))
 
@@ -25,12 +26,14 @@ is_mentioned_beside x d e ds j = names x (part d 1) || (names x (part e 0) || (a
 abbrev pub is_mentioned_elsewhere : Name → Trees → ℕ → Bool
 is_mentioned_elsewhere x ts i = any_names x (first_children i ts) || any_names x (rest_children (suc i) ts)
 
--- the next declarator reads the name first, and no name like it stands elsewhere, nor in what is outside of the statements
+-- the next declarator reads the name first, and no name like it stands elsewhere, nor in what is
+-- outside of the statements
 abbrev pub is_read_then : List Name → Tree → Tree → Tree → Trees → ℕ → Trees → ℕ → Bool
 is_read_then [] d e o ds j ts i = false
 is_read_then (x ∷ xs) d e o ds j ts i = reads_then x (part d 1) e && (not (is_mentioned_beside x d e ds j) && (not (names x o) && not (is_mentioned_elsewhere x ts i)))
 
--- so is the name of a declarator, whose initializer may move, and which is free to go, or one of these variables
+-- so is the name of a declarator, whose initializer may move, and which is free to go, or one of
+-- these variables
 abbrev pub is_read_by : Bool → Liberties → Tree → Tree → Tree → Trees → ℕ → Trees → ℕ → Bool
 is_read_by free W d e o ds j ts i = declares_name d && (is_declarator e && (may_lose free W (names_of (part d 0)) && (may_move W.switches (part d 1) && is_read_then (names_of (part d 0)) d e o ds j ts i)))
 
@@ -73,7 +76,8 @@ declarators_next l j = with_initial (like l (without (children l) j)) j (names_o
 abbrev pub list_next : Tree → ℕ → ℕ → Tree
 list_next l i j = with_part l i (with_part (part l i) 0 (declarators_next (part (part l i) 0) j))
 
--- one call, of a list of statements and what is outside of them: a name that the next declarator read is gone
+-- one call, of a list of statements and what is outside of them: a name that the next declarator
+-- read is gone
 pub record NextGone (W : Liberties) (o l m : Tree) : Type 0 where
   pub at : ℕ
   pub which : ℕ

@@ -1,5 +1,6 @@
--- 71, `substitute_single_use`: `{ let x = a(); return x + b; }` becomes `{ ; return a() + b; }`, `{ const a = b(), x = c(); return x; }`
--- `{ const a = b(); return c(); }`, and `{ let x = a(); const y = x.b; c(y); }` `{ ; const y = a().b; c(y); }`; so do the statements of a
+-- 71, `substitute_single_use`: `{ let x = a(); return x + b; }` becomes `{ ; return a() + b; }`,
+-- `{ const a = b(), x = c(); return x; }` `{ const a = b(); return c(); }`, and
+-- `{ let x = a(); const y = x.b; c(y); }` `{ ; const y = a().b; c(y); }`; so do the statements of a
 -- function, and there each `var`, too.
 use Rattle.std.specs.Prelude.{◌≡◌, ◌<◌, ◌^◌, ◌⊎◌, ℕ, suc, Bool, true, false, not, ◌&&◌, ◌||◌, zero, List, [], ◌∷◌, Option, Some, None, if◌then◌else◌}
 use Rattle.mini_model.specs.declared.name.Name.{Name}
@@ -31,7 +32,8 @@ is_own_name h = false
 abbrev pub written_in_full : Tree → Tree
 written_in_full (node h xs n ts) = node (in_full h) xs n ts
 
--- a node without a name and a number, which evaluates the part at the place after those before it, in full, or it can be
+-- a node without a name and a number, which evaluates the part at the place after those before it,
+-- in full, or it can be
 abbrev pub may_lead : Bool → Tree → ℕ → Bool
 may_lead in_list t i = leads in_list (shape_of t) i (part t i) && may_hold t
 
@@ -40,7 +42,8 @@ abbrev pub all_pass : Gathered → Tree → Shape → ℕ → Trees → Bool
 all_pass m r h i none = true
 all_pass m r h i (t ▸ ts) = passes_at m r h i t && all_pass m r h (suc i) ts
 
--- the part at the place is evaluated whatever those before it are, or r is a constant or has no effect
+-- the part at the place is evaluated whatever those before it are, or r is a constant or has no
+-- effect
 abbrev pub is_reached_at : Gathered → Tree → Shape → ℕ → Bool
 is_reached_at m r h zero = is_constant r || is_placed m (is_effect_free r) h
 is_reached_at m r h (suc i) = is_constant r || (is_placed m (is_effect_free r) h && is_sure (is_effect_free r) h)
@@ -80,7 +83,8 @@ abbrev pub is_read_once : List Name → Tree → Tree → Trees → ℕ → Tree
 is_read_once [] o init ds j ts i = false
 is_read_once (x ∷ xs) o init ds j ts i = not (names x o) && is_read_inside x init ds j ts i
 
--- so is the name of the declarator at the place, whose initializer may move, and which is free to go, or one of these variables
+-- so is the name of the declarator at the place, whose initializer may move, and which is free to
+-- go, or one of these variables
 abbrev pub is_single_declarator : Bool → Liberties → Tree → ℕ → Tree → Trees → ℕ → Bool
 is_single_declarator free W l j o ts i = declares_name (part l j) && (may_lose free W (names_of (part (part l j) 0)) && (may_move W.switches (part (part l j) 1) && is_read_once (names_of (part (part l j) 0)) o (part (part l j) 1) (children l) j ts i))
 

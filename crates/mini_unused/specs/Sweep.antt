@@ -23,7 +23,8 @@ may_move_at free W l j = declares_name (part l j) && (may_lose free W (names_of 
 abbrev pub declarators_of : Tree → ℕ
 declarators_of t = if declares_list t then count (children (part t 0)) else 0
 
--- a list without a direct eval, and with none in what is outside of it, whose names the tables count
+-- a list without a direct eval, and with none in what is outside of it, whose names the tables
+-- count
 pub record Calm (c : Tallies) (o l : Tree) : Type 0 where
   pub is_list : is_listed l ≡ true
   pub unseen : (has_eval o || has_eval l) ≡ false

@@ -1,4 +1,5 @@
--- How often names stand in a tree, by buckets of their symbols and of their spellings, and tables that count no fewer.
+-- How often names stand in a tree, by buckets of their symbols and of their spellings, and tables
+-- that count no fewer.
 use Rattle.std.specs.Prelude.{ℕ, ◌+◌, ◌*◌, ◌%◌, ◌<◌, ◌≤◌, ◌≡◌, nat_eq, Bool, true, false, List, [], ◌∷◌, length, slice_index, Option, Some, None}
 use Rattle.mini_model.specs.declared.name.Name.{Name}
 use Rattle.mini_model.specs.declared.name.SymbolId.{SymbolId}
@@ -79,8 +80,8 @@ abbrev pub is_spelled_first : Name → Tree → Bool
 is_spelled_first x (node h ys n none) = is_spelled x ys
 is_spelled_first x (node h ys n (t ▸ ts)) = is_spelled_first x t
 
--- and a statement reads it, with its spelling, after parts that pass the initializer: so it and its declaration are the only ones in its
--- buckets
+-- and a statement reads it, with its spelling, after parts that pass the initializer: so it and its
+-- declaration are the only ones in its buckets
 abbrev pub AreRead : Tallies → List Name → Tree → Tree → Type 0
 AreRead c (x ∷ []) r t = IsRare c x 2 × (takes x r t ≡ true) × (1 ≤ tally (bucket false (length c.by_spelling.items)) (bucket false (length c.by_spelling.items) x) t)
 AreRead c xs r t = ⊥

@@ -8,8 +8,8 @@ use Rattle.mini_laws.specs.Resolved as resolution
 use Rattle.mini_accept.specs.Accept.{program_at}
 use Rattle.mini_writer.specs.Fits.{Fits}
 
--- The symbols of a tree (ECMA-262, "Environment Records"), its references ("ResolveBinding") with one more, and how many
--- of its nodes have a number.
+-- The symbols of a tree (ECMA-262, "Environment Records"), its references ("ResolveBinding") with
+-- one more, and how many of its nodes have a number.
 pub record Countable (t : Tree) (n : ℕ) : Type 0 where
   pub symbols : resolution.symbols Read t < 2 ^ 32
   pub references : length (reference.references Read t) + 1 < 2 ^ 32

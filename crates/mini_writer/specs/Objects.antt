@@ -1,6 +1,7 @@
--- The object of each type of node, of its parts: `type`, and every field that the type has in ESTree (ES5 to ES2022). The
--- members are in the byte order of their keys. A function is not asynchronous, a loop does not await, and an import or
--- export has no attributes, since others are not read.
+-- The object of each type of node, of its parts: `type`, and every field that the type has in
+-- ESTree (ES5 to ES2022). The members are in the byte order of their keys. A function is not
+-- asynchronous, a loop does not await, and an import or export has no attributes, since others are
+-- not read.
 use Rattle.std.specs.Prelude.{ℕ, List, codes, Bool, true, false}
 use Rattle.serde_json.specs.Data.{Data, null, boolean, number, unsigned, string, array, object, no_items, no_members, member}
 use Rattle.mini_model.specs.declared.kind.MethodDefinitionKind.{MethodDefinitionKind}
@@ -243,6 +244,7 @@ assignment_pattern left right = object (member (codes "left") left (member (code
 
 -- ---- directives
 
--- a directive is a statement that is a text (ECMA-262, "Directive Prologues and the Use Strict Directive")
+-- a directive is a statement that is a text (ECMA-262, "Directive Prologues and the Use Strict
+-- Directive")
 abbrev pub directive : List ℕ → Data
 directive text = object (member (codes "directive") (string text) (member (codes "expression") (string_literal text) (member (codes "type") (string (codes "ExpressionStatement")) no_members)))

@@ -1,5 +1,5 @@
--- The table of the nodes that are written as their plain fields, and a field for each child. The others have texts, or
--- directives before what they hold.
+-- The table of the nodes that are written as their plain fields, and a field for each child. The
+-- others have texts, or directives before what they hold.
 use Rattle.std.specs.Prelude.{ℕ, List, [], ◌∷◌, codes, true, false, Bool, Option, Some, None, option_map, if◌then◌else◌}
 use Rattle.serde_json.specs.Data.{Data, null, boolean, string, array, object, Items, no_items, item, Members, no_members, member, put}
 use Rattle.mini_model.specs.declared.shape.Shape.{Shape}

@@ -1,5 +1,5 @@
--- The value that is written for a tree. Each node is the object of its type over what its children are written as; the
--- tree's numbers and symbols aren't written.
+-- The value that is written for a tree. Each node is the object of its type over what its children
+-- are written as; the tree's numbers and symbols aren't written.
 use Rattle.std.specs.Prelude.{ℕ, suc, List, [], ◌∷◌, Bool, true, false, Option, Some, None, ℤ, pos, negsuc, decimal}
 use Rattle.serde_json.specs.Data.{Data, null, string, array, Items, no_items, item}
 use Rattle.mini_model.specs.Texts.{bytes_of}
@@ -56,7 +56,8 @@ abbrev pub with_directives : List (List ℕ) → Items → Items
 with_directives [] ds = ds
 with_directives (s ∷ ss) ds = item (directive (bytes_of s)) (with_directives ss ds)
 
--- the statements of a function are its block, behind its directives; an arrow's body may be an expression
+-- the statements of a function are its block, behind its directives; an arrow's body may be an
+-- expression
 abbrev pub body : List (List ℕ) → Data → Data
 body directives (array ds) = objects.block_statement (array (with_directives directives ds))
 body directives d = d
