@@ -4,6 +4,7 @@ pub mod SpellKeys
 pub mod KeyHolders
 pub mod Nesting
 pub mod Lists
+pub mod TwoSpellings
 pub mod Declarations
 pub mod ListLaws
 pub mod Loops
