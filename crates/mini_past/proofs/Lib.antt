@@ -1,5 +1,6 @@
 pub mod PassedParts
 pub mod Firsts
+pub mod FirstPlaces
 pub mod Places
 pub mod NextPlaces
 pub mod Suiting

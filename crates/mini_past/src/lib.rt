@@ -8,6 +8,7 @@ mod declared;
 mod functions;
 mod heads;
 mod inside;
+mod let_places;
 mod lets;
 mod names;
 mod next_declarators;
