@@ -18,7 +18,7 @@ use Rattle.mini_rows.specs.Inside.{is_lexical_shape}
 use Rattle.mini_unused.specs.RemoveUnusedDeclaration as listing
 use Rattle.mini_past.proofs.Firsts.{lexical_is}
 use Rattle.mini_past.specs.declared.let_places.LetPlaces.{LetPlaces}
-use Rattle.mini_past.specs.LetPlaces.{Places, is_within, reaches, Marked, Placed, passes_here, passes_there, is_single, is_plain_name, is_plain, Tells, Told}
+use Rattle.mini_past.specs.LetPlaces.{Places, is_within, reaches, Marked, Placed, passes_here, passes_there, is_single, is_plain_name, is_plain, Tells, Nowhere, Told}
 
 -- ---- of booleans
 
@@ -344,3 +344,21 @@ module _ (k : ℕ) where
 
 pub bound_there : (k : ℕ) (t : Tree) → binds k t ≡ not (spares k t)
 bound_there k t = sym (not_not (binds k t))
+
+-- ---- what the places tell
+
+pub all_told : (e m : Places) (ts : Trees) → IsEmpty e → Marked (λ k. any_bind k ts) 0 e m → Nowhere m ts
+all_told e m ts z h k n = by (any_bind k ts) (sym n ∙ h k 0 ∙ (λ x. empty e k 0 z x || (any_bind k ts && le-leb 0 0 (omega arith) x)))
+  where
+    by : (b : Bool) → false ≡ (false || (b && true)) → b ≡ false
+    by true f = sym f
+    by false f = refl
+
+pub let_told : (lets : LetPlaces) (ts ds : Trees) (i j s : ℕ) → Told lets ts i ds j → (reaches lets.bound s j && not (reaches lets.hidden s j)) ≡ is_let s (first_children i ts) (listing.is_free_at ts i) (first_children j ds)
+let_told lets ts ds i j s t =
+    let free = listing.is_free_at ts i in
+    let here = first_children i ts in
+    let there = first_children j ds in
+    let same : j ≤ j = omega arith in
+    (λ x. t.bound s j same x && not (t.hidden s j same x))
+    ∙ ap (λ b. not (all_of (spares s) here && all_of (spares s) there) && b) (not_not (all_of (lets_here s) here && all_of (lets_at_most free s) there))

@@ -1,13 +1,14 @@
 -- Of a list of declarators and the statements before it the first place at which each symbol is declared: 0 in a statement, and so many as
 -- stand up to it in a declarator.
-use Rattle.std.specs.Prelude.{◌≡◌, ◌≤◌, ℕ, Bool, true, false, not, ◌&&◌, ◌||◌, List, [], ◌∷◌, Option, Some, None, nat_le, if◌then◌else◌}
+use Rattle.std.specs.Prelude.{◌≡◌, ◌≤◌, ℕ, Bool, true, false, not, ◌&&◌, ◌||◌, List, [], ◌∷◌, Option, Some, None, nat_le, IfSome}
 use Rattle.std.specs.BTreeMap.{BTreeMap, get}
 use Rattle.std.specs.Ordering.{nat_cmp}
 use Rattle.mini_model.specs.declared.name.Name.{Name}
-use Rattle.mini_model.specs.Tree.{Tree, Trees, shape_of}
+use Rattle.mini_model.specs.Tree.{Tree, Trees, children, shape_of}
 use Rattle.mini_node.specs.Children.{names_of, part, first_children}
-use Rattle.mini_rows.specs.Past.{is_binding, all_of, spares, lets_here, lets_at_most}
+use Rattle.mini_rows.specs.Past.{is_binding, any_bind, all_of, spares, lets_here, lets_at_most}
 use Rattle.mini_rows.specs.Unused.{is_declarator, is_childless}
+use Rattle.mini_unused.specs.RemoveUnusedDeclaration.{is_free_at, list_at}
 use Rattle.mini_past.specs.declared.let_places.LetPlaces.{LetPlaces}
 
 abbrev pub Places : Type 0
@@ -57,6 +58,16 @@ abbrev pub Tells : Bool → Bool → Places → Trees → Trees → ℕ → Type
 Tells by_let is_lexical m before ds n =
     (k w : ℕ) → w ≤ n → reaches m k w ≡ not (all_of (passes_here by_let k) before && all_of (passes_there by_let is_lexical k) (first_children w ds))
 
-pub record Told (lets : LetPlaces) (before : Trees) (is_lexical : Bool) (ds : Trees) (n : ℕ) : Type 0 where
-  pub bound : Tells false is_lexical lets.bound before ds n
-  pub hidden : Tells true is_lexical lets.hidden before ds n
+-- a symbol without a place is declared in none of these
+abbrev pub Nowhere : Places → Trees → Type 0
+Nowhere m ts = (k : ℕ) → reaches m k 0 ≡ false → any_bind k ts ≡ false
+
+-- of the statement at the index, whose declarators these are, the places tell up to so many of them
+pub record Told (lets : LetPlaces) (ts : Trees) (i : ℕ) (ds : Trees) (n : ℕ) : Type 0 where
+  pub bound : Tells false (is_free_at ts i) lets.bound (first_children i ts) ds n
+  pub hidden : Tells true (is_free_at ts i) lets.hidden (first_children i ts) ds n
+  pub nowhere : Nowhere lets.all ts
+
+-- where there are some, of a list of statements
+abbrev pub ToldAt : Option LetPlaces → Tree → ℕ → ℕ → Type 0
+ToldAt lets l i n = IfSome lets (λ m. Told m (children l) i (children (list_at (children l) i)) n)

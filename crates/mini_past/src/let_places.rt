@@ -1,15 +1,18 @@
 //! Of a list of declarators and the statements before it, the first place at which each symbol is declared, found once, so that the list
 //! isn't gone through for each name. Places are 0 in a statement, 1 in the first declarator, and so on.
 
-ghost use Rattle.std.specs.Prelude.{◌≡◌, ◌+◌, ◌<◌, ◌≤◌, ◌^◌, ◌&&◌, not, nat_eq, true, IfOk, OnOk};
+ghost use Rattle.std.specs.Prelude.{◌≡◌, ◌+◌, ◌<◌, ◌≤◌, ◌^◌, ◌&&◌, not, nat_eq, true, IfOk, IfSome, OnOk};
 ghost use Rattle.mini_model.specs.Tree.{children, count, shape_of};
 ghost use Rattle.mini_node.specs.Children.{first_children, names_of};
 ghost use Rattle.mini_rows.specs.Past as reading;
+ghost use Rattle.mini_unused.specs.RemoveUnusedDeclaration.{is_free_at};
 ghost use Rattle.mini_past.specs.LetPlaces as row;
-ghost use Rattle.mini_past.specs.LetPlaces.{Marked, Tells, Told};
+ghost use Rattle.mini_past.specs.LetPlaces.{Marked, Nowhere, Tells, Told};
 
-use mini_model::{OutOfMemory, Shape};
+use crate::lets::is_let;
+use mini_model::{OutOfMemory, Shape, SymbolId};
 use mini_node::{Node, Nodes};
+use mini_steady::any_bind;
 use mini_unused::{declares_list, is_childless, is_declarator, is_lexical};
 use std::alloc::Global;
 use std::collections::BTreeMap;
@@ -21,6 +24,8 @@ pub struct LetPlaces {
     pub bound: BTreeMap<u32, usize>,
     /// Where each is declared by anything but a declarator of a `let` or a `const` that has it as its only name.
     pub hidden: BTreeMap<u32, usize>,
+    /// Where each is declared in any of the statements, which is 0.
+    pub all: BTreeMap<u32, usize>,
 }
 
 // The symbol has a place up to this one.
@@ -232,26 +237,63 @@ fn places_by(
     Ok(places)
 }
 
-/// The first places at which symbols are declared, and at which they are so in another way.
+// Of all statements.
+fn all_places(alloc: Global, statements: &Nodes) -> Result<BTreeMap<u32, usize>, OutOfMemory>
+    ensures { IfOk result (λ places. Nowhere places statements.now) }
+{
+    let mut places = BTreeMap::new(alloc);
+    mark_all(&mut places, statements, 0)?;
+    Ok(places)
+}
+
+/// The first places of what the declarators of the statement at the index and the statements before it declare, and of what all of them do.
 pub fn first_places(
     alloc: Global,
     statements: &Nodes,
-    end: usize,
-    is_lexical: bool,
+    at: usize,
     declarators: &Nodes,
 ) -> Result<LetPlaces, OutOfMemory>
-    requires end { end ≤ count statements.now }
+    requires statement { at < count statements.now }
     requires fits { count declarators.now + 1 < 2 ^ 64 }
-    ensures { IfOk result (λ lets. Told lets (first_children end statements.now) is_lexical declarators.now (count declarators.now)) }
+    ensures { IfOk result (λ lets. Told lets statements.now at declarators.now (count declarators.now)) }
 {
-    let bound = places_by(alloc, false, statements, end, is_lexical, declarators)?;
-    let hidden = places_by(alloc, true, statements, end, is_lexical, declarators)?;
-    Ok(LetPlaces { bound, hidden })
+    let is_free = is_lexical(statements.child(at).shape());
+    let bound = places_by(alloc, false, statements, at, is_free, declarators)?;
+    let hidden = places_by(alloc, true, statements, at, is_free, declarators)?;
+    let all = all_places(alloc, statements)?;
+    Ok(LetPlaces { bound, hidden, all })
 }
 
-/// A declarator before the place, or a statement before the list, has initialised the name, and no scope in them hides it.
-pub fn is_let_before(lets: &LetPlaces, symbol: u32, which: usize) -> bool
-    ensures { result ≡ (row.reaches lets.now.bound symbol which && not (row.reaches lets.now.hidden symbol which)) }
+/// A declarator before the place, or a statement before theirs, has initialised the name, and no scope in them hides it.
+#[tactic(auto, using(crate::proofs::FirstPlaces::let_told))]
+pub fn is_let_by(
+    symbol: SymbolId,
+    statements: &Nodes,
+    at: usize,
+    declarators: &Nodes,
+    which: usize,
+    lets: &Option<LetPlaces>,
+) -> bool
+    requires statement { at < count statements.now }
+    requires declarator { which < count declarators.now }
+    requires told { IfSome lets.now (λ m. Told m statements.now at declarators.now which) }
+    ensures { result ≡ reading.is_let symbol.0 (first_children at statements.now) (is_free_at statements.now at) (first_children which declarators.now) }
 {
-    reaches(&lets.bound, symbol, which) && !reaches(&lets.hidden, symbol, which)
+    match lets {
+        Some(lets) => {
+            reaches(&lets.bound, symbol.0, which) && !reaches(&lets.hidden, symbol.0, which)
+        }
+        None => is_let(symbol, statements, at, declarators, which),
+    }
+}
+
+/// One of the statements declares the name.
+pub fn is_bound_in(symbol: SymbolId, statements: &Nodes, lets: &Option<LetPlaces>) -> bool
+    requires { IfSome lets.now (λ m. Nowhere m.all statements.now) }
+    ensures { result ≡ reading.any_bind symbol.0 statements.now }
+{
+    match lets {
+        Some(lets) => reaches(&lets.all, symbol.0, 0) && any_bind(symbol, statements),
+        None => any_bind(symbol, statements),
+    }
 }
