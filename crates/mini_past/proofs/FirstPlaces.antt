@@ -310,7 +310,7 @@ module _ (k : ℕ) where
       by true e f = absurd (true≢false e)
       by false e f = f e
 
-  any_below : (t : Tree) → binds k t ≡ false → any_bind k (children t) ≡ false
+  pub any_below : (t : Tree) → binds k t ≡ false → any_bind k (children t) ≡ false
   any_below (node h xs n ts) e = by (is_binding h && has_symbol k xs) e
     where
       by : (b : Bool) → (b || any_bind k ts) ≡ false → any_bind k ts ≡ false

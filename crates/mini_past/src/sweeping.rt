@@ -138,6 +138,13 @@ fn sweep_declarator<S: PastNames>(
     sweep_next(outside, list, at, which, body, steady, lets);
 }
 
+// So many that a table is made.
+fn are_many(count: usize) -> bool
+    ensures { result ≡ true → count + 1 < 2 ^ 64 }
+{
+    FEW <= count && count <= MANY
+}
+
 // Where the declarators of the statement at the index are many, the first places of what they and the statements declare.
 fn places_for(alloc: Global, list: &Node, at: usize) -> Option<LetPlaces>
     requires { at + 1 < 2 ^ 64 }
@@ -151,7 +158,7 @@ fn places_for(alloc: Global, list: &Node, at: usize) -> Option<LetPlaces>
         return None;
     }
     let declarators = statement.child(0).children();
-    if declarators.len() < FEW || declarators.len() > MANY {
+    if !are_many(declarators.len()) {
         return None;
     }
     match first_places(alloc, list.children(), at, declarators) {
