@@ -50,7 +50,7 @@ module _ (p : Tree → Bool) where
 
 -- ---- a declaration's declarators
 
-lexical_is : (h : Shape) → is_lexical_shape h ≡ listing.is_lexical_shape h
+pub lexical_is : (h : Shape) → is_lexical_shape h ≡ listing.is_lexical_shape h
 lexical_is (shape.VariableDeclaration k) = refl
 lexical_is h = refl
 

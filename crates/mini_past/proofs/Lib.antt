@@ -1,5 +1,7 @@
 pub mod PassedParts
 pub mod Firsts
+pub mod FirstPlaces
+pub mod StillTold
 pub mod Places
 pub mod NextPlaces
 pub mod Suiting

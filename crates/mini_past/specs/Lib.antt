@@ -1,4 +1,5 @@
 pub mod SubstitutePast
+pub mod LetPlaces
 pub mod Lighter
 pub mod PastInBlocks
 pub mod PastEnds

@@ -8,6 +8,7 @@ mod declared;
 mod functions;
 mod heads;
 mod inside;
+mod let_places;
 mod lets;
 mod names;
 mod next_declarators;
@@ -23,6 +24,7 @@ pub use functions::{
     substitute_past_in_static,
 };
 pub use inside::{PastEnds, SubstitutePastInside};
+pub use let_places::LetPlaces;
 pub use names::{PastContext, PastNames};
 pub use reaching::are_past;
 pub use rule::{

@@ -1,14 +1,16 @@
 //! Row 71 past steady names in one declaration: `let x = a(), y = g(x);` becomes `let y = g(a());`,
 //! where g is steady in the body.
 
-ghost use Rattle.std.specs.Prelude.{◌≡◌, ◌+◌, ◌<◌, ◌^◌, true, None};
+ghost use Rattle.std.specs.Prelude.{◌≡◌, ◌+◌, ◌<◌, ◌^◌, true, None, IfSome};
 ghost use Rattle.mini_model.specs.Tree.{children, count};
 ghost use Rattle.mini_node.specs.Children.{names};
 ghost use Rattle.mini_node.specs.Kinds.{is_listed as is_it_listed};
+ghost use Rattle.mini_past.specs.LetPlaces.{Told};
 ghost use Rattle.mini_past.specs.SubstitutePast as row;
 ghost use Rattle.mini_past.specs.SubstitutePast.{held_at, PastAt, PastNextAt, PastNextIn, PastNextOf, PastRemoved};
 
 use crate::declared::may_pass_by;
+use crate::let_places::LetPlaces;
 use crate::names::PastNames;
 use crate::reaching::are_past;
 use crate::sweeping::sweep;
@@ -32,9 +34,11 @@ fn reads_past_in<S: SteadyNames>(
     which: usize,
     body: u32,
     steady: &S,
+    lets: &Option<LetPlaces>,
 ) -> bool
     requires statement { at < count statements.now }
     requires declarator { which < count declarators.now }
+    requires told { IfSome lets.now (λ m. Told m statements.now at declarators.now which) }
     ensures { result ≡ row.reads_past_in (held_at (S.sets steady.now body) statements.now at declarators.now which) name.now init.now value.now }
 {
     is_first(name, false, value)
@@ -48,6 +52,7 @@ fn reads_past_in<S: SteadyNames>(
             which,
             body,
             steady,
+            lets,
         )
 }
 
@@ -63,6 +68,7 @@ fn is_read_past_then<S: SteadyNames>(
     at: usize,
     body: u32,
     steady: &S,
+    lets: &Option<LetPlaces>,
 ) -> bool
     requires parts { 1 < count (children declarator.now) }
     requires next_parts { 1 < count (children next.now) }
@@ -70,6 +76,7 @@ fn is_read_past_then<S: SteadyNames>(
     requires statement { at < count statements.now }
     requires fits { which + 2 < 2 ^ 64 }
     requires fits_too { at + 1 < 2 ^ 64 }
+    requires told { IfSome lets.now (λ m. Told m statements.now at declarators.now which) }
     ensures { result ≡ row.is_read_past_then (S.sets steady.now body) (names name.now) declarator.now next.now outside.now declarators.now which statements.now at }
 {
     match name {
@@ -84,6 +91,7 @@ fn is_read_past_then<S: SteadyNames>(
                 which,
                 body,
                 steady,
+                lets,
             ) && !is_mentioned_beside(name, declarator, next, declarators, which)
                 && !is_mentioned(name, outside)
                 && !is_mentioned_elsewhere(name, statements, at)
@@ -104,11 +112,13 @@ fn is_past_by<S: PastNames>(
     at: usize,
     body: u32,
     steady: &S,
+    lets: &Option<LetPlaces>,
 ) -> bool
     requires next { which + 1 < count declarators.now }
     requires statement { at < count statements.now }
     requires fits { which + 2 < 2 ^ 64 }
     requires fits_too { at + 1 < 2 ^ 64 }
+    requires told { IfSome lets.now (λ m. Told m statements.now at declarators.now which) }
     ensures { result ≡ row.is_past_by (S.sets steady.now body) is_free (S.lets steady.now) declarator.now next.now outside.now declarators.now which statements.now at }
 {
     is_declarator(next)
@@ -124,6 +134,7 @@ fn is_past_by<S: PastNames>(
             at,
             body,
             steady,
+            lets,
         )
 }
 
@@ -140,11 +151,13 @@ pub fn is_past_by_next<S: PastNames>(
     at: usize,
     body: u32,
     steady: &S,
+    lets: &Option<LetPlaces>,
 ) -> bool
     requires next { which + 1 < count (children list.now) }
     requires statement { at < count statements.now }
     requires fits { which + 2 < 2 ^ 64 }
     requires fits_too { at + 1 < 2 ^ 64 }
+    requires told { IfSome lets.now (λ m. Told m statements.now at (children list.now) which) }
     ensures { result ≡ row.is_past_by_next (S.sets steady.now body) is_free (S.lets steady.now) list.now which outside.now statements.now at }
 {
     let declarator = list.child(which);
@@ -161,6 +174,7 @@ pub fn is_past_by_next<S: PastNames>(
         at,
         body,
         steady,
+        lets,
     )
 }
 
@@ -183,7 +197,9 @@ fn next_in<S: PastNames>(
         return None;
     }
     for which in 0..count - 1 {
-        if is_past_by_next(is_free, list, which, outside, statements, at, body, steady) {
+        if is_past_by_next(
+            is_free, list, which, outside, statements, at, body, steady, &None,
+        ) {
             return Some(which);
         }
     }

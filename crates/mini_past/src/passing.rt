@@ -2,19 +2,20 @@
 //! steady and initialised, and `this`; and what is assigned to and what stands in a list, by such
 //! parts.
 
-ghost use Rattle.std.specs.Prelude.{◌≡◌, ◌<◌, ◌&&◌};
+ghost use Rattle.std.specs.Prelude.{◌≡◌, ◌<◌, ◌&&◌, IfSome};
 ghost use Rattle.mini_model.specs.Tree.{count};
 ghost use Rattle.mini_laws.specs.Value.{Declared};
 ghost use Rattle.mini_node.specs.Children.{names as names_in, part};
 ghost use Rattle.mini_rows.specs.Past as reading;
 ghost use Rattle.mini_rows.specs.Unused.{is_field as it_is_field};
+ghost use Rattle.mini_past.specs.LetPlaces.{Told};
 ghost use Rattle.mini_past.specs.SubstitutePast.{held_at};
 
-use crate::lets::is_let;
+use crate::let_places::{LetPlaces, is_bound_in, is_let_by};
 use mini_model::{AssignmentOperator, Name, Shape, SymbolId};
 use mini_node::{Node, Nodes, is_identifier};
 use mini_rows::Gathered;
-use mini_steady::{SteadyNames, any_bind, binds, is_this, writes};
+use mini_steady::{SteadyNames, binds, is_this, writes};
 use mini_terms::{is_effect_free, is_primitive, kind_of};
 use mini_unused::{is_constant, is_field, is_member, is_plain_assignment, is_word};
 
@@ -34,14 +35,16 @@ fn is_held_variable<S: SteadyNames>(
     which: usize,
     body: u32,
     steady: &S,
+    lets: &Option<LetPlaces>,
 ) -> bool
     requires statement { at < count statements.now }
     requires declarator { which < count declarators.now }
+    requires told { IfSome lets.now (λ m. Told m statements.now at declarators.now which) }
     ensures { result ≡ (held_at (S.sets steady.now body) statements.now at declarators.now which).variables (Declared symbol.0) }
 {
     steady.is_steady(symbol, body)
-        && ((steady.is_initial(symbol, body) && !any_bind(symbol, statements))
-            || is_let(symbol, statements, at, declarators, which))
+        && ((steady.is_initial(symbol, body) && !is_bound_in(symbol, statements, lets))
+            || is_let_by(symbol, statements, at, declarators, which, lets))
 }
 
 // The initializer leaves the variable of this name as it is, and that keeps the value that it has
@@ -55,15 +58,25 @@ fn is_held_symbol<S: SteadyNames>(
     which: usize,
     body: u32,
     steady: &S,
+    lets: &Option<LetPlaces>,
 ) -> bool
     requires statement { at < count statements.now }
     requires declarator { which < count declarators.now }
+    requires told { IfSome lets.now (λ m. Told m statements.now at declarators.now which) }
     ensures { result ≡ reading.is_held_symbol (held_at (S.sets steady.now body) statements.now at declarators.now which).variables init.now name.now name.now.symbol }
 {
     match name.symbol {
         Some(symbol) => {
-            is_held_variable(symbol, statements, at, declarators, which, body, steady)
-                && leaves(init, name, symbol)
+            is_held_variable(
+                symbol,
+                statements,
+                at,
+                declarators,
+                which,
+                body,
+                steady,
+                lets,
+            ) && leaves(init, name, symbol)
         }
         None => false,
     }
@@ -78,13 +91,25 @@ fn is_held_name<S: SteadyNames>(
     which: usize,
     body: u32,
     steady: &S,
+    lets: &Option<LetPlaces>,
 ) -> bool
     requires statement { at < count statements.now }
     requires declarator { which < count declarators.now }
+    requires told { IfSome lets.now (λ m. Told m statements.now at declarators.now which) }
     ensures { result ≡ reading.is_held_name (held_at (S.sets steady.now body) statements.now at declarators.now which).variables init.now (names_in name.now) }
 {
     match name {
-        Some(name) => is_held_symbol(name, init, statements, at, declarators, which, body, steady),
+        Some(name) => is_held_symbol(
+            name,
+            init,
+            statements,
+            at,
+            declarators,
+            which,
+            body,
+            steady,
+            lets,
+        ),
         None => false,
     }
 }
@@ -99,9 +124,11 @@ fn keeps_value<S: SteadyNames>(
     which: usize,
     body: u32,
     steady: &S,
+    lets: &Option<LetPlaces>,
 ) -> bool
     requires statement { at < count statements.now }
     requires declarator { which < count declarators.now }
+    requires told { IfSome lets.now (λ m. Told m statements.now at declarators.now which) }
     ensures { result ≡ reading.keeps_value (held_at (S.sets steady.now body) statements.now at declarators.now which) init.now node.now }
 {
     (is_identifier(node)
@@ -114,6 +141,7 @@ fn keeps_value<S: SteadyNames>(
             which,
             body,
             steady,
+            lets,
         ))
         || (steady.has_this(body) && is_this(node))
 }
@@ -128,12 +156,25 @@ fn passes_any<S: SteadyNames>(
     which: usize,
     body: u32,
     steady: &S,
+    lets: &Option<LetPlaces>,
 ) -> bool
     requires statement { at < count statements.now }
     requires declarator { which < count declarators.now }
+    requires told { IfSome lets.now (λ m. Told m statements.now at declarators.now which) }
     ensures { result ≡ reading.passes_any (held_at (S.sets steady.now body) statements.now at declarators.now which) init.now node.now }
 {
-    is_constant(node) || keeps_value(init, node, statements, at, declarators, which, body, steady)
+    is_constant(node)
+        || keeps_value(
+            init,
+            node,
+            statements,
+            at,
+            declarators,
+            which,
+            body,
+            steady,
+            lets,
+        )
 }
 
 // The key of a member may be evaluated before the initializer.
@@ -146,13 +187,25 @@ fn passes_any_word<S: SteadyNames>(
     which: usize,
     body: u32,
     steady: &S,
+    lets: &Option<LetPlaces>,
 ) -> bool
     requires statement { at < count statements.now }
     requires declarator { which < count declarators.now }
+    requires told { IfSome lets.now (λ m. Told m statements.now at declarators.now which) }
     ensures { result ≡ reading.passes_any_word (held_at (S.sets steady.now body) statements.now at declarators.now which) init.now node.now }
 {
     is_word(node.shape())
-        || passes_any(init, node, statements, at, declarators, which, body, steady)
+        || passes_any(
+            init,
+            node,
+            statements,
+            at,
+            declarators,
+            which,
+            body,
+            steady,
+            lets,
+        )
 }
 
 // A member that is assigned to may be evaluated before the initializer: its object and its key may.
@@ -165,9 +218,11 @@ fn passes_any_member<S: SteadyNames>(
     which: usize,
     body: u32,
     steady: &S,
+    lets: &Option<LetPlaces>,
 ) -> bool
     requires statement { at < count statements.now }
     requires declarator { which < count declarators.now }
+    requires told { IfSome lets.now (λ m. Told m statements.now at declarators.now which) }
     ensures { result ≡ reading.passes_any_member (held_at (S.sets steady.now body) statements.now at declarators.now which) init.now node.now }
 {
     is_member(node)
@@ -180,6 +235,7 @@ fn passes_any_member<S: SteadyNames>(
             which,
             body,
             steady,
+            lets,
         ) && passes_any_word(
             init,
             node.child(1),
@@ -189,6 +245,7 @@ fn passes_any_member<S: SteadyNames>(
             which,
             body,
             steady,
+            lets,
         ))
 }
 
@@ -204,14 +261,25 @@ fn passes_any_target<S: SteadyNames>(
     which: usize,
     body: u32,
     steady: &S,
+    lets: &Option<LetPlaces>,
 ) -> bool
     requires statement { at < count statements.now }
     requires declarator { which < count declarators.now }
+    requires told { IfSome lets.now (λ m. Told m statements.now at declarators.now which) }
     ensures { result ≡ reading.passes_any_target (held_at (S.sets steady.now body) statements.now at declarators.now which) init.now operator.now node.now }
 {
     is_plain_assignment(operator)
-        && (passes_any_member(init, node, statements, at, declarators, which, body, steady)
-            || (is_identifier(node) && is_effect_free(node, true)))
+        && (passes_any_member(
+            init,
+            node,
+            statements,
+            at,
+            declarators,
+            which,
+            body,
+            steady,
+            lets,
+        ) || (is_identifier(node) && is_effect_free(node, true)))
 }
 
 // A property may be evaluated before the initializer, since its value may.
@@ -224,9 +292,11 @@ fn passes_any_field<S: SteadyNames>(
     which: usize,
     body: u32,
     steady: &S,
+    lets: &Option<LetPlaces>,
 ) -> bool
     requires statement { at < count statements.now }
     requires declarator { which < count declarators.now }
+    requires told { IfSome lets.now (λ m. Told m statements.now at declarators.now which) }
     ensures { result ≡ (it_is_field node.now && reading.passes_any (held_at (S.sets steady.now body) statements.now at declarators.now which) init.now (part node.now 1)) }
 {
     is_field(node)
@@ -239,6 +309,7 @@ fn passes_any_field<S: SteadyNames>(
             which,
             body,
             steady,
+            lets,
         )
 }
 
@@ -255,17 +326,40 @@ fn passes_any_item<S: SteadyNames>(
     which: usize,
     body: u32,
     steady: &S,
+    lets: &Option<LetPlaces>,
 ) -> bool
     requires statement { at < count statements.now }
     requires declarator { which < count declarators.now }
+    requires told { IfSome lets.now (λ m. Told m statements.now at declarators.now which) }
     ensures { result ≡ reading.passes_any_item (held_at (S.sets steady.now body) statements.now at declarators.now which) gathered init.now node.now }
 {
-    let passes = passes_any(init, node, statements, at, declarators, which, body, steady);
+    let passes = passes_any(
+        init,
+        node,
+        statements,
+        at,
+        declarators,
+        which,
+        body,
+        steady,
+        lets,
+    );
     match gathered {
         Gathered::Texts => passes && is_primitive(kind_of(node)),
         Gathered::Values => passes,
         Gathered::Entries => {
-            passes || passes_any_field(init, node, statements, at, declarators, which, body, steady)
+            passes
+                || passes_any_field(
+                    init,
+                    node,
+                    statements,
+                    at,
+                    declarators,
+                    which,
+                    body,
+                    steady,
+                    lets,
+                )
         }
     }
 }
@@ -282,9 +376,11 @@ pub fn passes_any_at<S: SteadyNames>(
     which: usize,
     body: u32,
     steady: &S,
+    lets: &Option<LetPlaces>,
 ) -> bool
     requires statement { at < count statements.now }
     requires declarator { which < count declarators.now }
+    requires told { IfSome lets.now (λ m. Told m statements.now at declarators.now which) }
     ensures { result ≡ reading.passes_any_at (held_at (S.sets steady.now body) statements.now at declarators.now which) gathered init.now shape.now node.now }
 {
     match shape {
@@ -298,6 +394,7 @@ pub fn passes_any_at<S: SteadyNames>(
             which,
             body,
             steady,
+            lets,
         ),
         Shape::ObjectProperty(_, _, _, is_computed) => !*is_computed && is_word(node.shape()),
         Shape::Listed => passes_any_item(
@@ -310,8 +407,19 @@ pub fn passes_any_at<S: SteadyNames>(
             which,
             body,
             steady,
+            lets,
         ),
         Shape::TemplateLiteral => true,
-        _ => passes_any(init, node, statements, at, declarators, which, body, steady),
+        _ => passes_any(
+            init,
+            node,
+            statements,
+            at,
+            declarators,
+            which,
+            body,
+            steady,
+            lets,
+        ),
     }
 }

@@ -1,12 +1,14 @@
 //! Whether what is read may be put there, whatever the initializer does: the way to the read, and
 //! what is evaluated before it.
 
-ghost use Rattle.std.specs.Prelude.{◌≡◌, ◌<◌, false};
+ghost use Rattle.std.specs.Prelude.{◌≡◌, ◌<◌, false, IfSome};
 ghost use Rattle.mini_model.specs.Tree.{children, count, shape_of};
 ghost use Rattle.mini_rows.specs.Past as reading;
 ghost use Rattle.mini_rows.specs.Unused.{begins_with as it_begins_with, is_placed as is_it_placed, is_sure as is_it_sure};
+ghost use Rattle.mini_past.specs.LetPlaces.{Told};
 ghost use Rattle.mini_past.specs.SubstitutePast.{held_at};
 
+use crate::let_places::LetPlaces;
 use crate::passing::passes_any_at;
 use mini_model::{Name, Shape};
 use mini_node::{Node, Nodes};
@@ -76,9 +78,11 @@ fn are_past_in<S: SteadyNames>(
     which: usize,
     body: u32,
     steady: &S,
+    lets: &Option<LetPlaces>,
 ) -> bool
     requires statement { at < count statements.now }
     requires declarator { which < count declarators.now }
+    requires told { IfSome lets.now (λ m. Told m statements.now at declarators.now which) }
     ensures { result ≡ reading.are_past_in (held_at (S.sets steady.now body) statements.now at declarators.now which) name.now gathered init.now node.now }
 {
     is_certain(name, gathered, init, node)
@@ -94,6 +98,7 @@ fn are_past_in<S: SteadyNames>(
             which,
             body,
             steady,
+            lets,
         )
 }
 
@@ -112,9 +117,11 @@ fn all_past<S: SteadyNames>(
     which: usize,
     body: u32,
     steady: &S,
+    lets: &Option<LetPlaces>,
 ) -> bool
     requires statement { at < count statements.now }
     requires declarator { which < count declarators.now }
+    requires told { IfSome lets.now (λ m. Told m statements.now at declarators.now which) }
     ensures { result ≡ reading.all_past (held_at (S.sets steady.now body) statements.now at declarators.now which) name.now gathered init.now shape.now 0 nodes.now }
 {
     for place in 0..nodes.len() {
@@ -131,6 +138,7 @@ fn all_past<S: SteadyNames>(
                 which,
                 body,
                 steady,
+                lets,
             );
         }
         if !passes_any_at(
@@ -144,6 +152,7 @@ fn all_past<S: SteadyNames>(
             which,
             body,
             steady,
+            lets,
         ) {
             return false;
         }
@@ -164,9 +173,11 @@ pub fn are_past<S: SteadyNames>(
     which: usize,
     body: u32,
     steady: &S,
+    lets: &Option<LetPlaces>,
 ) -> bool
     requires statement { at < count statements.now }
     requires declarator { which < count declarators.now }
+    requires told { IfSome lets.now (λ m. Told m statements.now at declarators.now which) }
     ensures { result ≡ reading.are_past (held_at (S.sets steady.now body) statements.now at declarators.now which) name.now init.now node.now }
 {
     are_past_in(
@@ -180,5 +191,6 @@ pub fn are_past<S: SteadyNames>(
         which,
         body,
         steady,
+        lets,
     ) && fits_in(init, node)
 }

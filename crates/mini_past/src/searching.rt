@@ -1,17 +1,20 @@
 //! Row 71 past steady names in the statements of a body: `let x = a(); return g(x);` becomes
 //! `; return g(a());`, where g is steady there.
 
-ghost use Rattle.std.specs.Prelude.{◌≡◌, ◌+◌, ◌<◌, ◌^◌, suc, true, None};
+ghost use Rattle.std.specs.Prelude.{◌≡◌, ◌+◌, ◌<◌, ◌^◌, suc, true, None, IfSome};
 ghost use Rattle.mini_model.specs.Tree.{child_or_absent, children, count};
 ghost use Rattle.mini_node.specs.Children.{names};
 ghost use Rattle.mini_node.specs.Kinds.{is_listed as is_it_listed};
 ghost use Rattle.mini_unused.specs.RemoveUnusedDeclaration.{list_at};
+ghost use Rattle.mini_unused.specs.SubstituteSingleUse.{last_place};
+ghost use Rattle.mini_past.specs.LetPlaces.{Told};
 ghost use Rattle.mini_rows.specs.Past.{are_past as are_it_past};
 ghost use Rattle.mini_rows.specs.Unused.{evaluated as evaluated_in, reads_head as reads_it_head};
 ghost use Rattle.mini_past.specs.SubstitutePast as row;
 ghost use Rattle.mini_past.specs.SubstitutePast.{PastAt, PastRemoved, held_at};
 
 use crate::declared::may_pass_by;
+use crate::let_places::LetPlaces;
 use crate::names::PastNames;
 use crate::next_declarators::substitute_next_past;
 use crate::reaching::are_past;
@@ -46,10 +49,12 @@ fn passes_next<S: SteadyNames>(
     which: usize,
     body: u32,
     steady: &S,
+    lets: &Option<LetPlaces>,
 ) -> bool
     requires next { at + 1 < count statements.now }
     requires fits { at + 2 < 2 ^ 64 }
     requires declarator { which < count declarators.now }
+    requires told { IfSome lets.now (λ m. Told m statements.now at declarators.now which) }
     ensures { result ≡ are_it_past (held_at (S.sets steady.now body) statements.now at declarators.now which) name.now init.now (evaluated_in (child_or_absent statements.now (suc at))) }
 {
     are_past(
@@ -62,6 +67,7 @@ fn passes_next<S: SteadyNames>(
         which,
         body,
         steady,
+        lets,
     )
 }
 
@@ -76,17 +82,29 @@ fn is_read_past<S: SteadyNames>(
     at: usize,
     body: u32,
     steady: &S,
+    lets: &Option<LetPlaces>,
 ) -> bool
     requires declarator { which < count declarators.now }
     requires next { at + 1 < count statements.now }
     requires fits { at + 2 < 2 ^ 64 }
+    requires told { IfSome lets.now (λ m. Told m statements.now at declarators.now which) }
     ensures { result ≡ row.is_read_past (S.sets steady.now body) (names name.now) outside.now init.now declarators.now which statements.now at }
 {
     match name {
         Some(name) => {
             reads_next(name, statements, at)
                 && !is_mentioned(name, outside)
-                && passes_next(name, init, statements, at, declarators, which, body, steady)
+                && passes_next(
+                    name,
+                    init,
+                    statements,
+                    at,
+                    declarators,
+                    which,
+                    body,
+                    steady,
+                    lets,
+                )
                 && !is_declared_over(name, init, declarators, which)
                 && !is_mentioned_around(name, statements, at)
         }
@@ -103,10 +121,12 @@ fn is_past_declarator<S: PastNames>(
     at: usize,
     body: u32,
     steady: &S,
+    lets: &Option<LetPlaces>,
 ) -> bool
     requires declarator { which < count (children list.now) }
     requires next { at + 1 < count statements.now }
     requires fits { at + 2 < 2 ^ 64 }
+    requires told { IfSome lets.now (λ m. Told m statements.now at (children list.now) which) }
     ensures { result ≡ row.is_past_declarator (S.sets steady.now body) is_free (S.lets steady.now) list.now which outside.now statements.now at }
 {
     let declarator = list.child(which);
@@ -121,6 +141,7 @@ fn is_past_declarator<S: PastNames>(
             at,
             body,
             steady,
+            lets,
         )
 }
 
@@ -134,9 +155,11 @@ pub fn is_past<S: PastNames>(
     at: usize,
     body: u32,
     steady: &S,
+    lets: &Option<LetPlaces>,
 ) -> bool
     requires next { at + 1 < count statements.now }
     requires fits { at + 2 < 2 ^ 64 }
+    requires told { IfSome lets.now (λ m. Told m statements.now at (children (list_at statements.now at)) (last_place (children (list_at statements.now at)))) }
     ensures past { result ≡ row.is_past (S.sets steady.now body) (S.lets steady.now) outside.now statements.now at }
     ensures list { result ≡ true → 0 < count (children (child_or_absent statements.now at)) }
     ensures declarators { result ≡ true → 0 < count (children (list_at statements.now at)) }
@@ -160,6 +183,7 @@ pub fn is_past<S: PastNames>(
         at,
         body,
         steady,
+        lets,
     )
 }
 
@@ -172,7 +196,7 @@ fn past_at<S: PastNames>(outside: &Node, statements: &Nodes, body: u32, steady: 
         return None;
     }
     for at in 0..count - 1 {
-        if is_past(outside, statements, at, body, steady) {
+        if is_past(outside, statements, at, body, steady, &None) {
             return Some(at);
         }
     }

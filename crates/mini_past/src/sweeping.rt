@@ -1,22 +1,33 @@
 //! Where one name has gone from a list of statements, the others are looked for from there on: each
 //! declarator once, so that no look begins anew.
 
-ghost use Rattle.std.specs.Prelude.{◌≡◌, ◌+◌, ◌<◌, ◌^◌, ◌||◌, true, false, Some};
+ghost use Rattle.std.specs.Prelude.{◌≡◌, ◌+◌, ◌<◌, ◌^◌, ◌||◌, true, false, Some, IfSome};
 ghost use Rattle.mini_model.specs.Tree.{children, count};
 ghost use Rattle.mini_laws.specs.ScopeList.{has_eval};
 ghost use Rattle.mini_node.specs.Kinds.{is_listed as is_it_listed};
+ghost use Rattle.mini_node.specs.Children.{part};
 ghost use Rattle.mini_unused.specs.Chains.{Chain};
+ghost use Rattle.mini_unused.specs.RemoveUnusedDeclaration.{list_at};
+ghost use Rattle.mini_unused.specs.Sweep.{declarators_of};
+ghost use Rattle.mini_past.specs.LetPlaces.{Told, ToldAt};
 ghost use Rattle.mini_past.specs.SubstitutePast.{Calm, PastGone, PastNextOf, Swept};
 
+use crate::let_places::{LetPlaces, first_places};
 use crate::names::PastNames;
 use crate::next_declarators::is_past_by_next;
 use crate::searching::is_past;
 use mini_node::{Node, Nodes};
 use mini_unused::{
-    declarators_at, has_next, is_lexical, last_declarator, may_declare, substitute_in_list,
-    substitute_next,
+    declarators_at, declares_list, has_next, is_lexical, last_declarator, may_declare,
+    substitute_in_list, substitute_next,
 };
 use std::alloc::Global;
+
+// A statement of fewer declarators than these is gone through for each name, without a table.
+const FEW: usize = 16;
+
+// A statement of more declarators than these has no table.
+const MANY: usize = 1073741824;
 
 // The declarator at the place goes where it is the last one of the statement and the next statement
 // reads its name so.
@@ -28,11 +39,14 @@ fn sweep_last<S: PastNames>(
     which: usize,
     body: u32,
     steady: &S,
+    lets: &Option<LetPlaces>,
 )
     requires fits { at + 1 < 2 ^ 64 }
     requires fits_too { which + 1 < 2 ^ 64 }
     requires calm { Calm outside.now list.old }
-    ensures { Swept (S.sets steady.now body) (S.lets steady.now) outside.now list.old list.new }
+    requires told { ToldAt lets.now list.old at which }
+    ensures swept { Swept (S.sets steady.now body) (S.lets steady.now) outside.now list.old list.new }
+    ensures told { ToldAt lets.now list.new at which }
 {
     if declarators_at(list, at) != which + 1 {
         return;
@@ -40,7 +54,7 @@ fn sweep_last<S: PastNames>(
     if !has_next(list, at) {
         return;
     }
-    if !is_past(outside, list.children(), at, body, steady) {
+    if !is_past(outside, list.children(), at, body, steady, lets) {
         return;
     }
     let last = last_declarator(list, at);
@@ -56,10 +70,12 @@ fn is_next_there<S: PastNames>(
     which: usize,
     body: u32,
     steady: &S,
+    lets: &Option<LetPlaces>,
 ) -> bool
     requires statement { at < count statements.now }
     requires fits { at + 1 < 2 ^ 64 }
     requires fits_too { which + 1 < 2 ^ 64 }
+    requires told { IfSome lets.now (λ m. Told m statements.now at (children (list_at statements.now at)) which) }
     ensures { result ≡ true → PastNextOf (S.sets steady.now body) (S.lets steady.now) outside.now statements.now at (Some which) }
 {
     let statement = statements.child(at);
@@ -71,7 +87,9 @@ fn is_next_there<S: PastNames>(
         return false;
     }
     let is_free = is_lexical(statement.shape());
-    is_past_by_next(is_free, list, which, outside, statements, at, body, steady)
+    is_past_by_next(
+        is_free, list, which, outside, statements, at, body, steady, lets,
+    )
 }
 
 // The declarator at the place goes where the next one reads its name so.
@@ -82,16 +100,19 @@ fn sweep_next<S: PastNames>(
     which: usize,
     body: u32,
     steady: &S,
+    lets: &Option<LetPlaces>,
 )
     requires fits { at + 1 < 2 ^ 64 }
     requires fits_too { which + 1 < 2 ^ 64 }
     requires calm { Calm outside.now list.old }
-    ensures { Swept (S.sets steady.now body) (S.lets steady.now) outside.now list.old list.new }
+    requires told { ToldAt lets.now list.old at which }
+    ensures swept { Swept (S.sets steady.now body) (S.lets steady.now) outside.now list.old list.new }
+    ensures told { ToldAt lets.now list.new at which }
 {
     if at >= list.children().len() {
         return;
     }
-    if !is_next_there(outside, list.children(), at, which, body, steady) {
+    if !is_next_there(outside, list.children(), at, which, body, steady, lets) {
         return;
     }
     substitute_next(list, at, which);
@@ -107,14 +128,46 @@ fn sweep_declarator<S: PastNames>(
     which: usize,
     body: u32,
     steady: &S,
+    lets: &Option<LetPlaces>,
 )
     requires fits { at + 1 < 2 ^ 64 }
     requires fits_too { which + 1 < 2 ^ 64 }
     requires calm { Calm outside.now list.old }
-    ensures { Swept (S.sets steady.now body) (S.lets steady.now) outside.now list.old list.new }
+    requires told { ToldAt lets.now list.old at which }
+    ensures swept { Swept (S.sets steady.now body) (S.lets steady.now) outside.now list.old list.new }
+    ensures told { ToldAt lets.now list.new at which }
 {
-    sweep_last(alloc, outside, list, at, which, body, steady);
-    sweep_next(outside, list, at, which, body, steady);
+    sweep_last(alloc, outside, list, at, which, body, steady, lets);
+    sweep_next(outside, list, at, which, body, steady, lets);
+}
+
+// So many that a table is made.
+fn are_many(count: usize) -> bool
+    ensures { result ≡ true → count + 1 < 2 ^ 64 }
+{
+    FEW <= count && count <= MANY
+}
+
+// Where the declarators of the statement at the index are many, the first places of what they and the statements declare.
+fn places_for(alloc: Global, list: &Node, at: usize) -> Option<LetPlaces>
+    requires { at + 1 < 2 ^ 64 }
+    ensures { ToldAt result list.now at (declarators_of (part list.now at)) }
+{
+    if at >= list.children().len() {
+        return None;
+    }
+    let statement = list.child(at);
+    if !declares_list(statement) {
+        return None;
+    }
+    let declarators = statement.child(0).children();
+    if !are_many(declarators.len()) {
+        return None;
+    }
+    match first_places(alloc, list.children(), at, declarators) {
+        Ok(lets) => Some(lets),
+        Err(_) => None,
+    }
 }
 
 // The declarators of a statement, the last one first.
@@ -131,8 +184,18 @@ fn sweep_statement<S: PastNames>(
     ensures { Swept (S.sets steady.now body) (S.lets steady.now) outside.now list.old list.new }
 {
     let count = declarators_at(list, at);
+    let lets = places_for(alloc, list, at);
     for passed in 0..count {
-        sweep_declarator(alloc, outside, list, at, count - 1 - passed, body, steady);
+        sweep_declarator(
+            alloc,
+            outside,
+            list,
+            at,
+            count - 1 - passed,
+            body,
+            steady,
+            &lets,
+        );
     }
 }
 
