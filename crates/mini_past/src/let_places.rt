@@ -1,5 +1,6 @@
-//! Of a list of declarators and the statements before it, the first place at which each symbol is declared, found once, so that the list
-//! isn't gone through for each name. Places are 0 in a statement, 1 in the first declarator, and so on.
+//! The first place at which each symbol is declared in the declarators of a statement and in the
+//! statements before it: found once, so that the list isn't gone through for each name. The place
+//! is 0 in a statement, 1 in the first declarator, and so on.
 
 ghost use Rattle.std.specs.Prelude.{◌≡◌, ◌+◌, ◌<◌, ◌≤◌, ◌^◌, ◌&&◌, not, nat_eq, true, IfOk, IfSome, OnOk};
 ghost use Rattle.mini_model.specs.Tree.{children, count, shape_of};
@@ -17,18 +18,20 @@ use mini_unused::{declares_list, is_childless, is_declarator, is_lexical};
 use std::alloc::Global;
 use std::collections::BTreeMap;
 
-/// The first places of symbols.
+/// For each symbol the first place at which it is declared in the declarators of a statement and
+/// the statements before it.
 #[derive(Drop)]
 pub struct LetPlaces {
-    /// Where each is declared.
+    /// The first place at which the symbol is declared.
     pub bound: BTreeMap<u32, usize>,
-    /// Where each is declared by anything but a declarator of a `let` or a `const` that has it as its only name.
+    /// The first place at which the symbol is declared by anything but a declarator of a `let` or a
+    /// `const` that has it as its only name.
     pub hidden: BTreeMap<u32, usize>,
-    /// Where each is declared in any of the statements, which is 0.
+    /// The place 0 for each symbol that any statement of the list declares.
     pub all: BTreeMap<u32, usize>,
 }
 
-// The symbol has a place up to this one.
+// Whether the symbol has a place up to this one.
 fn reaches(places: &BTreeMap<u32, usize>, symbol: u32, place: usize) -> bool
     ensures { result ≡ row.reaches places.now symbol place }
 {
@@ -51,6 +54,7 @@ fn mark(places: &mut BTreeMap<u32, usize>, symbol: u32, place: usize) -> Result<
     }
 }
 
+// Whether a node of this shape declares a name.
 fn is_binding(shape: &Shape) -> bool
     ensures { result ≡ reading.is_binding shape.now }
 {
@@ -73,7 +77,7 @@ fn mark_own(places: &mut BTreeMap<u32, usize>, node: &Node, place: usize) -> Res
     }
 }
 
-// Marks each name that the node declares.
+// Marks each name that the node declares, at any depth.
 #[cycle(marking)]
 fn mark_names(
     places: &mut BTreeMap<u32, usize>,
@@ -86,6 +90,7 @@ fn mark_names(
     mark_all(places, node.children(), place)
 }
 
+// Marks each name that any of the nodes declares, at any depth.
 #[cycle(marking)]
 fn mark_all(
     places: &mut BTreeMap<u32, usize>,
@@ -100,13 +105,14 @@ fn mark_all(
     Ok(())
 }
 
+// Whether the node declares one plain name.
 fn is_plain_name(node: &Node) -> bool
     ensures { result ≡ row.is_plain_name node.now }
 {
     is_binding(node.shape()) && (node.name().is_some() && is_childless(node))
 }
 
-// `y = v`.
+// Whether the declarator is `y = v` with a plain name.
 fn is_plain(declarator: &Node) -> bool
     ensures kind { result ≡ row.is_plain declarator.now }
     ensures parts { result ≡ true → count (children declarator.now) ≡ 2 }
@@ -114,7 +120,7 @@ fn is_plain(declarator: &Node) -> bool
     is_declarator(declarator) && is_plain_name(declarator.child(0))
 }
 
-// Marks each name that the declarator declares in another way.
+// Marks each name that the declarator declares but as the plain name of a `let` or a `const`.
 fn mark_hidden(
     places: &mut BTreeMap<u32, usize>,
     is_lexical: bool,
@@ -129,7 +135,8 @@ fn mark_hidden(
     mark_names(places, declarator, place)
 }
 
-// So do some declarators of a statement.
+// Marks each name that one of the declarators declares but as the plain name of a `let` or a
+// `const`.
 fn mark_all_hidden(
     places: &mut BTreeMap<u32, usize>,
     is_lexical: bool,
@@ -143,7 +150,7 @@ fn mark_all_hidden(
     Ok(())
 }
 
-// So does a statement.
+// Marks each name that the statement declares but as the plain name of a `let` or a `const`.
 fn mark_hidden_here(places: &mut BTreeMap<u32, usize>, statement: &Node) -> Result<(), OutOfMemory>
     ensures { OnOk result (Marked (λ k. not (reading.lets_here k statement.now)) 0 places.old places.new) }
 {
@@ -154,7 +161,8 @@ fn mark_hidden_here(places: &mut BTreeMap<u32, usize>, statement: &Node) -> Resu
     mark_all_hidden(places, is_lexical, statement.child(0).children())
 }
 
-// Marks each name that the statement declares, or declares in another way.
+// Marks each name that the statement declares; where `by_let` is set, plain names of a `let` or a
+// `const` aside.
 fn mark_here(
     by_let: bool,
     places: &mut BTreeMap<u32, usize>,
@@ -169,7 +177,8 @@ fn mark_here(
     }
 }
 
-// So of the declarator.
+// Marks each name that the declarator declares; where `by_let` is set, the plain name of a `let` or
+// a `const` aside.
 fn mark_there(
     by_let: bool,
     places: &mut BTreeMap<u32, usize>,
@@ -186,7 +195,7 @@ fn mark_there(
     }
 }
 
-// So of all statements before an index.
+// Marks the names of all statements before the index, by `mark_here`.
 fn mark_statements(
     by_let: bool,
     places: &mut BTreeMap<u32, usize>,
@@ -202,7 +211,7 @@ fn mark_statements(
     Ok(())
 }
 
-// So of all declarators, each at its place.
+// Marks the names of all declarators, each at its place, by `mark_there`.
 fn mark_declarators(
     by_let: bool,
     places: &mut BTreeMap<u32, usize>,
@@ -218,7 +227,7 @@ fn mark_declarators(
     Ok(())
 }
 
-// The places of both.
+// The first places of the names of the statements before the index and of the declarators.
 fn places_by(
     alloc: Global,
     by_let: bool,
@@ -237,7 +246,7 @@ fn places_by(
     Ok(places)
 }
 
-// Of all statements.
+// The place 0 for each name that any of the statements declares.
 fn all_places(alloc: Global, statements: &Nodes) -> Result<BTreeMap<u32, usize>, OutOfMemory>
     ensures { IfOk result (λ places. Nowhere places statements.now) }
 {
@@ -246,7 +255,8 @@ fn all_places(alloc: Global, statements: &Nodes) -> Result<BTreeMap<u32, usize>,
     Ok(places)
 }
 
-/// The first places of what the declarators of the statement at the index and the statements before it declare, and of what all of them do.
+/// The first places of the names that the declarators of the statement at the index, and the
+/// statements before it, declare; `OutOfMemory` where a table can't grow.
 pub fn first_places(
     alloc: Global,
     statements: &Nodes,
@@ -264,7 +274,8 @@ pub fn first_places(
     Ok(LetPlaces { bound, hidden, all })
 }
 
-/// A declarator before the place, or a statement before theirs, has initialised the name, and no scope in them hides it.
+/// Whether a declarator before the place, or a statement before theirs, has initialised the name,
+/// and no scope in them hides it: by the table where there is one, else by going through the list.
 #[tactic(auto, using(crate::proofs::FirstPlaces::let_told))]
 pub fn is_let_by(
     symbol: SymbolId,
@@ -287,7 +298,7 @@ pub fn is_let_by(
     }
 }
 
-/// One of the statements declares the name.
+/// Whether one of the statements declares the name, by the table where there is one.
 pub fn is_bound_in(symbol: SymbolId, statements: &Nodes, lets: &Option<LetPlaces>) -> bool
     requires { IfSome lets.now (λ m. Nowhere m.all statements.now) }
     ensures { result ≡ reading.any_bind symbol.0 statements.now }
