@@ -1,5 +1,5 @@
--- Of a list of declarators and the statements before it the first place at which each symbol is declared: 0 in a statement, and so many as
--- stand up to it in a declarator.
+-- Of a list of declarators and the statements before it the first place at which each symbol is
+-- declared: 0 in a statement, and so many as stand up to it in a declarator.
 use Rattle.std.specs.Prelude.{◌≡◌, ◌≤◌, ℕ, Bool, true, false, not, ◌&&◌, ◌||◌, List, [], ◌∷◌, Option, Some, None, nat_le, IfSome}
 use Rattle.std.specs.BTreeMap.{BTreeMap, get}
 use Rattle.std.specs.Ordering.{nat_cmp}
@@ -53,7 +53,8 @@ passes_there true is_lexical k d = lets_at_most is_lexical k d
 abbrev pub Placed : Bool → Bool → Trees → ℕ → Places → Places → Type 0
 Placed by_let is_lexical ds i m n = (k w : ℕ) → reaches n k w ≡ (reaches m k w || not (all_of (passes_there by_let is_lexical k) (first_children w (first_children i ds))))
 
--- up to so many declarators the places tell of each symbol whether a statement or a declarator doesn't pass
+-- up to so many declarators the places tell of each symbol whether a statement or a declarator
+-- doesn't pass
 abbrev pub Tells : Bool → Bool → Places → Trees → Trees → ℕ → Type 0
 Tells by_let is_lexical m before ds n =
     (k w : ℕ) → w ≤ n → reaches m k w ≡ not (all_of (passes_here by_let k) before && all_of (passes_there by_let is_lexical k) (first_children w ds))

@@ -1,5 +1,6 @@
-//! Of a list of declarators and the statements before it, the first place at which each symbol is declared, found once, so that the list
-//! isn't gone through for each name. Places are 0 in a statement, 1 in the first declarator, and so on.
+//! Of a list of declarators and the statements before it, the first place at which each symbol is
+//! declared, found once, so that the list isn't gone through for each name. Places are 0 in a
+//! statement, 1 in the first declarator, and so on.
 
 ghost use Rattle.std.specs.Prelude.{◌≡◌, ◌+◌, ◌<◌, ◌≤◌, ◌^◌, ◌&&◌, not, nat_eq, true, IfOk, IfSome, OnOk};
 ghost use Rattle.mini_model.specs.Tree.{children, count, shape_of};
@@ -22,7 +23,8 @@ use std::collections::BTreeMap;
 pub struct LetPlaces {
     /// Where each is declared.
     pub bound: BTreeMap<u32, usize>,
-    /// Where each is declared by anything but a declarator of a `let` or a `const` that has it as its only name.
+    /// Where each is declared by anything but a declarator of a `let` or a `const` that has it as
+    /// its only name.
     pub hidden: BTreeMap<u32, usize>,
     /// Where each is declared in any of the statements, which is 0.
     pub all: BTreeMap<u32, usize>,
@@ -246,7 +248,8 @@ fn all_places(alloc: Global, statements: &Nodes) -> Result<BTreeMap<u32, usize>,
     Ok(places)
 }
 
-/// The first places of what the declarators of the statement at the index and the statements before it declare, and of what all of them do.
+/// The first places of what the declarators of the statement at the index and the statements before
+/// it declare, and of what all of them do.
 pub fn first_places(
     alloc: Global,
     statements: &Nodes,
@@ -264,7 +267,8 @@ pub fn first_places(
     Ok(LetPlaces { bound, hidden, all })
 }
 
-/// A declarator before the place, or a statement before theirs, has initialised the name, and no scope in them hides it.
+/// A declarator before the place, or a statement before theirs, has initialised the name, and no
+/// scope in them hides it.
 #[tactic(auto, using(crate::proofs::FirstPlaces::let_told))]
 pub fn is_let_by(
     symbol: SymbolId,

@@ -148,7 +148,8 @@ fn are_many(count: usize) -> bool
     FEW <= count && count <= MANY
 }
 
-// Where the declarators of the statement at the index are many, the first places of what they and the statements declare.
+// Where the declarators of the statement at the index are many, the first places of what they and
+// the statements declare.
 fn places_for(alloc: Global, list: &Node, at: usize) -> Option<LetPlaces>
     requires { at + 1 < 2 ^ 64 }
     ensures { ToldAt result list.now at (declarators_of (part list.now at)) }
