@@ -1,5 +1,5 @@
 -- One look that tells whether a name is mentioned, and whether an initializer may be put where it is.
-use Rattle.std.proofs.Common.{◌≡◌, ℕ, zero, suc, ◌+◌, ◌<◌, ◌≤◌, Bool, true, false, List, [], ◌∷◌, refl, sym, ap, subst, ◌∙◌, true≢false, arith}
+use Rattle.std.proofs.Common.{◌≡◌, ℕ, zero, suc, ◌+◌, ◌<◌, ◌≤◌, Bool, true, false, [], ◌∷◌, refl, sym, ap, subst, ◌∙◌, true≢false, arith}
 use Rattle.std.specs.Prelude.{◌&&◌, ◌||◌, is_some, nat_eq, if◌then◌else◌, Option, Some, None}
 use Rattle.std.proofs.lemmas.Bool.{eqb-true}
 use Rattle.mini_model.specs.declared.name.Name.{Name}
@@ -8,8 +8,8 @@ use Rattle.mini_model.specs.Tree.{Tree, Trees, node, none, ◌▸◌, count, chi
 use Rattle.mini_node.specs.Children.{names as names_in, names_of, first_children}
 use Rattle.mini_rows.specs.Past.{Kept, passes_any_at, is_certain, are_past_in, all_past, all_of}
 use Rattle.mini_rows.specs.declared.gathered.Gathered.{Gathered}
-use Rattle.mini_rows.specs.Unused.{names, any_names, begins_with, suits, is_placed, is_sure, gathered_below}
-use Rattle.mini_past.specs.Looks.{FirstAt, Looked, LookedAlong}
+use Rattle.mini_rows.specs.Unused.{names, any_names, begins_with, gathered_below}
+use Rattle.mini_past.specs.Looks.{FirstAt, Looked}
 use Rattle.mini_past.proofs.PassedParts.{opened}
 
 or_left : (a b : Bool) → (a || b) ≡ false → a ≡ false

@@ -223,8 +223,8 @@ fn is_certain_at(name: &Name, gathered: Gathered, init: &Node, node: &Node, plac
             && (is_sure(node.shape()) || begins_at(name, node.children(), place)))
 }
 
-// The part at the place is the first that mentions the name. Whether the initializer may be put
-// there, where that is so of the part.
+// Whether the initializer may be put into the node, where the part at the place is the first that
+// mentions the name, and the flag says whether the initializer may be put into that part.
 fn is_past_at<S: SteadyNames>(
     passes: bool,
     name: &Name,
@@ -264,7 +264,8 @@ fn is_past_at<S: SteadyNames>(
             ))
 }
 
-// Whether the node mentions the name, and then whether the initializer may be put there.
+// None where the node doesn't mention the name, and else whether the initializer may be put there:
+// two walks, one for each question.
 fn look_whole<S: SteadyNames>(
     name: &Name,
     gathered: Gathered,
@@ -301,7 +302,8 @@ fn look_whole<S: SteadyNames>(
     ))
 }
 
-// The same in one walk, where the node has no name of its own.
+// None where the node doesn't mention the name, and else whether the initializer may be put there: one
+// walk over the nodes that have no name of their own.
 #[cycle(looks)]
 fn look<S: SteadyNames>(
     name: &Name,
@@ -369,8 +371,8 @@ fn look<S: SteadyNames>(
     }
 }
 
-// The first of some parts of a node of such a shape that mentions the name, and whether the
-// initializer may be put there.
+// The place of the first of some parts that mentions the name, in a node of such a shape, and whether
+// the initializer may be put there. None where no part does.
 #[cycle(looks)]
 fn look_along<S: SteadyNames>(
     name: &Name,
@@ -412,7 +414,8 @@ fn look_along<S: SteadyNames>(
     None
 }
 
-// Whether the initializer may be put there, found in one walk where the name is mentioned.
+// Whether the initializer may be put where the node reads the name: one walk, and for a node that
+// doesn't mention it another one over its parts.
 fn is_past_along<S: SteadyNames>(
     name: &Name,
     gathered: Gathered,
