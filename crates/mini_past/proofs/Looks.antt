@@ -1,4 +1,5 @@
--- One look that tells whether a name is mentioned, and whether an initializer may be put where it is.
+-- One look that tells whether a name is mentioned, and whether an initializer may be put where it
+-- is.
 use Rattle.std.proofs.Common.{◌≡◌, ℕ, zero, suc, ◌+◌, ◌<◌, ◌≤◌, Bool, true, false, [], ◌∷◌, refl, sym, ap, subst, ◌∙◌, true≢false, arith}
 use Rattle.std.specs.Prelude.{◌&&◌, ◌||◌, is_some, nat_eq, if◌then◌else◌, Option, Some, None}
 use Rattle.std.proofs.lemmas.Bool.{eqb-true}
@@ -48,7 +49,8 @@ none_named None t e f = f
 none_named (Some x) t e f = absurd (true≢false (sym e))
 
 module _ (H : Kept) (x : Name) (m : Gathered) (r : Tree) (s : Shape) where
-  -- those before it may be evaluated before the initializer, and so may what comes before the read in it
+  -- those before it may be evaluated before the initializer, and so may what comes before the read
+  -- in it
   pub past_at : (ts : Trees) (i j : ℕ) → i < count ts → any_names x (first_children i ts) ≡ false → names x (child_or_absent ts i) ≡ true → all_past H x m r s j ts ≡ (all_of (passes_any_at H m r s) (first_children i ts) && are_past_in H x (gathered_below m s (j + i)) r (child_or_absent ts i))
   past_at none i j l f n = absurd (omega (arith, l))
   past_at (t ▸ ts) zero j l f n =

@@ -1,5 +1,5 @@
--- A look for a name in a tree that tells, where the name is mentioned, whether an initializer may be
--- put there.
+-- A look for a name in a tree that tells, where the name is mentioned, whether an initializer may
+-- be put there.
 use Rattle.std.specs.Prelude.{◌≡◌, ◌<◌, ℕ, Bool, true, false, Option, Some, None}
 use Rattle.mini_model.specs.declared.name.Name.{Name}
 use Rattle.mini_model.specs.declared.shape.Shape.{Shape}

@@ -302,8 +302,8 @@ fn look_whole<S: SteadyNames>(
     ))
 }
 
-// None where the node doesn't mention the name, and else whether the initializer may be put there: one
-// walk over the nodes that have no name of their own.
+// None where the node doesn't mention the name, and else whether the initializer may be put there:
+// one walk over the nodes that have no name of their own.
 #[cycle(looks)]
 fn look<S: SteadyNames>(
     name: &Name,
@@ -371,8 +371,8 @@ fn look<S: SteadyNames>(
     }
 }
 
-// The place of the first of some parts that mentions the name, in a node of such a shape, and whether
-// the initializer may be put there. None where no part does.
+// The place of the first of some parts that mentions the name, in a node of such a shape, and
+// whether the initializer may be put there. None where no part does.
 #[cycle(looks)]
 fn look_along<S: SteadyNames>(
     name: &Name,
