@@ -1,4 +1,5 @@
 pub mod PassedParts
+pub mod Looks
 pub mod Firsts
 pub mod FirstPlaces
 pub mod StillTold

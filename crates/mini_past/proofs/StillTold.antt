@@ -1,4 +1,5 @@
--- Where a name goes from a list, what the places tell of the declarators before it and of the statements before theirs stays true.
+-- Where a name goes from a list, what the places tell of the declarators before it and of the
+-- statements before theirs stays true.
 use Rattle.std.proofs.Common.{◌≡◌, ℕ, zero, suc, ◌+◌, ◌<◌, ◌≤◌, Bool, true, false, List, [], ◌∷◌, refl, sym, ap, subst, ◌∙◌, true≢false, arith}
 use Rattle.std.specs.Prelude.{◌&&◌, ◌||◌, not, Option, Some, None, IfSome, if◌then◌else◌}
 use Rattle.mini_model.specs.declared.name.Name.{Name}
