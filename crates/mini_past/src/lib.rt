@@ -24,9 +24,7 @@ pub use functions::{
     substitute_past_in_static,
 };
 pub use inside::{PastEnds, SubstitutePastInside};
-pub use let_places::LetPlaces;
 pub use names::{PastContext, PastNames};
-pub use reaching::are_past;
 pub use rule::{
     SubstitutePast, SubstitutePastArrows, SubstitutePastModules, SubstitutePastStatics,
 };
