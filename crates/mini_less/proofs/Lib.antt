@@ -38,3 +38,4 @@ pub mod Whole
 pub mod IfsLess
 pub mod BodiesLess
 pub mod BodyThisLess
+pub mod OwnLess

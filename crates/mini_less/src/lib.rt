@@ -3,6 +3,7 @@
 #![tactic(auto)]
 
 ghost use Rattle.mini_less.specs.Families.{ConstantsReadLess, SequencesReadLess, TemplatesReadLess, BooleansReadLess, NegationsReadLess, ChoicesReadLess, WritesReadLess, KeysReadLess, FoldingsReadLess, DeMorganReadsLess, WholeFamiliesReadLess, IfRowsLess, BodyRowsLess, BodyRowsOfThisLess, FirstRowsReadLess, OperandsReadLess, SpellingsReadLess, ReadsLessJoins, ReadsLessNarrows, ListRowsLess, MoreRowsLess, TurnsReadLess, TurnsShrink};
+ghost use Rattle.mini_less.specs.Own.{SteadyReadsLess, LexicalReadsLess, PastBlocksReadLess};
 ghost use Rattle.mini_less.specs.Rebuilt.{ListsAskLess, StatementsAskLess};
 
 use mini_laws::Rewrites;
@@ -125,4 +126,13 @@ pub fn body_rows_less()
 /// Rows that rest on what is known of the body around, of members and of `this`.
 pub fn body_rows_of_this_less()
     ensures { BodyRowsOfThisLess }
+{}
+
+/// Rows that rest on what is known of a body, in its own code: those of members and of `this` read
+/// less in a function, an arrow function, a program, a static block and an inner expression; so do
+/// those of lexical names and of declarations that are put where they are used, if the rows do.
+pub fn own_rows_read_less()
+    ensures steady { SteadyReadsLess }
+    ensures lexical { LexicalReadsLess }
+    ensures past { PastBlocksReadLess }
 {}
