@@ -39,3 +39,6 @@ pub mod IfsLess
 pub mod BodiesLess
 pub mod BodyThisLess
 pub mod OwnLess
+pub mod Calm
+pub mod HeldKeysLess
+pub mod DeclaredKeysLess

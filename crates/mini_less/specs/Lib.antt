@@ -4,3 +4,4 @@ pub mod Less
 pub mod Neighbours
 pub mod Rebuilt
 pub mod Own
+pub mod HeldKeys
