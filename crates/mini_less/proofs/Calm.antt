@@ -22,7 +22,7 @@ use Rattle.mini_shrink.specs.Pace.{Pace, Silent, all_followed, in_turn, Setting,
 use Rattle.mini_shrink.specs.Questions.{early, listed_names, seen_from}
 use Rattle.mini_rows.specs.KeyHolders.{is_pattern_part}
 
--- a key, and what holds a key and a value
+-- a key, what holds a key and a value, and `return`
 abbrev pub is_calm_shape : Shape → Bool
 is_calm_shape (shape.StringLiteral s) = true
 is_calm_shape (shape.NumericLiteral n) = true
@@ -33,24 +33,37 @@ is_calm_shape (shape.AssignmentTargetPropertyProperty computed) = true
 is_calm_shape shape.AssignmentTargetPropertyIdentifier = true
 is_calm_shape (shape.MethodDefinition kind computed is_static) = true
 is_calm_shape (shape.PropertyDefinition computed is_static) = true
+is_calm_shape shape.ReturnStatement = true
 is_calm_shape h = false
+
+-- these, and what passes on what its parts tell: a list, and the body of a function
+abbrev pub is_passing_shape : Shape → Bool
+is_passing_shape shape.Listed = true
+is_passing_shape shape.FunctionBody = true
+is_passing_shape h = is_calm_shape h
 
 -- these, and parts of a pattern
 abbrev pub is_bare_shape : Shape → Bool
-is_bare_shape shape.Listed = true
 is_bare_shape shape.ObjectPattern = true
 is_bare_shape shape.ArrayPattern = true
 is_bare_shape shape.RestElement = true
 is_bare_shape shape.AssignmentPattern = true
-is_bare_shape h = is_calm_shape h
+is_bare_shape h = is_passing_shape h
+
+pub calm_passing : (h : Shape) → is_calm_shape h ≡ true → is_passing_shape h ≡ true
+calm_passing shape.Listed e = refl
+calm_passing shape.FunctionBody e = refl
+calm_passing h e = e
+
+pub passing_bare : (h : Shape) → is_passing_shape h ≡ true → is_bare_shape h ≡ true
+passing_bare shape.ObjectPattern e = refl
+passing_bare shape.ArrayPattern e = refl
+passing_bare shape.RestElement e = refl
+passing_bare shape.AssignmentPattern e = refl
+passing_bare h e = e
 
 pub calm_bare : (h : Shape) → is_calm_shape h ≡ true → is_bare_shape h ≡ true
-calm_bare shape.Listed e = refl
-calm_bare shape.ObjectPattern e = refl
-calm_bare shape.ArrayPattern e = refl
-calm_bare shape.RestElement e = refl
-calm_bare shape.AssignmentPattern e = refl
-calm_bare h e = e
+calm_bare h e = passing_bare h (calm_passing h e)
 
 pub part_bare : (h : Shape) → is_pattern_part h ≡ true → is_bare_shape h ≡ true
 part_bare shape.Listed e = refl
@@ -103,11 +116,11 @@ bare_params b (shape.Function d g ds) e ts = absurd (cc e)
 bare_params b (shape.ArrowFunctionExpression ds) e ts = absurd (cc e)
 bare_params b h e ts = refl
 
-pub calm_pattern : (h : Shape) → is_calm_shape h ≡ true → (n : ℕ) (ts : Trees) → own_pattern_names h n ts ≡ []
-calm_pattern shape.ObjectPattern e n ts = absurd (cc e)
-calm_pattern shape.ArrayPattern e n ts = absurd (cc e)
-calm_pattern shape.AssignmentPattern e n ts = absurd (cc e)
-calm_pattern h e n ts = refl
+pub passing_pattern : (h : Shape) → is_passing_shape h ≡ true → (n : ℕ) (ts : Trees) → own_pattern_names h n ts ≡ []
+passing_pattern shape.ObjectPattern e n ts = absurd (cc e)
+passing_pattern shape.ArrayPattern e n ts = absurd (cc e)
+passing_pattern shape.AssignmentPattern e n ts = absurd (cc e)
+passing_pattern h e n ts = refl
 
 pub bare_scopes : (u : Use) (h : Shape) → is_bare_shape h ≡ true → (ts : Trees) (i : ℕ) → opened u h ts i ≡ []
 unfolding scopes_by
@@ -130,17 +143,29 @@ bare_turn shape.ForInStatement e ps = absurd (cc e)
 bare_turn shape.ForOfStatement e ps = absurd (cc e)
 bare_turn h e ps = refl
 
-pub bare_listed : (h : Shape) → is_bare_shape h ≡ true → (ts : Trees) → listed_names h ts ≡ []
-bare_listed (shape.Program m ds) e ts = absurd (cc e)
-bare_listed shape.FunctionBody e ts = absurd (cc e)
-bare_listed shape.StaticBlock e ts = absurd (cc e)
-bare_listed shape.BlockStatement e ts = absurd (cc e)
-bare_listed shape.ForStatement e ts = absurd (cc e)
-bare_listed shape.ForInStatement e ts = absurd (cc e)
-bare_listed shape.ForOfStatement e ts = absurd (cc e)
-bare_listed shape.SwitchStatement e ts = absurd (cc e)
-bare_listed shape.CatchClause e ts = absurd (cc e)
-bare_listed h e ts = refl
+pub calm_listed : (h : Shape) → is_calm_shape h ≡ true → (ts : Trees) → listed_names h ts ≡ []
+calm_listed (shape.Program m ds) e ts = absurd (cc e)
+calm_listed shape.FunctionBody e ts = absurd (cc e)
+calm_listed shape.StaticBlock e ts = absurd (cc e)
+calm_listed shape.BlockStatement e ts = absurd (cc e)
+calm_listed shape.ForStatement e ts = absurd (cc e)
+calm_listed shape.ForInStatement e ts = absurd (cc e)
+calm_listed shape.ForOfStatement e ts = absurd (cc e)
+calm_listed shape.SwitchStatement e ts = absurd (cc e)
+calm_listed shape.CatchClause e ts = absurd (cc e)
+calm_listed h e ts = refl
+
+pub part_listed : (h : Shape) → is_pattern_part h ≡ true → (ts : Trees) → listed_names h ts ≡ []
+part_listed (shape.Program m ds) e ts = absurd (cc e)
+part_listed shape.FunctionBody e ts = absurd (cc e)
+part_listed shape.StaticBlock e ts = absurd (cc e)
+part_listed shape.BlockStatement e ts = absurd (cc e)
+part_listed shape.ForStatement e ts = absurd (cc e)
+part_listed shape.ForInStatement e ts = absurd (cc e)
+part_listed shape.ForOfStatement e ts = absurd (cc e)
+part_listed shape.SwitchStatement e ts = absurd (cc e)
+part_listed shape.CatchClause e ts = absurd (cc e)
+part_listed h e ts = refl
 
 pub calm_alone : (h : Shape) → is_calm_shape h ≡ true → (c : Setting) (s : ℕ) (ts : Trees) → (early 0 s).orders c h ts ≡ false
 calm_alone shape.Listed e c s ts = absurd (cc e)
@@ -148,7 +173,7 @@ calm_alone shape.SwitchCase e c s ts = absurd (cc e)
 calm_alone (shape.VariableDeclaration k) e c s ts = absurd (cc e)
 calm_alone shape.ExportNamedDeclaration e c s ts = absurd (cc e)
 calm_alone shape.ExportDefaultDeclaration e c s ts = absurd (cc e)
-calm_alone h e c s ts = ap (is_among (by_symbol s)) (bare_listed h (calm_bare h e) ts)
+calm_alone h e c s ts = ap (is_among (by_symbol s)) (calm_listed h e ts)
 
 pub bare_calls : (h : Shape) → is_bare_shape h ≡ true → (ts : Trees) → is_eval_call h ts ≡ false
 bare_calls (shape.CallExpression o) e ts = absurd (cc e)
@@ -170,7 +195,7 @@ unseen x sc z i (t ▸ ts) = λ j. (ap (λ bs. any_has_eval (t ▸ ts) && is_amo
 -- ---- questions of which that is so
 
 pub record Quiets (q : Question) : Type 0 where
-  pub silent : (c : Setting) (env : Environment) (h : Shape) → is_calm_shape h ≡ true → (n : ℕ) (ts : Trees) → q.before c env h [] n ts ≡ Silent
+  pub silent : (c : Setting) (env : Environment) (h : Shape) → is_passing_shape h ≡ true → (n : ℕ) (ts : Trees) → q.before c env h [] n ts ≡ Silent
   pub unordered : (c : Setting) (h : Shape) → is_calm_shape h ≡ true → (ts : Trees) → q.orders c h ts ≡ false
   pub unended : (c : Setting) (t : Tree) → c.ordered ≡ false → q.ends c t ≡ false
 
@@ -180,16 +205,16 @@ any_among s xs e = ap (is_among (by_symbol s)) e
 pub each_quiets : (g : Fact) (b s : ℕ) → Quiets (question g b s)
 each_quiets Written b s = record { silent = λ c env h e n ts. ap reads_if (no_mention _ c h); unordered = λ c h e ts. refl; unended = λ c t e. refl }
 each_quiets WrittenElsewhere b s = record { silent = λ c env h e n ts. ap reads_if (no_mention _ c h); unordered = λ c h e ts. refl; unended = λ c t e. refl }
-each_quiets Given b s = record { silent = λ c env h e n ts. ap (λ xs. reads_if (list_any (is_write (by_symbol s)) (map (write_at c.around) xs))) (bare_gives c.used h (calm_bare h e) [] ts); unordered = λ c h e ts. refl; unended = λ c t e. refl }
-each_quiets GivenElsewhere b s = record { silent = λ c env h e n ts. ap (λ xs. reads_if (list_any (λ m. is_write (by_symbol s) m && is_elsewhere b m.around) (map (write_at c.around) xs))) (bare_gives c.used h (calm_bare h e) [] ts); unordered = λ c h e ts. refl; unended = λ c t e. refl }
-each_quiets GivenByPattern b s = record { silent = λ c env h e n ts. ap reads_if (any_among s _ (bare_writes c.used env h (calm_bare h e) ts)); unordered = λ c h e ts. refl; unended = λ c t e. refl }
+each_quiets Given b s = record { silent = λ c env h e n ts. ap (λ xs. reads_if (list_any (is_write (by_symbol s)) (map (write_at c.around) xs))) (bare_gives c.used h (passing_bare h e) [] ts); unordered = λ c h e ts. refl; unended = λ c t e. refl }
+each_quiets GivenElsewhere b s = record { silent = λ c env h e n ts. ap (λ xs. reads_if (list_any (λ m. is_write (by_symbol s) m && is_elsewhere b m.around) (map (write_at c.around) xs))) (bare_gives c.used h (passing_bare h e) [] ts); unordered = λ c h e ts. refl; unended = λ c t e. refl }
+each_quiets GivenByPattern b s = record { silent = λ c env h e n ts. ap reads_if (any_among s _ (bare_writes c.used env h (passing_bare h e) ts)); unordered = λ c h e ts. refl; unended = λ c t e. refl }
 each_quiets MentionedElsewhere b s = record { silent = λ c env h e n ts. ap reads_if (no_mention _ c h); unordered = λ c h e ts. refl; unended = λ c t e. refl }
 each_quiets BoundElsewhere b s = record { silent = λ c env h e n ts. ap reads_if (no_mention _ c h); unordered = λ c h e ts. refl; unended = λ c t e. refl }
-each_quiets IsLexical b s = record { silent = λ c env h e n ts. ap reads_if (any_among s _ (bare_lexical c.is_body h (calm_bare h e) ts)); unordered = λ c h e ts. refl; unended = λ c t e. refl }
-each_quiets IsSwitched b s = record { silent = λ c env h e n ts. ap reads_if (any_among s _ (bare_switched h (calm_bare h e) ts)); unordered = λ c h e ts. refl; unended = λ c t e. refl }
-each_quiets InPattern b s = record { silent = λ c env h e n ts. ap reads_if (any_among s _ (calm_pattern h e n ts)); unordered = λ c h e ts. refl; unended = λ c t e. refl }
-each_quiets UnderCatch b s = record { silent = λ c env h e n ts. ap reads_if (any_among s _ (bare_caught h (calm_bare h e) ts)); unordered = λ c h e ts. refl; unended = λ c t e. refl }
-each_quiets ByArguments b s = record { silent = λ c env h e n ts. ap reads_if (any_among s _ (bare_arguments (is_strict_in c.strict h) h (calm_bare h e) ts)); unordered = λ c h e ts. refl; unended = λ c t e. refl }
-each_quiets ByEval b s = record { silent = λ c env h e n ts. ap reads_if (unseen (by_symbol s) (opened c.used h ts) (bare_scopes c.used h (calm_bare h e) ts) 0 ts); unordered = λ c h e ts. refl; unended = λ c t e. refl }
-each_quiets AmongParameters b s = record { silent = λ c env h e n ts. ap reads_if (any_among s _ (bare_params b h (calm_bare h e) ts)); unordered = λ c h e ts. refl; unended = λ c t e. refl }
+each_quiets IsLexical b s = record { silent = λ c env h e n ts. ap reads_if (any_among s _ (bare_lexical c.is_body h (passing_bare h e) ts)); unordered = λ c h e ts. refl; unended = λ c t e. refl }
+each_quiets IsSwitched b s = record { silent = λ c env h e n ts. ap reads_if (any_among s _ (bare_switched h (passing_bare h e) ts)); unordered = λ c h e ts. refl; unended = λ c t e. refl }
+each_quiets InPattern b s = record { silent = λ c env h e n ts. ap reads_if (any_among s _ (passing_pattern h e n ts)); unordered = λ c h e ts. refl; unended = λ c t e. refl }
+each_quiets UnderCatch b s = record { silent = λ c env h e n ts. ap reads_if (any_among s _ (bare_caught h (passing_bare h e) ts)); unordered = λ c h e ts. refl; unended = λ c t e. refl }
+each_quiets ByArguments b s = record { silent = λ c env h e n ts. ap reads_if (any_among s _ (bare_arguments (is_strict_in c.strict h) h (passing_bare h e) ts)); unordered = λ c h e ts. refl; unended = λ c t e. refl }
+each_quiets ByEval b s = record { silent = λ c env h e n ts. ap reads_if (unseen (by_symbol s) (opened c.used h ts) (bare_scopes c.used h (passing_bare h e) ts) 0 ts); unordered = λ c h e ts. refl; unended = λ c t e. refl }
+each_quiets AmongParameters b s = record { silent = λ c env h e n ts. ap reads_if (any_among s _ (bare_params b h (passing_bare h e) ts)); unordered = λ c h e ts. refl; unended = λ c t e. refl }
 each_quiets ReadEarly b s = record { silent = λ c env h e n ts. ap reads_if (no_mention _ c h); unordered = λ c h e ts. calm_alone h e c s ts; unended = λ c t e. ap (λ o. o && (is_among (by_symbol s) (names_of declared.Lexical t) || is_among (by_symbol s) (names_of declared.Bound t))) e }

@@ -34,7 +34,7 @@ use Rattle.mini_rows.proofs.DeclaredKeyLawful.{bared_alike}
 use Rattle.mini_rows.proofs.DeclaredKeyParts.{Alike}
 use Rattle.mini_less.specs.Families.{LessAt}
 use Rattle.mini_less.specs.HeldKeys.{HeldKeysReadLess}
-use Rattle.mini_less.proofs.Calm.{part_bare, bare_gives, bare_writes, bare_lexical, bare_switched, bare_caught, bare_arguments, bare_params, bare_scopes, bare_listed, unseen, each_quiets}
+use Rattle.mini_less.proofs.Calm.{part_bare, bare_gives, bare_writes, bare_lexical, bare_switched, bare_caught, bare_arguments, bare_params, bare_scopes, part_listed, unseen, each_quiets}
 use Rattle.mini_less.proofs.HeldKeysLess.{Holds, plain_quiet, inner_quiet, inner_number, same_said, same_eval, same_arguments, fewer_numbers, held_less, bare_less, short_less}
 use Rattle.mini_less.proofs.LessRows.{reads_less_by}
 
@@ -87,7 +87,7 @@ each_parts ByEval b s = record { before = λ c env h e xs n ts us x. ap reads_if
 each_parts AmongParameters b s = record { before = λ c env h e xs n ts us x. given_alike s _ _ (bare_params b h (part_bare h e) ts) (bare_params b h (part_bare h e) us); orders = λ c h e ts us. refl; ends = λ c t u x y. refl }
 each_parts ReadEarly b s = record {
   before = λ c env h e xs n ts us x. refl;
-  orders = λ c h e ts us. ap (λ ys. (hands_on h && c.ordered) || is_among (by_symbol s) ys) (bare_listed h (part_bare h e) us ∙ sym (bare_listed h (part_bare h e) ts));
+  orders = λ c h e ts us. ap (λ ys. (hands_on h && c.ordered) || is_among (by_symbol s) ys) (part_listed h e us ∙ sym (part_listed h e ts));
   ends = λ c t u x y. λ j. c.ordered && (is_among (by_symbol s) (x j) || is_among (by_symbol s) (y j));
 }
 

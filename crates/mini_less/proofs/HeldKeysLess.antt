@@ -23,7 +23,7 @@ use Rattle.mini_shrink.proofs.Paces.{same}
 use Rattle.mini_rows.specs.KeyHolders.{Holder, a_binding, a_target, a_method, a_field, holder_shape, holding, Spelling, of_name, of_whole, quoted, unquoted, Member, of_target, of_method, of_field, member_shape, in_brackets, without_brackets, PlainKey, a_word, a_count, plain_key, bracketed, plain, Row52Held, Row52Bare, Row53, assigned_to}
 use Rattle.mini_rows.specs.Spellings.{text, numeral, key}
 use Rattle.mini_less.specs.Families.{LessAt}
-use Rattle.mini_less.proofs.Calm.{is_calm_shape, calm_bare, bare_scopes, bare_turn, bare_calls, bare_names, Quiets, each_quiets}
+use Rattle.mini_less.proofs.Calm.{is_calm_shape, calm_bare, calm_passing, bare_scopes, bare_turn, bare_calls, bare_names, Quiets, each_quiets}
 
 module _ (q : Question) (z : Quiets q) where
   abbrev pub Hushed : Tree → Type 0
@@ -31,7 +31,7 @@ module _ (q : Question) (z : Quiets q) where
 
   leaf_hushed : (h : Shape) → is_calm_shape h ≡ true → Hushed (node h [] 0 none)
   unfolding pace
-  leaf_hushed h e c env = (λ j. followed (z.silent c env h e 0 none j) (in_turn h [])) ∙ bare_turn h (calm_bare h e) []
+  leaf_hushed h e c env = (λ j. followed (z.silent c env h (calm_passing h e) 0 none j) (in_turn h [])) ∙ bare_turn h (calm_bare h e) []
 
   inner_hushed : (n : ℕ) (k : Tree) → Hushed k → Hushed (node shape.InnerExpression [] n (k ▸ none))
   unfolding pace
@@ -53,7 +53,7 @@ module _ (q : Question) (z : Quiets q) where
       let none_there = bare_scopes c.used h (calm_bare h e) ts in
       let first : env ++ sc 0 ≡ env = ap (λ x. env ++ x) (none_there 0) ∙ append-nil env in
       let second : (env ++ sc 0) ++ sc 1 ≡ env = ap (λ x. (env ++ sc 0) ++ x) (none_there 1) ∙ append-nil (env ++ sc 0) ∙ first in
-      (λ j. followed (z.silent c env h e 0 ts j) (in_turn h (paces q sc (below (z.unordered c h e ts j) c h 0) 0 env ts)))
+      (λ j. followed (z.silent c env h (calm_passing h e) 0 ts j) (in_turn h (paces q sc (below (z.unordered c h e ts j) c h 0) 0 env ts)))
       ∙ bare_turn h (calm_bare h e) (paces q sc (below false c h 0) 0 env ts)
       ∙ (λ j. followed (ends_after (z.unended (below false c h 0 0) k refl j) (y (below false c h 0 0) (env ++ sc 0) j)) (followed (ends_after (z.unended (below false c h 0 1) v refl j) (pace q (below false c h 0 1) (second j) v)) Silent))
 

@@ -42,3 +42,4 @@ pub mod OwnLess
 pub mod Calm
 pub mod HeldKeysLess
 pub mod DeclaredKeysLess
+pub mod ArrowsLess

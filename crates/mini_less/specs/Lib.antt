@@ -5,3 +5,4 @@ pub mod Neighbours
 pub mod Rebuilt
 pub mod Own
 pub mod HeldKeys
+pub mod Arrows
