@@ -43,3 +43,5 @@ pub mod Calm
 pub mod HeldKeysLess
 pub mod DeclaredKeysLess
 pub mod ArrowsLess
+pub mod Beside
+pub mod NamesLess

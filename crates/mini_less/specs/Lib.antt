@@ -6,3 +6,4 @@ pub mod Rebuilt
 pub mod Own
 pub mod HeldKeys
 pub mod Arrows
+pub mod Names

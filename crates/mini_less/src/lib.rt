@@ -5,6 +5,7 @@
 ghost use Rattle.mini_less.specs.Families.{ConstantsReadLess, SequencesReadLess, TemplatesReadLess, BooleansReadLess, NegationsReadLess, ChoicesReadLess, WritesReadLess, KeysReadLess, FoldingsReadLess, DeMorganReadsLess, WholeFamiliesReadLess, IfRowsLess, BodyRowsLess, BodyRowsOfThisLess, FirstRowsReadLess, OperandsReadLess, SpellingsReadLess, ReadsLessJoins, ReadsLessNarrows, ListRowsLess, MoreRowsLess, TurnsReadLess, TurnsShrink};
 ghost use Rattle.mini_less.specs.Arrows.{ArrowsReadLess};
 ghost use Rattle.mini_less.specs.HeldKeys.{HeldKeysReadLess};
+ghost use Rattle.mini_less.specs.Names.{NamesReadLess, CatchesReadLess};
 ghost use Rattle.mini_less.specs.Own.{SteadyReadsLess, LexicalReadsLess, PastBlocksReadLess};
 ghost use Rattle.mini_less.specs.Rebuilt.{ListsAskLess, StatementsAskLess};
 
@@ -147,4 +148,14 @@ pub fn held_keys_read_less()
 /// The row of arrow functions whose body only returns a value: 59.
 pub fn arrows_read_less()
     ensures { ArrowsReadLess }
+{}
+
+/// The row that drops the name of a function or class expression that nothing mentions: 62.
+pub fn names_read_less()
+    ensures { NamesReadLess }
+{}
+
+/// The row that drops what a `catch` catches where nothing mentions it: 63.
+pub fn catches_read_less()
+    ensures { CatchesReadLess }
 {}
