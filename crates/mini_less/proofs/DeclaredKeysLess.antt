@@ -46,7 +46,7 @@ module _ (q : Question) (t u : Tree) (said : (c : Setting) (env : Environment) �
   child_says sc cs i env (b ▸ before) = ap (λ ps. ends_after (q.ends (cs i) b) (pace q (cs i) (env ++ sc i) b) ∷ ps) (child_says sc cs (suc i) (env ++ sc i) before)
 
   -- so the node says the same, if it does itself
-  node_says : (c : Setting) (env : Environment) (h : Shape) (xs : List Name) (n : ℕ) (before : Trees) → q.before c env h xs n (append before (u ▸ after)) ≡ q.before c env h xs n (append before (t ▸ after)) → q.orders c h (append before (u ▸ after)) ≡ q.orders c h (append before (t ▸ after))
+  pub node_says : (c : Setting) (env : Environment) (h : Shape) (xs : List Name) (n : ℕ) (before : Trees) → q.before c env h xs n (append before (u ▸ after)) ≡ q.before c env h xs n (append before (t ▸ after)) → q.orders c h (append before (u ▸ after)) ≡ q.orders c h (append before (t ▸ after))
       → ((i : ℕ) → opened c.used h (append before (u ▸ after)) i ≡ opened c.used h (append before (t ▸ after)) i) → pace q c env (node h xs n (append before (u ▸ after))) ≡ pace q c env (node h xs n (append before (t ▸ after)))
   unfolding pace
   node_says c env h xs n before e f g =
@@ -62,15 +62,15 @@ pattern_names_alike shape.AssignmentPattern zero ts us e = refl
 pattern_names_alike shape.AssignmentPattern (suc n) ts us e = e
 pattern_names_alike h n ts us e = refl
 
-record PartsAlike (q : Question) : Type 0 where
-  before : (c : Setting) (env : Environment) (h : Shape) → is_pattern_part h ≡ true → (xs : List Name) (n : ℕ) (ts us : Trees) → all_names declared.Bound us ≡ all_names declared.Bound ts → q.before c env h xs n us ≡ q.before c env h xs n ts
-  orders : (c : Setting) (h : Shape) → is_pattern_part h ≡ true → (ts us : Trees) → q.orders c h us ≡ q.orders c h ts
-  ends : (c : Setting) (t u : Tree) → names_of declared.Lexical u ≡ names_of declared.Lexical t → names_of declared.Bound u ≡ names_of declared.Bound t → q.ends c u ≡ q.ends c t
+pub record PartsAlike (q : Question) : Type 0 where
+  pub before : (c : Setting) (env : Environment) (h : Shape) → is_pattern_part h ≡ true → (xs : List Name) (n : ℕ) (ts us : Trees) → all_names declared.Bound us ≡ all_names declared.Bound ts → q.before c env h xs n us ≡ q.before c env h xs n ts
+  pub orders : (c : Setting) (h : Shape) → is_pattern_part h ≡ true → (ts us : Trees) → q.orders c h us ≡ q.orders c h ts
+  pub ends : (c : Setting) (t u : Tree) → names_of declared.Lexical u ≡ names_of declared.Lexical t → names_of declared.Bound u ≡ names_of declared.Bound t → q.ends c u ≡ q.ends c t
 
-given_alike : (s : ℕ) (xs ys : List Name) → xs ≡ [] → ys ≡ [] → reads_if (is_among (by_symbol s) ys) ≡ reads_if (is_among (by_symbol s) xs)
+pub given_alike : (s : ℕ) (xs ys : List Name) → xs ≡ [] → ys ≡ [] → reads_if (is_among (by_symbol s) ys) ≡ reads_if (is_among (by_symbol s) xs)
 given_alike s xs ys e f = ap (λ zs. reads_if (is_among (by_symbol s) zs)) (f ∙ sym e)
 
-each_parts : (g : Fact) (b s : ℕ) → PartsAlike (question g b s)
+pub each_parts : (g : Fact) (b s : ℕ) → PartsAlike (question g b s)
 each_parts Written b s = record { before = λ c env h e xs n ts us x. refl; orders = λ c h e ts us. refl; ends = λ c t u x y. refl }
 each_parts WrittenElsewhere b s = record { before = λ c env h e xs n ts us x. refl; orders = λ c h e ts us. refl; ends = λ c t u x y. refl }
 each_parts Given b s = record { before = λ c env h e xs n ts us x. ap (λ ys. reads_if (list_any (is_write (by_symbol s)) (map (write_at c.around) ys))) (bare_gives c.used h (part_bare h e) xs us ∙ sym (bare_gives c.used h (part_bare h e) xs ts)); orders = λ c h e ts us. refl; ends = λ c t u x y. refl }
@@ -93,14 +93,14 @@ each_parts ReadEarly b s = record {
 
 -- ---- what the trees tell
 
-record SameTold (t u : Tree) : Type 0 where
-  said : (g : Fact) (b s : ℕ) (c : Setting) (env : Environment) → pace (question g b s) c env u ≡ pace (question g b s) c env t
-  eval : has_eval u ≡ has_eval t
-  arguments : names_arguments u ≡ names_arguments t
-  number : (b : ℕ) → has_number b u ≡ true → has_number b t ≡ true
+pub record SameTold (t u : Tree) : Type 0 where
+  pub said : (g : Fact) (b s : ℕ) (c : Setting) (env : Environment) → pace (question g b s) c env u ≡ pace (question g b s) c env t
+  pub eval : has_eval u ≡ has_eval t
+  pub arguments : names_arguments u ≡ names_arguments t
+  pub number : (b : ℕ) → has_number b u ≡ true → has_number b t ≡ true
 
 module _ (t u : Tree) (k : SameTold t u) (after : Trees) where
-  same_evals : (before : Trees) → any_has_eval (append before (u ▸ after)) ≡ any_has_eval (append before (t ▸ after))
+  pub same_evals : (before : Trees) → any_has_eval (append before (u ▸ after)) ≡ any_has_eval (append before (t ▸ after))
   unfolding has_eval
   same_evals none = ap (λ b. b || any_has_eval after) k.eval
   same_evals (d ▸ before) = ap (λ b. has_eval d || b) (same_evals before)
@@ -121,7 +121,7 @@ module _ (t u : Tree) (k : SameTold t u) (after : Trees) where
   same_bound e (d ▸ before) = ap (λ xs. names_of declared.Bound d ++ xs) (same_bound e before)
 
   -- a node over them
-  over_told : (h : Shape) (xs : List Name) (n : ℕ) (before : Trees) → is_eval_call h (append before (u ▸ after)) ≡ is_eval_call h (append before (t ▸ after)) → ((g : Fact) (b s : ℕ) (c : Setting) (env : Environment) → pace (question g b s) c env (node h xs n (append before (u ▸ after))) ≡ pace (question g b s) c env (node h xs n (append before (t ▸ after)))) → SameTold (node h xs n (append before (t ▸ after))) (node h xs n (append before (u ▸ after)))
+  pub over_told : (h : Shape) (xs : List Name) (n : ℕ) (before : Trees) → is_eval_call h (append before (u ▸ after)) ≡ is_eval_call h (append before (t ▸ after)) → ((g : Fact) (b s : ℕ) (c : Setting) (env : Environment) → pace (question g b s) c env (node h xs n (append before (u ▸ after))) ≡ pace (question g b s) c env (node h xs n (append before (t ▸ after)))) → SameTold (node h xs n (append before (t ▸ after))) (node h xs n (append before (u ▸ after)))
   unfolding has_eval names_arguments has_number
   over_told h xs n before e f = record {
     said = f;
@@ -258,7 +258,7 @@ module _ (t u rest : Tree) (a : Alike t u) (k : SameTold t u) (pattern : is_patt
   declaring_callee true = refl
   declaring_callee false = refl
 
-told_less : (p : Position) (n w t u : Tree) → n ≡ t → w ≡ u → SameTold t u → is_eval_callee u ≡ false → LessAt p n w
+pub told_less : (p : Position) (n w t u : Tree) → n ≡ t → w ≡ u → SameTold t u → is_eval_callee u ≡ false → LessAt p n w
 told_less p n w t u a b k f = record {
   asks = λ i m r. record {
     by = λ strict slot o fit c env st sc.

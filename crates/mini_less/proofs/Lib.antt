@@ -45,3 +45,4 @@ pub mod DeclaredKeysLess
 pub mod ArrowsLess
 pub mod Beside
 pub mod NamesLess
+pub mod BodyEndsLess

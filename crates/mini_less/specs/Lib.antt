@@ -7,3 +7,4 @@ pub mod Own
 pub mod HeldKeys
 pub mod Arrows
 pub mod Names
+pub mod BodyEnds
