@@ -1,6 +1,6 @@
 -- The row of arrow functions asks less: the body that returns a value tells what the value does.
-use Rattle.std.specs.Prelude.{ℕ, zero, suc, ◌≡◌, refl, nat_eq, Bool, true, false, ◌||◌, ◌&&◌, List, [], ◌∷◌, ◌++◌, None}
-use Rattle.std.proofs.Common.{ap, ◌∙◌, inl, inr, sym, subst, true≢false}
+use Rattle.std.specs.Prelude.{ℕ, ◌≡◌, refl, nat_eq, Bool, true, false, ◌||◌, ◌&&◌, [], ◌++◌, None}
+use Rattle.std.proofs.Common.{ap, ◌∙◌, inl, sym, subst, true≢false}
 use Rattle.std.proofs.lemmas.List.{append-nil}
 use Rattle.mini_model.specs.declared.place.Position.{Position}
 use Rattle.mini_model.specs.declared.place.Position.TheVariants.{Expr}
@@ -10,21 +10,20 @@ use Rattle.mini_model.specs.declared.shape.Shape.TheVariants as shape
 use Rattle.mini_model.specs.Tree.{Tree, Trees, node, none, ◌▸◌, listed, is_absent}
 use Rattle.mini_accept.specs.WellShaped.{Slot, one, one_or_absent, an_expression, a_link, an_argument, an_init, an_arrow_body, a_default_export, a_key, a_statement, a_private_or_key, an_inner_key, Class, a_parameter, a_pattern_rest, many_and_rest, Depth, in_module, in_body, nested, statement_slots, filling_by, is_whole, is_strict_in, fits}
 use Rattle.mini_laws.specs.declared.names.Use.{Use}
-use Rattle.mini_laws.specs.DeclaredNames.{body_names, all_body_names, names_of}
-use Rattle.mini_laws.specs.Foreign.{has_number, any_has_number, own_lexical}
+use Rattle.mini_laws.specs.DeclaredNames.{body_names, names_of}
+use Rattle.mini_laws.specs.Foreign.{has_number, own_lexical}
 use Rattle.mini_laws.specs.Mentions.{is_among}
 use Rattle.mini_laws.specs.Resolved.{Environment}
-use Rattle.mini_laws.specs.ScopeList.{has_eval, any_has_eval, by_symbol, is_eval_callee, names_in}
-use Rattle.mini_laws.specs.Scopes.{opened, scopes_by, body_scope, merged, at_or_empty}
-use Rattle.mini_laws.specs.Shared.{names_arguments, any_names_arguments}
-use Rattle.mini_laws.specs.Value.{Declared}
+use Rattle.mini_laws.specs.ScopeList.{has_eval, by_symbol, is_eval_callee, names_in}
+use Rattle.mini_laws.specs.Scopes.{opened, scopes_by, body_scope, merged}
+use Rattle.mini_laws.specs.Shared.{names_arguments}
 use Rattle.mini_laws.specs.declared.names.Use.TheVariants.{Read}
 use Rattle.mini_laws.specs.DeclaredNames.{bound_names}
 use Rattle.mini_kept.proofs.Bools.{left}
 use Rattle.mini_kept.proofs.Expressions.{expression, refused_here}
 use Rattle.mini_kept.proofs.Quiet.{IsQuiet, expression_is_quiet, no_body_names}
 use Rattle.mini_shrink.specs.Facts.{Fact, Written, WrittenElsewhere, Given, GivenElsewhere, GivenByPattern, MentionedElsewhere, BoundElsewhere, IsLexical, IsSwitched, InPattern, UnderCatch, ByArguments, ByEval, AmongParameters, ReadEarly, question}
-use Rattle.mini_shrink.specs.Pace.{Pace, Ends, Silent, Reads, followed, ends_after, in_turn, AtMost, Setting, below, Question, pace, paces, reads_if}
+use Rattle.mini_shrink.specs.Pace.{Pace, Ends, Silent, Reads, followed, ends_after, in_turn, Setting, below, Question, pace, paces, reads_if}
 use Rattle.mini_shrink.specs.Questions.{seen_from}
 use Rattle.mini_shrink.proofs.Owns.{or_implied}
 use Rattle.mini_shrink.proofs.Paces.{same}

@@ -1,7 +1,7 @@
 -- What nothing in a tree names doesn't change what the tree tells, whether or not a scope around it
 -- has that name.
-use Rattle.std.specs.Prelude.{ℕ, zero, suc, ◌≡◌, refl, Bool, true, false, ◌||◌, List, [], ◌∷◌, ◌++◌, map, Option, if◌then◌else◌}
-use Rattle.std.proofs.Common.{ap, ◌∙◌, sym, subst}
+use Rattle.std.specs.Prelude.{ℕ, suc, ◌≡◌, refl, Bool, true, false, List, [], ◌∷◌, ◌++◌, map, if◌then◌else◌}
+use Rattle.std.proofs.Common.{ap, ◌∙◌, sym}
 use Rattle.mini_model.specs.declared.name.Name.{Name}
 use Rattle.mini_model.specs.declared.shape.Shape.{Shape}
 use Rattle.mini_model.specs.declared.shape.Shape.TheVariants as shape
@@ -19,7 +19,7 @@ use Rattle.mini_laws.specs.Scopes.{opened}
 use Rattle.mini_laws.specs.Shared.{is_pattern, names_in_pattern, own_pattern_writes}
 use Rattle.mini_laws.proofs.Lookups.{symbol_of_both}
 use Rattle.mini_shrink.specs.Facts.{Fact, Written, WrittenElsewhere, Given, GivenElsewhere, GivenByPattern, MentionedElsewhere, BoundElsewhere, IsLexical, IsSwitched, InPattern, UnderCatch, ByArguments, ByEval, AmongParameters, ReadEarly, question}
-use Rattle.mini_shrink.specs.Pace.{Pace, followed, ends_after, in_turn, Setting, below, Question, pace, paces, reads_if}
+use Rattle.mini_shrink.specs.Pace.{followed, ends_after, in_turn, Setting, below, Question, pace, paces, reads_if}
 use Rattle.mini_rows.specs.Unused.{is_like_one, names, any_names}
 use Rattle.mini_rows.proofs.UnusedNames.{Other, or_parts, declared_other}
 

@@ -1,7 +1,7 @@
 -- A body of a loop asks the same without the jump that ends it.
-use Rattle.std.specs.Prelude.{ℕ, zero, suc, ◌≡◌, ◌⊎◌, refl, nat_eq, Bool, true, false, ◌||◌, ◌&&◌, List, [], ◌∷◌, ◌++◌, map}
+use Rattle.std.specs.Prelude.{ℕ, suc, ◌≡◌, refl, nat_eq, Bool, true, false, ◌||◌, ◌&&◌, List, [], ◌∷◌, ◌++◌, map}
 use Rattle.std.specs.List.{list_any}
-use Rattle.std.proofs.Common.{ap, ◌∙◌, inl, inr, sym, subst, true≢false}
+use Rattle.std.proofs.Common.{ap, ◌∙◌, sym, true≢false}
 use Rattle.mini_model.specs.declared.name.Name.{Name}
 use Rattle.mini_model.specs.declared.place.Position.TheVariants.{Stmt}
 use Rattle.mini_model.specs.declared.seat.StmtSeat.{StmtSeat}
@@ -13,25 +13,23 @@ use Rattle.mini_laws.specs.declared.names.Binding.{Binding}
 use Rattle.mini_laws.specs.declared.names.Declared.{Declared}
 use Rattle.mini_laws.specs.declared.names.Declared.TheVariants as declared
 use Rattle.mini_laws.specs.declared.names.Use.{Use}
-use Rattle.mini_laws.specs.DeclaredNames.{names_of, all_names, first_names}
+use Rattle.mini_laws.specs.DeclaredNames.{names_of, all_names}
 use Rattle.mini_laws.specs.Foreign.{is_write, has_number, any_has_number, own_lexical}
 use Rattle.mini_laws.specs.Mentions.{is_among, is_elsewhere}
 use Rattle.mini_laws.specs.Resolved.{Environment}
 use Rattle.mini_laws.specs.ScopeList.{any_has_eval, by_symbol, has_eval, is_eval_call, is_eval_callee, names_in}
 use Rattle.mini_laws.specs.Scopes.{opened, scopes_by, lexical_scope, at_or_empty}
 use Rattle.mini_laws.specs.Shared.{names_arguments, any_names_arguments, is_of_function, write_at}
-use Rattle.mini_laws.specs.Strict.{is_strict_in}
 use Rattle.mini_shrink.specs.Facts.{Fact, Written, WrittenElsewhere, Given, GivenElsewhere, GivenByPattern, MentionedElsewhere, BoundElsewhere, IsLexical, IsSwitched, InPattern, UnderCatch, ByArguments, ByEval, AmongParameters, ReadEarly, question}
-use Rattle.mini_shrink.specs.Pace.{Pace, Silent, followed, ends_after, all_followed, in_turn, Setting, below, Question, pace, paces, reads_if}
+use Rattle.mini_shrink.specs.Pace.{Silent, followed, ends_after, all_followed, Setting, below, pace, paces, reads_if}
 use Rattle.mini_shrink.specs.Questions.{seen_from}
-use Rattle.mini_rows.specs.Branches.{Surrounding, Consequent, Alternate, WhileBody, DoBody, ForBody, InBody, OfBody, around, bare_continue, is_loop, Row78Block, Row78Once}
+use Rattle.mini_rows.specs.Branches.{Surrounding, Consequent, Alternate, WhileBody, DoBody, ForBody, InBody, OfBody, around, is_loop}
 use Rattle.mini_rows.specs.Lists.{block}
-use Rattle.mini_rows.specs.Loops.{bare_break}
 use Rattle.mini_less.specs.Families.{LessAt}
 use Rattle.mini_less.specs.Less.{Frame, AFor, AWhile, ADo, AnIn, AnOf, frame_shape}
 use Rattle.mini_less.specs.BodyEnds.{BodyEndsLess}
 use Rattle.mini_less.proofs.Calm.{bare_scopes}
-use Rattle.mini_less.proofs.DeclaredKeysLess.{SameTold, PartsAlike, each_parts, given_alike, node_says, over_told, same_evals, told_less}
+use Rattle.mini_less.proofs.DeclaredKeysLess.{SameTold, each_parts, given_alike, node_says, over_told, same_evals, told_less}
 use Rattle.mini_less.proofs.Plainly.{loop_gives, loop_pattern, loop_lexical, loop_switched, loop_pattern_at, loop_caught, loop_arguments, loop_params}
 
 -- `continue;` and `break;`

@@ -1,5 +1,5 @@
 -- Nodes that tell nothing of their own: keys, what holds a key and a value, and parts of a pattern.
-use Rattle.std.specs.Prelude.{ℕ, suc, ◌≡◌, refl, Bool, true, false, ◌&&◌, ◌||◌, List, [], ◌∷◌, ◌++◌, map}
+use Rattle.std.specs.Prelude.{ℕ, suc, ◌≡◌, refl, Bool, true, false, ◌&&◌, ◌||◌, List, [], map}
 use Rattle.std.specs.List.{list_any}
 use Rattle.std.proofs.Common.{ap, ◌∙◌}
 use Rattle.mini_model.specs.declared.name.Name.{Name}

@@ -1,27 +1,24 @@
 -- Rows on the keys of patterns and of classes ask less: neither key tells anything, and the value
 -- is asked as before.
-use Rattle.std.specs.Prelude.{ℕ, zero, suc, ◌≡◌, ◌⊎◌, refl, nat_eq, pos, Bool, true, false, ◌||◌, ◌&&◌, List, [], ◌∷◌, ◌++◌}
+use Rattle.std.specs.Prelude.{ℕ, ◌≡◌, refl, nat_eq, pos, Bool, true, false, ◌||◌, ◌&&◌, [], ◌++◌}
 use Rattle.std.specs.Fmt.{signed_decimal}
-use Rattle.std.proofs.Common.{ap, ◌∙◌, inl, inr, sym, subst, true≢false}
+use Rattle.std.proofs.Common.{ap, ◌∙◌, inl, sym, true≢false}
 use Rattle.std.proofs.lemmas.List.{append-nil}
 use Rattle.mini_model.specs.declared.place.Position.{Position}
-use Rattle.mini_model.specs.declared.place.Position.TheVariants.{Elsewhere}
 use Rattle.mini_model.specs.declared.shape.Shape.{Shape}
 use Rattle.mini_model.specs.declared.shape.Shape.TheVariants as shape
-use Rattle.mini_model.specs.Tree.{Tree, Trees, node, none, ◌▸◌}
-use Rattle.mini_laws.specs.Foreign.{has_number, any_has_number}
+use Rattle.mini_model.specs.Tree.{Tree, node, none, ◌▸◌}
+use Rattle.mini_laws.specs.Foreign.{has_number}
 use Rattle.mini_laws.specs.Resolved.{Environment}
-use Rattle.mini_laws.specs.ScopeList.{has_eval, any_has_eval, is_eval_callee}
+use Rattle.mini_laws.specs.ScopeList.{has_eval, is_eval_callee}
 use Rattle.mini_laws.specs.Scopes.{opened}
-use Rattle.mini_laws.specs.Shared.{names_arguments, any_names_arguments, is_arguments, is_of_function}
-use Rattle.mini_laws.specs.Value.{Declared}
-use Rattle.mini_shrink.specs.Facts.{Fact, question}
-use Rattle.mini_shrink.specs.Pace.{Pace, Silent, followed, ends_after, in_turn, AtMost, Setting, below, Question, pace, paces}
-use Rattle.mini_shrink.specs.Shrinking.{AsksLess}
+use Rattle.mini_laws.specs.Shared.{names_arguments, is_arguments, is_of_function}
+use Rattle.mini_shrink.specs.Facts.{question}
+use Rattle.mini_shrink.specs.Pace.{Pace, Silent, followed, ends_after, in_turn, Setting, below, Question, pace, paces}
 use Rattle.mini_shrink.proofs.Owns.{or_implied}
 use Rattle.mini_shrink.proofs.Paces.{same}
-use Rattle.mini_rows.specs.KeyHolders.{Holder, a_binding, a_target, a_method, a_field, holder_shape, holding, Spelling, of_name, of_whole, quoted, unquoted, Member, of_target, of_method, of_field, member_shape, in_brackets, without_brackets, PlainKey, a_word, a_count, plain_key, bracketed, plain, Row52Held, Row52Bare, Row53, assigned_to}
-use Rattle.mini_rows.specs.Spellings.{text, numeral, key}
+use Rattle.mini_rows.specs.KeyHolders.{Holder, a_binding, a_target, a_method, a_field, holder_shape, Spelling, of_name, of_whole, quoted, unquoted, Member, of_target, of_method, of_field, member_shape, PlainKey, a_word, a_count, plain_key, Row52Held, Row52Bare, Row53, assigned_to}
+use Rattle.mini_rows.specs.Spellings.{key}
 use Rattle.mini_less.specs.Families.{LessAt}
 use Rattle.mini_less.proofs.Calm.{is_calm_shape, calm_bare, calm_passing, bare_scopes, bare_turn, bare_calls, bare_names, Quiets, each_quiets}
 

@@ -1,11 +1,10 @@
 -- Rows that drop a name that nothing mentions ask less of each other symbol, and the scope of the
 -- name goes, so that its symbol is declared less often.
-use Rattle.std.specs.Prelude.{ℕ, zero, suc, ◌+◌, ◌≤◌, ◌≡◌, ◌⊎◌, refl, nat_eq, Bool, true, false, ◌&&◌, ◌||◌, not, List, [], ◌∷◌, ◌++◌, map, None, if◌then◌else◌}
+use Rattle.std.specs.Prelude.{ℕ, suc, ◌+◌, ◌≤◌, ◌≡◌, refl, nat_eq, Bool, true, false, ◌&&◌, ◌||◌, List, [], ◌∷◌, ◌++◌, map, None, if◌then◌else◌}
 use Rattle.std.specs.List.{list_any}
 use Rattle.std.proofs.Common.{ap, ◌∙◌, inl, inr, arith, sym, subst, true≢false}
 use Rattle.std.proofs.lemmas.Bool.{eq-eqb, eqb-true}
 use Rattle.mini_model.specs.declared.name.Name.{Name}
-use Rattle.mini_model.specs.declared.name.SymbolId.{SymbolId}
 use Rattle.mini_model.specs.declared.place.Position.{Position}
 use Rattle.mini_model.specs.declared.place.Position.TheVariants.{Expr, Elsewhere}
 use Rattle.mini_model.specs.declared.shape.Shape.{Shape}
@@ -15,32 +14,32 @@ use Rattle.mini_model.specs.Weight.{same_text}
 use Rattle.mini_laws.specs.declared.names.Binding.{Binding}
 use Rattle.mini_laws.specs.declared.names.Declared.TheVariants as declared
 use Rattle.mini_laws.specs.declared.names.Use.{Use}
-use Rattle.mini_laws.specs.DeclaredNames.{names_of, all_names, first_names, with_names, bound_names, is_spelled}
-use Rattle.mini_laws.specs.Foreign.{is_write, has_number, any_has_number, own_lexical, own_params_around, own_pattern_names, own_switched}
-use Rattle.mini_laws.specs.Mentions.{Mention, is_among, is_elsewhere, own_mentions, same_variable}
+use Rattle.mini_laws.specs.DeclaredNames.{names_of, all_names, with_names}
+use Rattle.mini_laws.specs.Foreign.{is_write, has_number, own_lexical, own_params_around, own_pattern_names, own_switched}
+use Rattle.mini_laws.specs.Mentions.{is_among, is_elsewhere, same_variable}
 use Rattle.mini_laws.specs.Resolved.{Environment, or_else, own_symbol, symbol_of, serves}
-use Rattle.mini_laws.specs.ScopeList.{any_has_eval, by_symbol, has_eval, is_eval_call, is_eval_callee, names_in}
+use Rattle.mini_laws.specs.ScopeList.{any_has_eval, by_symbol, has_eval, is_eval_callee, names_in}
 use Rattle.mini_laws.specs.Scopes.{opened, scopes_by}
-use Rattle.mini_laws.specs.Shared.{any_names_arguments, given_values, is_arguments, is_name_of_variable, is_of_function, names_arguments, own_caught, own_pattern_writes, reached_params, spelled_among, write_at}
+use Rattle.mini_laws.specs.Shared.{given_values, names_arguments, own_caught, own_pattern_writes, reached_params, spelled_among, write_at}
 use Rattle.mini_laws.specs.Symbols.{declared as declared_in, is_same, times}
 use Rattle.mini_laws.specs.Value.{Declared}
 use Rattle.mini_laws.proofs.Lookups.{symbol_of_both}
-use Rattle.mini_kept.specs.Loosely.{LessOften, symbol}
+use Rattle.mini_kept.specs.Loosely.{symbol}
 use Rattle.mini_shrink.specs.Facts.{Fact, Written, WrittenElsewhere, Given, GivenElsewhere, GivenByPattern, MentionedElsewhere, BoundElsewhere, IsLexical, IsSwitched, InPattern, UnderCatch, ByArguments, ByEval, AmongParameters, ReadEarly, question}
 use Rattle.mini_shrink.specs.Pace.{Pace, Ends, Silent, Reads, followed, ends_after, all_followed, in_turn, AtMost, Setting, below, Question, pace, paces, reads_if}
-use Rattle.mini_shrink.specs.Questions.{listed_names, seen_from}
+use Rattle.mini_shrink.specs.Questions.{seen_from}
 use Rattle.mini_shrink.specs.Shrinking.{OrGone}
-use Rattle.mini_shrink.proofs.Owns.{and_implied, implied, or_implied}
+use Rattle.mini_shrink.proofs.Owns.{implied, or_implied}
 use Rattle.mini_shrink.proofs.Paces.{both, itself, same}
-use Rattle.mini_rows.specs.Catches.{handler, Row63, CatchRow, CatchContracts}
+use Rattle.mini_rows.specs.Catches.{CatchRow, CatchContracts}
 use Rattle.mini_rows.specs.Declarations.{binding}
-use Rattle.mini_rows.specs.Names.{Nameable, AFunction, AClass, shape_by, inside_of, nameable, Row62, NameRow, NameContracts}
+use Rattle.mini_rows.specs.Names.{Nameable, AFunction, AClass, shape_by, inside_of, NameRow, NameContracts}
 use Rattle.mini_rows.specs.Switches.{Switches}
-use Rattle.mini_rows.specs.Unused.{names, any_names, resolved}
+use Rattle.mini_rows.specs.Unused.{any_names, resolved}
 use Rattle.mini_less.specs.Families.{LessAt}
 use Rattle.mini_less.specs.Names.{NamesReadLess, CatchesReadLess}
 use Rattle.mini_less.proofs.Beside.{Beside, facts_beside}
-use Rattle.mini_less.proofs.Calm.{Quiets, each_quiets, no_mention}
+use Rattle.mini_less.proofs.Calm.{each_quiets, no_mention}
 use Rattle.mini_less.proofs.LessRows.{reads_less_by}
 
 -- what has the name: a handler over its body, or a function or a class expression with a number

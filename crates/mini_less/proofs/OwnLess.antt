@@ -6,12 +6,12 @@ use Rattle.mini_model.specs.declared.place.Position.TheVariants.{Expr, Stmt, Met
 use Rattle.mini_model.specs.declared.shape.Shape.TheVariants as shape
 use Rattle.mini_model.specs.Rewriting.{Step, inside, first, later}
 use Rattle.mini_model.specs.Tree.{Tree, none, ◌▸◌}
-use Rattle.std.specs.Prelude.{◌≡◌, ◌⊎◌, []}
+use Rattle.std.specs.Prelude.{◌≡◌, []}
 use Rattle.mini_kept.specs.KeepsShapes.{KeepsShapes}
 use Rattle.mini_kept.specs.Lifted.{KeepsNames}
 use Rattle.mini_kept.specs.Without.{Assured, BodySets}
 use Rattle.mini_shrink.specs.Facts.{ReadsLess}
-use Rattle.mini_rows.specs.OwnArrows.{OwnArrowRow, OwnArrow, OwnCode}
+use Rattle.mini_rows.specs.OwnArrows.{OwnArrow, OwnCode}
 use Rattle.mini_rows.specs.OwnParts.{OwnPart}
 use Rattle.mini_rows.specs.OwnPrograms.{OwnProgram}
 use Rattle.mini_rows.specs.Steady.{OwnRows, OwnFunctionRow, OwnFunction, LexicalRows, SteadyRow}
@@ -20,7 +20,7 @@ use Rattle.mini_rows.proofs.OwnLightens.{some_row}
 use Rattle.mini_rows.proofs.SteadyKept.{steady_own}
 use Rattle.mini_rows.proofs.SteadyLawful.{AnyRow}
 use Rattle.mini_less.specs.Families.{LessAt}
-use Rattle.mini_less.specs.Own.{OwnReadLess, OwnRowsReadLess, SteadyReadsLess, LexicalReadsLess, PastBlocksReadLess}
+use Rattle.mini_less.specs.Own.{OwnReadLess, SteadyReadsLess, LexicalReadsLess, PastBlocksReadLess}
 use Rattle.mini_less.proofs.BodyThisLess.{body_rows_of_this_less}
 use Rattle.mini_less.proofs.LessRows.{reads_less_by}
 use Rattle.mini_less.proofs.Steps.{steps_less}
