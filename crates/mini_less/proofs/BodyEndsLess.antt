@@ -29,7 +29,8 @@ use Rattle.mini_less.specs.Families.{LessAt}
 use Rattle.mini_less.specs.Less.{Frame, AFor, AWhile, ADo, AnIn, AnOf, frame_shape}
 use Rattle.mini_less.specs.BodyEnds.{BodyEndsLess}
 use Rattle.mini_less.proofs.Calm.{bare_scopes}
-use Rattle.mini_less.proofs.DeclaredKeysLess.{SameTold, each_parts, given_alike, node_says, over_told, same_evals, told_less}
+use Rattle.mini_less.proofs.DeclaredKeysLess.{each_parts, given_alike}
+use Rattle.mini_less.proofs.SameTold.{SameTold, node_says, over_told, same_evals, told_less}
 use Rattle.mini_less.proofs.Plainly.{loop_gives, loop_pattern, loop_lexical, loop_switched, loop_pattern_at, loop_caught, loop_arguments, loop_params}
 
 -- `continue;` and `break;`

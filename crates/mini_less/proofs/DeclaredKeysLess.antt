@@ -36,21 +36,7 @@ use Rattle.mini_less.specs.HeldKeys.{HeldKeysReadLess}
 use Rattle.mini_less.proofs.Calm.{part_bare, bare_gives, bare_writes, bare_lexical, bare_switched, bare_caught, bare_arguments, bare_params, bare_scopes, part_listed, unseen, each_quiets}
 use Rattle.mini_less.proofs.HeldKeysLess.{Holds, plain_quiet, inner_quiet, inner_number, same_said, same_eval, same_arguments, fewer_numbers, held_less, bare_less, short_less}
 use Rattle.mini_less.proofs.LessRows.{reads_less_by}
-
--- a child of which the same is said, among others
-module _ (q : Question) (t u : Tree) (said : (c : Setting) (env : Environment) → pace q c env u ≡ pace q c env t) (ends : (c : Setting) → q.ends c u ≡ q.ends c t) (after : Trees) where
-  child_says : (sc : ℕ → List Binding) (cs : ℕ → Setting) (i : ℕ) (env : Environment) (before : Trees) → paces q sc cs i env (append before (u ▸ after)) ≡ paces q sc cs i env (append before (t ▸ after))
-  unfolding pace
-  child_says sc cs i env none = λ j. ends_after (ends (cs i) j) (said (cs i) (env ++ sc i) j) ∷ paces q sc cs (suc i) (env ++ sc i) after
-  child_says sc cs i env (b ▸ before) = ap (λ ps. ends_after (q.ends (cs i) b) (pace q (cs i) (env ++ sc i) b) ∷ ps) (child_says sc cs (suc i) (env ++ sc i) before)
-
-  -- so the node says the same, if it does itself
-  pub node_says : (c : Setting) (env : Environment) (h : Shape) (xs : List Name) (n : ℕ) (before : Trees) → q.before c env h xs n (append before (u ▸ after)) ≡ q.before c env h xs n (append before (t ▸ after)) → q.orders c h (append before (u ▸ after)) ≡ q.orders c h (append before (t ▸ after))
-      → ((i : ℕ) → opened c.used h (append before (u ▸ after)) i ≡ opened c.used h (append before (t ▸ after)) i) → pace q c env (node h xs n (append before (u ▸ after))) ≡ pace q c env (node h xs n (append before (t ▸ after)))
-  unfolding pace
-  node_says c env h xs n before e f g =
-      (λ j. followed (e j) (in_turn h (paces q (λ i. g i j) (below (f j) c h n) 0 env (append before (u ▸ after)))))
-      ∙ ap (λ ps. followed (q.before c env h xs n (append before (t ▸ after))) (in_turn h ps)) (child_says (opened c.used h (append before (t ▸ after))) (below (q.orders c h (append before (t ▸ after))) c h n) 0 env before)
+use Rattle.mini_less.proofs.SameTold.{SameTold, node_says, over_told, same_evals, same_bound, told_less}
 
 -- ---- a part of a pattern
 
@@ -89,45 +75,6 @@ each_parts ReadEarly b s = record {
   orders = λ c h e ts us. ap (λ ys. (hands_on h && c.ordered) || is_among (by_symbol s) ys) (part_listed h e us ∙ sym (part_listed h e ts));
   ends = λ c t u x y. λ j. c.ordered && (is_among (by_symbol s) (x j) || is_among (by_symbol s) (y j));
 }
-
--- ---- what the trees tell
-
-pub record SameTold (t u : Tree) : Type 0 where
-  pub said : (g : Fact) (b s : ℕ) (c : Setting) (env : Environment) → pace (question g b s) c env u ≡ pace (question g b s) c env t
-  pub eval : has_eval u ≡ has_eval t
-  pub arguments : names_arguments u ≡ names_arguments t
-  pub number : (b : ℕ) → has_number b u ≡ true → has_number b t ≡ true
-
-module _ (t u : Tree) (k : SameTold t u) (after : Trees) where
-  pub same_evals : (before : Trees) → any_has_eval (append before (u ▸ after)) ≡ any_has_eval (append before (t ▸ after))
-  unfolding has_eval
-  same_evals none = ap (λ b. b || any_has_eval after) k.eval
-  same_evals (d ▸ before) = ap (λ b. has_eval d || b) (same_evals before)
-
-  same_names : (g : ℕ → Bool) (i : ℕ) (before : Trees) → any_names_arguments g i (append before (u ▸ after)) ≡ any_names_arguments g i (append before (t ▸ after))
-  unfolding names_arguments
-  same_names g i none = ap (λ b. (g i && b) || any_names_arguments g (suc i) after) k.arguments
-  same_names g i (d ▸ before) = ap (λ b. (g i && names_arguments d) || b) (same_names g (suc i) before)
-
-  no_number : (b : ℕ) (before : Trees) → any_has_number b (append before (u ▸ after)) ≡ true → any_has_number b (append before (t ▸ after)) ≡ true
-  unfolding has_number
-  no_number b none e = or_implied (has_number b u) (any_has_number b after) (has_number b t) (any_has_number b after) (k.number b) (λ i. i) e
-  no_number b (d ▸ before) e = or_implied (has_number b d) (any_has_number b (append before (u ▸ after))) (has_number b d) (any_has_number b (append before (t ▸ after))) (λ i. i) (no_number b before) e
-
-  same_bound : names_of declared.Bound u ≡ names_of declared.Bound t → (before : Trees) → all_names declared.Bound (append before (u ▸ after)) ≡ all_names declared.Bound (append before (t ▸ after))
-  unfolding names_of
-  same_bound e none = ap (λ xs. xs ++ all_names declared.Bound after) e
-  same_bound e (d ▸ before) = ap (λ xs. names_of declared.Bound d ++ xs) (same_bound e before)
-
-  -- a node over them
-  pub over_told : (h : Shape) (xs : List Name) (n : ℕ) (before : Trees) → is_eval_call h (append before (u ▸ after)) ≡ is_eval_call h (append before (t ▸ after)) → ((g : Fact) (b s : ℕ) (c : Setting) (env : Environment) → pace (question g b s) c env (node h xs n (append before (u ▸ after))) ≡ pace (question g b s) c env (node h xs n (append before (t ▸ after)))) → SameTold (node h xs n (append before (t ▸ after))) (node h xs n (append before (u ▸ after)))
-  unfolding has_eval names_arguments has_number
-  over_told h xs n before e f = record {
-    said = f;
-    eval = λ j. e j || same_evals before j;
-    arguments = ap (λ b. (is_name_of_variable h && is_arguments xs) || b) (same_names (is_of_function h) 0 before);
-    number = λ b x. or_implied (nat_eq n b) (any_has_number b (append before (u ▸ after))) (nat_eq n b) (any_has_number b (append before (t ▸ after))) (λ i. i) (no_number b before) x;
-  }
 
 part_calls : (h : Shape) → is_pattern_part h ≡ true → (ts us : Trees) → is_eval_call h us ≡ is_eval_call h ts
 part_calls (shape.CallExpression false) e ts us = absurd (cc e)
@@ -256,22 +203,6 @@ module _ (t u rest : Tree) (a : Alike t u) (k : SameTold t u) (pattern : is_patt
   declaring_callee : (c : Bool) → is_eval_callee (node (declaring_shape c) [] 0 new) ≡ false
   declaring_callee true = refl
   declaring_callee false = refl
-
-pub told_less : (p : Position) (n w t u : Tree) → n ≡ t → w ≡ u → SameTold t u → is_eval_callee u ≡ false → LessAt p n w
-told_less p n w t u a b k f = record {
-  asks = λ i m r. record {
-    by = λ strict slot o fit c env st sc.
-        inl (same (pace (question i m r) c env w) (pace (question i m r) c env n) (ap (pace (question i m r) c env) b ∙ k.said i m r c env ∙ sym (ap (pace (question i m r) c env) a)));
-  };
-  fewer = λ strict slot o fit. record {
-    eval = λ e. ap has_eval a ∙ sym k.eval ∙ sym (ap has_eval b) ∙ e;
-    flags = record {
-      arguments = λ e. ap names_arguments a ∙ sym k.arguments ∙ sym (ap names_arguments b) ∙ e;
-      number = λ m e. ap (has_number m) a ∙ k.number m (sym (ap (has_number m) b) ∙ e);
-    };
-    callee = λ i e. absurd (true≢false (sym e ∙ ap is_eval_callee b ∙ f));
-  };
-}
 
 declared_less : (p : Position) (n w : Tree) → Row52Declared n w → LessAt p n w
 declared_less p n w r =

@@ -41,6 +41,7 @@ pub mod BodyThisLess
 pub mod OwnLess
 pub mod Calm
 pub mod HeldKeysLess
+pub mod SameTold
 pub mod DeclaredKeysLess
 pub mod ArrowsLess
 pub mod Beside
