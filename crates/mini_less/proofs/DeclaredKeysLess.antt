@@ -1,8 +1,8 @@
 -- A pattern that is declared asks the same where one of its keys loses its brackets, however deep
 -- it has that key; so does what declares it.
-use Rattle.std.specs.Prelude.{ℕ, zero, suc, ◌≡◌, refl, nat_eq, Bool, true, false, ◌||◌, ◌&&◌, List, [], ◌∷◌, ◌++◌, map, if◌then◌else◌}
+use Rattle.std.specs.Prelude.{ℕ, zero, suc, ◌≡◌, refl, Bool, true, false, ◌||◌, ◌&&◌, List, [], ◌∷◌, map, if◌then◌else◌}
 use Rattle.std.specs.List.{list_any}
-use Rattle.std.proofs.Common.{ap, ◌∙◌, inl, inr, sym, true≢false}
+use Rattle.std.proofs.Common.{ap, ◌∙◌, inl, inr, sym}
 use Rattle.mini_model.specs.declared.name.Name.{Name}
 use Rattle.mini_model.specs.declared.place.Position.{Position}
 use Rattle.mini_model.specs.declared.place.Position.TheVariants.{Elsewhere}
@@ -10,24 +10,21 @@ use Rattle.mini_model.specs.declared.shape.Shape.{Shape}
 use Rattle.mini_model.specs.declared.shape.Shape.TheVariants as shape
 use Rattle.mini_model.specs.Paths.{append}
 use Rattle.mini_model.specs.Tree.{Tree, Trees, node, none, ◌▸◌, shape_of, is_absent}
-use Rattle.mini_laws.specs.declared.names.Binding.{Binding}
 use Rattle.mini_laws.specs.declared.names.Declared.TheVariants as declared
 use Rattle.mini_laws.specs.declared.names.Use.{Use}
 use Rattle.mini_laws.specs.declared.names.Use.TheVariants.{Read}
 use Rattle.mini_laws.specs.DeclaredNames.{names_of, all_names}
-use Rattle.mini_laws.specs.Foreign.{is_write, has_number, any_has_number, own_lexical, own_pattern_names}
+use Rattle.mini_laws.specs.Foreign.{is_write, own_lexical, own_pattern_names}
 use Rattle.mini_laws.specs.Mentions.{is_among, is_elsewhere}
 use Rattle.mini_laws.specs.Resolved.{Environment, with_symbol}
-use Rattle.mini_laws.specs.ScopeList.{any_has_eval, by_symbol, has_eval, is_eval_call, is_eval_callee, names_in}
+use Rattle.mini_laws.specs.ScopeList.{by_symbol, is_eval_call, is_eval_callee, names_in}
 use Rattle.mini_laws.specs.Scopes.{opened, scopes_by, lexical_scope, at_or_empty}
-use Rattle.mini_laws.specs.Shared.{given_values, is_arguments, is_name_of_variable, is_of_function, is_pattern, names_arguments, any_names_arguments, own_caught, own_pattern_writes, spelled_among, write_at}
+use Rattle.mini_laws.specs.Shared.{given_values, is_pattern, own_caught, own_pattern_writes, spelled_among, write_at}
 use Rattle.mini_laws.specs.Resolved.{gives_value}
 use Rattle.mini_laws.specs.Strict.{is_strict_in}
 use Rattle.mini_shrink.specs.Facts.{Fact, Written, WrittenElsewhere, Given, GivenElsewhere, GivenByPattern, MentionedElsewhere, BoundElsewhere, IsLexical, IsSwitched, InPattern, UnderCatch, ByArguments, ByEval, AmongParameters, ReadEarly, question}
-use Rattle.mini_shrink.specs.Pace.{followed, ends_after, in_turn, Setting, below, Question, pace, paces, reads_if}
+use Rattle.mini_shrink.specs.Pace.{Setting, Question, reads_if}
 use Rattle.mini_shrink.specs.Questions.{hands_on, listed_names, seen_from}
-use Rattle.mini_shrink.proofs.Owns.{or_implied}
-use Rattle.mini_shrink.proofs.Paces.{same}
 use Rattle.mini_rows.specs.KeyHolders.{plain_key, is_pattern_part, Bares, bares_key, bares_within, declaring_shape, Row52Declared, HeldKeyRow, HeldKeyContracts}
 use Rattle.mini_rows.proofs.DeclaredKeyLawful.{bared_alike}
 use Rattle.mini_rows.proofs.DeclaredKeyParts.{Alike}

@@ -1,34 +1,24 @@
 -- A tree that tells the same as another, in every setting, and nodes over them.
-use Rattle.std.specs.Prelude.{ℕ, zero, suc, ◌≡◌, refl, nat_eq, Bool, true, false, ◌||◌, ◌&&◌, List, [], ◌∷◌, ◌++◌, map, if◌then◌else◌}
-use Rattle.std.specs.List.{list_any}
-use Rattle.std.proofs.Common.{ap, ◌∙◌, inl, inr, sym, true≢false}
+use Rattle.std.specs.Prelude.{ℕ, suc, ◌≡◌, nat_eq, Bool, true, false, ◌||◌, ◌&&◌, List, ◌∷◌, ◌++◌}
+use Rattle.std.proofs.Common.{ap, ◌∙◌, inl, sym, true≢false}
 use Rattle.mini_model.specs.declared.name.Name.{Name}
 use Rattle.mini_model.specs.declared.place.Position.{Position}
-use Rattle.mini_model.specs.declared.place.Position.TheVariants.{Elsewhere}
 use Rattle.mini_model.specs.declared.shape.Shape.{Shape}
-use Rattle.mini_model.specs.declared.shape.Shape.TheVariants as shape
 use Rattle.mini_model.specs.Paths.{append}
-use Rattle.mini_model.specs.Tree.{Tree, Trees, node, none, ◌▸◌, shape_of, is_absent}
+use Rattle.mini_model.specs.Tree.{Tree, Trees, node, none, ◌▸◌}
 use Rattle.mini_laws.specs.declared.names.Binding.{Binding}
 use Rattle.mini_laws.specs.declared.names.Declared.TheVariants as declared
-use Rattle.mini_laws.specs.declared.names.Use.{Use}
-use Rattle.mini_laws.specs.declared.names.Use.TheVariants.{Read}
 use Rattle.mini_laws.specs.DeclaredNames.{names_of, all_names}
-use Rattle.mini_laws.specs.Foreign.{is_write, has_number, any_has_number, own_lexical, own_pattern_names}
-use Rattle.mini_laws.specs.Mentions.{is_among, is_elsewhere}
-use Rattle.mini_laws.specs.Resolved.{Environment, with_symbol}
-use Rattle.mini_laws.specs.ScopeList.{any_has_eval, by_symbol, has_eval, is_eval_call, is_eval_callee, names_in}
-use Rattle.mini_laws.specs.Scopes.{opened, scopes_by, lexical_scope, at_or_empty}
-use Rattle.mini_laws.specs.Shared.{given_values, is_arguments, is_name_of_variable, is_of_function, is_pattern, names_arguments, any_names_arguments, own_caught, own_pattern_writes, spelled_among, write_at}
-use Rattle.mini_laws.specs.Resolved.{gives_value}
-use Rattle.mini_laws.specs.Strict.{is_strict_in}
-use Rattle.mini_shrink.specs.Facts.{Fact, Written, WrittenElsewhere, Given, GivenElsewhere, GivenByPattern, MentionedElsewhere, BoundElsewhere, IsLexical, IsSwitched, InPattern, UnderCatch, ByArguments, ByEval, AmongParameters, ReadEarly, question}
-use Rattle.mini_shrink.specs.Pace.{followed, ends_after, in_turn, Setting, below, Question, pace, paces, reads_if}
-use Rattle.mini_shrink.specs.Questions.{hands_on, listed_names, seen_from}
+use Rattle.mini_laws.specs.Foreign.{has_number, any_has_number}
+use Rattle.mini_laws.specs.Resolved.{Environment}
+use Rattle.mini_laws.specs.ScopeList.{any_has_eval, has_eval, is_eval_call, is_eval_callee}
+use Rattle.mini_laws.specs.Scopes.{opened}
+use Rattle.mini_laws.specs.Shared.{is_arguments, is_name_of_variable, is_of_function, names_arguments, any_names_arguments}
+use Rattle.mini_shrink.specs.Facts.{Fact, question}
+use Rattle.mini_shrink.specs.Pace.{followed, ends_after, in_turn, Setting, below, Question, pace, paces}
 use Rattle.mini_shrink.proofs.Owns.{or_implied}
 use Rattle.mini_shrink.proofs.Paces.{same}
 use Rattle.mini_less.specs.Families.{LessAt}
-use Rattle.mini_less.proofs.LessRows.{reads_less_by}
 
 -- a child of which the same is said, among others
 module _ (q : Question) (t u : Tree) (said : (c : Setting) (env : Environment) → pace q c env u ≡ pace q c env t) (ends : (c : Setting) → q.ends c u ≡ q.ends c t) (after : Trees) where
