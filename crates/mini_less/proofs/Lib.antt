@@ -38,3 +38,12 @@ pub mod Whole
 pub mod IfsLess
 pub mod BodiesLess
 pub mod BodyThisLess
+pub mod OwnLess
+pub mod Calm
+pub mod HeldKeysLess
+pub mod SameTold
+pub mod DeclaredKeysLess
+pub mod ArrowsLess
+pub mod Beside
+pub mod NamesLess
+pub mod BodyEndsLess

@@ -17,6 +17,11 @@ use Rattle.mini_rows.specs.Operands.{OperandContracts}
 use Rattle.mini_rows.specs.Negations.{NegationContracts}
 use Rattle.mini_rows.specs.Templates.{TemplateContracts}
 use Rattle.mini_rows.specs.Writes.{WriteContracts}
+use Rattle.mini_rows.specs.Arrows.{ArrowContracts}
+use Rattle.mini_rows.specs.Catches.{CatchContracts}
+use Rattle.mini_rows.specs.KeyHolders.{HeldKeyContracts}
+use Rattle.mini_rows.specs.Names.{NameContracts}
+use Rattle.mini_rows.specs.Switches.{Switches}
 use Rattle.mini_less.specs.Families.{WholeFamiliesReadLess}
 use Rattle.mini_less.proofs.FirstRowsLess.{first_rows_read_less}
 use Rattle.mini_less.proofs.SpellingsLess.{spellings_read_less}
@@ -32,11 +37,26 @@ use Rattle.mini_less.proofs.OperandsLess.{operands_read_less}
 use Rattle.mini_less.proofs.NegationsLess.{negations_read_less}
 use Rattle.mini_less.proofs.TemplatesLess.{templates_read_less}
 use Rattle.mini_less.proofs.WritesLess.{writes_read_less}
+use Rattle.mini_less.proofs.ArrowsLess.{arrows_read_less}
+use Rattle.mini_less.proofs.DeclaredKeysLess.{held_keys_read_less}
+use Rattle.mini_less.proofs.NamesLess.{names_read_less, catches_read_less}
 use Rattle.mini_less.proofs.Joined.{reads_less_joins}
 
-module _ (W : VariableSet) where
+module _ (o : Switches) (W : VariableSet) where
+  abbrev From16 : Position → Tree → Tree → Type 0
+  From16 p n w = NameContracts o p n w ⊎ CatchContracts p n w
+
+  abbrev From15 : Position → Tree → Tree → Type 0
+  From15 p n w = ArrowContracts p n w ⊎ From16 p n w
+
+  abbrev From14 : Position → Tree → Tree → Type 0
+  From14 p n w = HeldKeyContracts p n w ⊎ From15 p n w
+
+  abbrev From13 : Position → Tree → Tree → Type 0
+  From13 p n w = WriteContracts W p n w ⊎ From14 p n w
+
   abbrev From12 : Position → Tree → Tree → Type 0
-  From12 p n w = TemplateContracts p n w ⊎ WriteContracts W p n w
+  From12 p n w = TemplateContracts p n w ⊎ From13 p n w
 
   abbrev From11 : Position → Tree → Tree → Type 0
   From11 p n w = NegationContracts p n w ⊎ From12 p n w
@@ -72,18 +92,21 @@ module _ (W : VariableSet) where
   From1 p n w = SpellingContracts p n w ⊎ From2 p n w
 
 pub whole_families_read_less : WholeFamiliesReadLess
-whole_families_read_less W =
-    reads_less_joins Contracts (From1 W) first_rows_read_less
-    (reads_less_joins SpellingContracts (From2 W) spellings_read_less
-    (reads_less_joins KeyContracts (From3 W) keys_read_less
-    (reads_less_joins ChoiceContracts (From4 W) choices_read_less
-    (reads_less_joins FoldingContracts (From5 W) foldings_read_less
-    (reads_less_joins TurnContracts (From6 W) turns_read_less
-    (reads_less_joins ConstantContracts (From7 W) constants_read_less
-    (reads_less_joins BooleanContracts (From8 W) booleans_read_less
-    (reads_less_joins DeMorganContracts (From9 W) de_morgan_reads_less
-    (reads_less_joins SequenceContracts (From10 W) sequences_read_less
-    (reads_less_joins OperandContracts (From11 W) operands_read_less
-    (reads_less_joins NegationContracts (From12 W) negations_read_less
-    (reads_less_joins TemplateContracts (WriteContracts W) templates_read_less
-    (writes_read_less W)))))))))))))
+whole_families_read_less o W =
+    reads_less_joins Contracts (From1 o W) first_rows_read_less
+    (reads_less_joins SpellingContracts (From2 o W) spellings_read_less
+    (reads_less_joins KeyContracts (From3 o W) keys_read_less
+    (reads_less_joins ChoiceContracts (From4 o W) choices_read_less
+    (reads_less_joins FoldingContracts (From5 o W) foldings_read_less
+    (reads_less_joins TurnContracts (From6 o W) turns_read_less
+    (reads_less_joins ConstantContracts (From7 o W) constants_read_less
+    (reads_less_joins BooleanContracts (From8 o W) booleans_read_less
+    (reads_less_joins DeMorganContracts (From9 o W) de_morgan_reads_less
+    (reads_less_joins SequenceContracts (From10 o W) sequences_read_less
+    (reads_less_joins OperandContracts (From11 o W) operands_read_less
+    (reads_less_joins NegationContracts (From12 o W) negations_read_less
+    (reads_less_joins TemplateContracts (From13 o W) templates_read_less
+    (reads_less_joins (WriteContracts W) (From14 o W) (writes_read_less W)
+    (reads_less_joins HeldKeyContracts (From15 o W) held_keys_read_less
+    (reads_less_joins ArrowContracts (From16 o W) arrows_read_less
+    (reads_less_joins (NameContracts o) CatchContracts (names_read_less o) catches_read_less))))))))))))))))

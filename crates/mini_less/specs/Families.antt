@@ -43,6 +43,11 @@ use Rattle.mini_rows.specs.Sequences.{SequenceContracts}
 use Rattle.mini_rows.specs.Spellings.{SpellingContracts}
 use Rattle.mini_rows.specs.Operands.{OperandContracts}
 use Rattle.mini_rows.specs.Constants.{ConstantContracts}
+use Rattle.mini_rows.specs.Arrows.{ArrowContracts}
+use Rattle.mini_rows.specs.Catches.{CatchContracts}
+use Rattle.mini_rows.specs.KeyHolders.{HeldKeyContracts}
+use Rattle.mini_rows.specs.Names.{NameContracts}
+use Rattle.mini_rows.specs.Switches.{Switches}
 
 -- tests that are turned
 abbrev pub TurnsReadLess : Type 0
@@ -173,10 +178,11 @@ pub record BodyRowsOfThisLess : Type 0 where
 
 -- ---- all families of which each row asks less
 
-abbrev pub WholeFamilies : VariableSet → Position → Tree → Tree → Type 0
-WholeFamilies W p n w =
+abbrev pub WholeFamilies : Switches → VariableSet → Position → Tree → Tree → Type 0
+WholeFamilies o W p n w =
     Contracts p n w ⊎ (SpellingContracts p n w ⊎ (KeyContracts p n w ⊎ (ChoiceContracts p n w ⊎ (FoldingContracts p n w ⊎ (TurnContracts p n w ⊎ (ConstantContracts p n w
-    ⊎ (BooleanContracts p n w ⊎ (DeMorganContracts p n w ⊎ (SequenceContracts p n w ⊎ (OperandContracts p n w ⊎ (NegationContracts p n w ⊎ (TemplateContracts p n w ⊎ WriteContracts W p n w))))))))))))
+    ⊎ (BooleanContracts p n w ⊎ (DeMorganContracts p n w ⊎ (SequenceContracts p n w ⊎ (OperandContracts p n w ⊎ (NegationContracts p n w ⊎ (TemplateContracts p n w ⊎ (WriteContracts W p n w
+    ⊎ (HeldKeyContracts p n w ⊎ (ArrowContracts p n w ⊎ (NameContracts o p n w ⊎ CatchContracts p n w))))))))))))))))
 
 abbrev pub WholeFamiliesReadLess : Type 0
-WholeFamiliesReadLess = (W : VariableSet) → ReadsLess (WholeFamilies W)
+WholeFamiliesReadLess = (o : Switches) (W : VariableSet) → ReadsLess (WholeFamilies o W)

@@ -3,3 +3,8 @@ pub mod Flags
 pub mod Less
 pub mod Neighbours
 pub mod Rebuilt
+pub mod Own
+pub mod HeldKeys
+pub mod Arrows
+pub mod Names
+pub mod BodyEnds

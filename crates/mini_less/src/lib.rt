@@ -3,6 +3,11 @@
 #![tactic(auto)]
 
 ghost use Rattle.mini_less.specs.Families.{ConstantsReadLess, SequencesReadLess, TemplatesReadLess, BooleansReadLess, NegationsReadLess, ChoicesReadLess, WritesReadLess, KeysReadLess, FoldingsReadLess, DeMorganReadsLess, WholeFamiliesReadLess, IfRowsLess, BodyRowsLess, BodyRowsOfThisLess, FirstRowsReadLess, OperandsReadLess, SpellingsReadLess, ReadsLessJoins, ReadsLessNarrows, ListRowsLess, MoreRowsLess, TurnsReadLess, TurnsShrink};
+ghost use Rattle.mini_less.specs.Arrows.{ArrowsReadLess};
+ghost use Rattle.mini_less.specs.BodyEnds.{BodyEndsLess};
+ghost use Rattle.mini_less.specs.HeldKeys.{HeldKeysReadLess};
+ghost use Rattle.mini_less.specs.Names.{NamesReadLess, CatchesReadLess};
+ghost use Rattle.mini_less.specs.Own.{SteadyReadsLess, LexicalReadsLess, PastBlocksReadLess};
 ghost use Rattle.mini_less.specs.Rebuilt.{ListsAskLess, StatementsAskLess};
 
 use mini_laws::Rewrites;
@@ -125,4 +130,38 @@ pub fn body_rows_less()
 /// Rows that rest on what is known of the body around, of members and of `this`.
 pub fn body_rows_of_this_less()
     ensures { BodyRowsOfThisLess }
+{}
+
+/// Rows that rest on what is known of a body, in its own code: those of members and of `this` read
+/// less in a function, an arrow function, a program, a static block and an inner expression; so do
+/// those of lexical names and of declarations that are put where they are used, if the rows do.
+pub fn own_rows_read_less()
+    ensures steady { SteadyReadsLess }
+    ensures lexical { LexicalReadsLess }
+    ensures past { PastBlocksReadLess }
+{}
+
+/// Rows on the keys of patterns and of classes: 52 and 53.
+pub fn held_keys_read_less()
+    ensures { HeldKeysReadLess }
+{}
+
+/// The row of arrow functions whose body only returns a value: 59.
+pub fn arrows_read_less()
+    ensures { ArrowsReadLess }
+{}
+
+/// The row that drops the name of a function or class expression that nothing mentions: 62.
+pub fn names_read_less()
+    ensures { NamesReadLess }
+{}
+
+/// The row that drops what a `catch` catches where nothing mentions it: 63.
+pub fn catches_read_less()
+    ensures { CatchesReadLess }
+{}
+
+/// Rows on the jump that ends a block which is the body of a loop: 78.
+pub fn body_ends_less()
+    ensures { BodyEndsLess }
 {}
