@@ -9,7 +9,9 @@ pub mod Statements
 pub mod TurnsLess
 pub mod Ordered
 pub mod Listing
+pub mod TellingLists
 pub mod LessRows
+pub mod ByLists
 pub mod ListRowsLess
 pub mod MoreRowsLess
 pub mod Made

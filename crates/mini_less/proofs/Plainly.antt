@@ -72,21 +72,21 @@ or_none false = refl
 pub mentions_plainly : (p : Mention → Bool) → Updates p → TellsPlainly (mentions_such p)
 mentions_plainly p u = record { property = λ c env k m s b ts. refl; looped = λ c env f i j ts us e h g. absurd (true≢false (sym g ∙ no_mention p c (frame_shape f))); updated = λ c env x e f. or_none _ ∙ u x c.around (sym (or_none _) ∙ e) (sym (or_none _) ∙ f); plain = λ c env h ts q. no_mention p c (shape_by h); moved = λ c v b env h xs n ts e. unscoped_mention p c h xs e ∙ sym (unscoped_mention p (record c { used = v; is_body = b }) h xs e) }
 
-loop_gives : (u : Use) (f : Frame) (ts : Trees) → given_values u (frame_shape f) [] ts ≡ []
+pub loop_gives : (u : Use) (f : Frame) (ts : Trees) → given_values u (frame_shape f) [] ts ≡ []
 loop_gives u AFor ts = refl
 loop_gives u AWhile ts = refl
 loop_gives u ADo ts = refl
 loop_gives u AnIn ts = refl
 loop_gives u AnOf ts = refl
 
-loop_pattern : (u : Use) (env : Environment) (f : Frame) (ts : Trees) → own_pattern_writes u env (frame_shape f) ts ≡ []
+pub loop_pattern : (u : Use) (env : Environment) (f : Frame) (ts : Trees) → own_pattern_writes u env (frame_shape f) ts ≡ []
 loop_pattern u env AFor ts = refl
 loop_pattern u env AWhile ts = refl
 loop_pattern u env ADo ts = refl
 loop_pattern u env AnIn ts = refl
 loop_pattern u env AnOf ts = refl
 
-loop_lexical : (b : Bool) (f : Frame) (ts : Trees) → own_lexical b (frame_shape f) ts ≡ []
+pub loop_lexical : (b : Bool) (f : Frame) (ts : Trees) → own_lexical b (frame_shape f) ts ≡ []
 loop_lexical true AFor ts = refl
 loop_lexical true AWhile ts = refl
 loop_lexical true ADo ts = refl
@@ -178,7 +178,7 @@ pub no_params : (b : ℕ) (c : Setting) (h : Head) (ts : Trees) → params_at b 
 no_params b c AList ts = refl
 no_params b c h ts = refl
 
-unseen : (x : Name) (sc : ℕ → List Binding) → ((j : ℕ) → sc j ≡ []) → (i : ℕ) (ts : Trees) → seen_from sc i ts x ≡ false
+pub unseen : (x : Name) (sc : ℕ → List Binding) → ((j : ℕ) → sc j ≡ []) → (i : ℕ) (ts : Trees) → seen_from sc i ts x ≡ false
 unseen x sc z i none = refl
 unseen x sc z i (t ▸ ts) = λ j. (ap (λ bs. any_has_eval (t ▸ ts) && is_among x (names_in bs)) (z i) ∙ by (any_has_eval (t ▸ ts))) j || unseen x sc z (suc i) ts j
   where

@@ -3,3 +3,4 @@ pub mod Flags
 pub mod Less
 pub mod Neighbours
 pub mod Rebuilt
+pub mod TellsLists

@@ -1,0 +1,173 @@
+-- Each fact tells only so much of such statements.
+use Rattle.std.specs.Prelude.{ℕ, zero, suc, ◌≡◌, refl, Bool, true, false, ◌&&◌, ◌||◌, List, [], ◌++◌}
+use Rattle.std.specs.List.{list_any}
+use Rattle.std.proofs.Common.{ap, ◌∙◌, sym}
+use Rattle.mini_model.specs.declared.kind.VariableDeclarationKind.TheVariants.{Var}
+use Rattle.mini_model.specs.declared.name.Name.{Name}
+use Rattle.mini_model.specs.declared.shape.Shape.TheVariants as shape
+use Rattle.mini_model.specs.Tree.{Tree, Trees, none, ◌▸◌}
+use Rattle.mini_laws.specs.declared.names.Declared.TheVariants as declared
+use Rattle.mini_laws.specs.declared.names.Use.{Use}
+use Rattle.mini_laws.specs.DeclaredNames.{names_of, with_names}
+use Rattle.mini_laws.specs.Foreign.{is_write, own_lexical}
+use Rattle.mini_laws.specs.Mentions.{Mention, same_variable, is_among, is_elsewhere}
+use Rattle.mini_laws.specs.Resolved.{Environment}
+use Rattle.mini_laws.specs.ScopeList.{any_has_eval, by_symbol}
+use Rattle.mini_laws.specs.Scopes.{opened, scopes_by, lexical_scope}
+use Rattle.mini_shrink.specs.Pace.{Setting, Question}
+use Rattle.mini_shrink.specs.Questions.{Own, asks, mentions_such, gives_such, pattern_gives, names_at, lexical_at, switched_at, pattern_at, caught_at, arguments_at, params_at, seen_from, seen_at, early}
+use Rattle.mini_shrink.specs.Facts.{Fact, Written, WrittenElsewhere, Given, GivenElsewhere, GivenByPattern, MentionedElsewhere, BoundElsewhere, IsLexical, IsSwitched, InPattern, UnderCatch, ByArguments, ByEval, AmongParameters, ReadEarly, question}
+use Rattle.mini_rows.specs.Lists.{is_unscoped_shape}
+use Rattle.mini_less.specs.Less.{Frame, AFor, AWhile, ADo, AnIn, AnOf, frame_shape, headed, TellsPlainly}
+use Rattle.mini_less.specs.TellsLists.{TellsLists}
+use Rattle.mini_less.proofs.EachFact.{Unordered}
+use Rattle.mini_less.proofs.Plainly.{Updates, mentions_plainly, unscoped_mention, gives_plainly, loop_gives, loop_pattern, loop_lexical, pattern_gives_plainly, names_plainly, no_switched, no_pattern, no_caught, no_arguments, no_params, loop_switched, loop_pattern_at, loop_caught, loop_arguments, loop_params, lexical_plainly, unseen, head_scope, later_scopes, seen_plainly}
+
+loop_unscoped : (f : Frame) → is_unscoped_shape (frame_shape f) ≡ true
+loop_unscoped AFor = refl
+loop_unscoped AWhile = refl
+loop_unscoped ADo = refl
+loop_unscoped AnIn = refl
+loop_unscoped AnOf = refl
+
+-- ---- names that are mentioned, or given a value
+
+pub mentions_lists : (p : Mention → Bool) → Updates p → TellsLists (mentions_such p)
+mentions_lists p u = record {
+  plainly = mentions_plainly p u;
+  unheaded = λ c env f i ts e. unscoped_mention p c (frame_shape f) [] (loop_unscoped f);
+  switched = λ c env d e cases x y z. refl;
+  hoisted = λ c env ts. refl;
+}
+
+pub gives_lists : (p : Mention → Bool) → TellsLists (gives_such p)
+gives_lists p = record {
+  plainly = gives_plainly p;
+  unheaded = λ c env f i ts e. by c f (i ▸ ts);
+  switched = λ c env d e cases x y z. refl;
+  hoisted = λ c env ts. refl;
+}
+  where
+    by : (c : Setting) (f : Frame) (ts : Trees) → gives_such p c [] (frame_shape f) [] 0 ts ≡ false
+    by c AFor ts = refl
+    by c AWhile ts = refl
+    by c ADo ts = refl
+    by c AnIn ts = refl
+    by c AnOf ts = refl
+
+pub patterns_lists : (s : ℕ) → TellsLists (pattern_gives s)
+patterns_lists s = record {
+  plainly = pattern_gives_plainly s;
+  unheaded = λ c env f i ts e. ap (is_among (by_symbol s)) (loop_pattern c.used env f (i ▸ ts));
+  switched = λ c env d e cases x y z. refl;
+  hoisted = λ c env ts. refl;
+}
+
+-- ---- names that stand at a node
+
+pub switched_lists : (s : ℕ) → TellsLists (names_at switched_at s)
+unfolding names_of
+switched_lists s = record {
+  plainly = names_plainly switched_at s no_switched (λ c v b h n ts. refl) (λ c k m d b ts. refl) loop_switched;
+  unheaded = λ c env f i ts e. ap (is_among (by_symbol s)) (loop_switched c f (i ▸ ts));
+  switched = λ c env d e cases x y z. (λ j. is_among (by_symbol s) ((y ∙ sym x) j ++ (names_of declared.Lexical cases ++ []))) ∙ z;
+  hoisted = λ c env ts. refl;
+}
+
+pub patterned_lists : (s : ℕ) → TellsLists (names_at pattern_at s)
+patterned_lists s = record {
+  plainly = names_plainly pattern_at s no_pattern (λ c v b h n ts. refl) (λ c k m d b ts. refl) loop_pattern_at;
+  unheaded = λ c env f i ts e. ap (is_among (by_symbol s)) (loop_pattern_at c f (i ▸ ts));
+  switched = λ c env d e cases x y z. refl;
+  hoisted = λ c env ts. refl;
+}
+
+pub caught_lists : (s : ℕ) → TellsLists (names_at caught_at s)
+caught_lists s = record {
+  plainly = names_plainly caught_at s no_caught (λ c v b h n ts. refl) (λ c k m d b ts. refl) loop_caught;
+  unheaded = λ c env f i ts e. ap (is_among (by_symbol s)) (loop_caught c f (i ▸ ts));
+  switched = λ c env d e cases x y z. refl;
+  hoisted = λ c env ts. refl;
+}
+
+pub arguments_lists : (s : ℕ) → TellsLists (names_at arguments_at s)
+arguments_lists s = record {
+  plainly = names_plainly arguments_at s no_arguments (λ c v b h n ts. refl) (λ c k m d b ts. refl) loop_arguments;
+  unheaded = λ c env f i ts e. ap (is_among (by_symbol s)) (loop_arguments c f (i ▸ ts));
+  switched = λ c env d e cases x y z. refl;
+  hoisted = λ c env ts. refl;
+}
+
+pub params_lists : (b s : ℕ) → TellsLists (names_at (params_at b) s)
+params_lists b s = record {
+  plainly = names_plainly (params_at b) s (no_params b) (λ c v b h n ts. refl) (λ c k m d b ts. refl) (loop_params b);
+  unheaded = λ c env f i ts e. ap (is_among (by_symbol s)) (loop_params b c f (i ▸ ts));
+  switched = λ c env d e cases x y z. refl;
+  hoisted = λ c env ts. refl;
+}
+
+pub lexical_lists : (s : ℕ) → TellsLists (names_at lexical_at s)
+lexical_lists s = record {
+  plainly = lexical_plainly s;
+  unheaded = λ c env f i ts e. ap (is_among (by_symbol s)) (loop_lexical c.is_body f (i ▸ ts));
+  switched = λ c env d e cases x y z. ap (is_among (by_symbol s)) (of_switch c.is_body (e ▸ cases ▸ none));
+  hoisted = λ c env ts. ap (is_among (by_symbol s)) (of_var c.is_body ts);
+}
+  where
+    of_switch : (b : Bool) (ts : Trees) → own_lexical b shape.SwitchStatement ts ≡ []
+    of_switch true ts = refl
+    of_switch false ts = refl
+
+    of_var : (b : Bool) (ts : Trees) → own_lexical b (shape.VariableDeclaration Var) ts ≡ []
+    of_var true ts = refl
+    of_var false ts = refl
+
+-- ---- names of scopes in which a direct eval stands
+
+no_names : lexical_scope [] ≡ []
+unfolding with_names
+no_names = refl
+
+-- a loop whose head declares no lexical name opens no scope
+pub unheaded_opens : (u : Use) (f : Frame) (i : Tree) (ts : Trees) → headed f i ≡ [] → (j : ℕ) → opened u (frame_shape f) (i ▸ ts) j ≡ []
+unheaded_opens u f i ts e zero = head_scope u f i ts ∙ ap lexical_scope e ∙ no_names
+unheaded_opens u f i ts e (suc j) = later_scopes u f i ts j
+
+pub hoisted_opens : (u : Use) (ts : Trees) (j : ℕ) → opened u (shape.VariableDeclaration Var) ts j ≡ []
+unfolding scopes_by
+hoisted_opens u ts j = refl
+
+never_and : (b : Bool) → (b && false) ≡ false
+never_and true = refl
+never_and false = refl
+
+pub seen_lists : (s : ℕ) → TellsLists (seen_at s)
+unfolding scopes_by
+seen_lists s = record {
+  plainly = seen_plainly s;
+  unheaded = λ c env f i ts e. unseen (by_symbol s) (opened c.used (frame_shape f) (i ▸ ts)) (unheaded_opens c.used f i ts e) 0 (i ▸ ts);
+  switched = λ c env d e cases x y z.
+      let later = seen_from (opened c.used shape.SwitchStatement (d ▸ cases ▸ none)) 1 (cases ▸ none) (by_symbol s) in
+      let first : (t : Tree) → ((any_has_eval (t ▸ cases ▸ none) && false) || later) ≡ later = λ t. ap (λ b. b || later) (never_and (any_has_eval (t ▸ cases ▸ none))) in
+      first e ∙ sym (first d) ∙ z;
+  hoisted = λ c env ts. unseen (by_symbol s) (opened c.used (shape.VariableDeclaration Var) ts) (hoisted_opens c.used ts) 0 ts;
+}
+
+-- ---- each fact
+
+pub by_lists : (P : Question → Type 0) → ((o : Own) → TellsLists o → Unordered o → P (asks o)) → ((b k : ℕ) → P (early b k)) → (g : Fact) (b k : ℕ) → P (question g b k)
+by_lists P f r Written c k = f _ (mentions_lists (is_write (by_symbol k)) (λ x a e f. e)) (λ c d env h xs n ts. refl)
+by_lists P f r WrittenElsewhere c k = f _ (mentions_lists (λ m. is_write (by_symbol k) m && is_elsewhere c m.around) (λ x a e f. e)) (λ c d env h xs n ts. refl)
+by_lists P f r Given c k = f _ (gives_lists (is_write (by_symbol k))) (λ c d env h xs n ts. refl)
+by_lists P f r GivenElsewhere c k = f _ (gives_lists (λ m. is_write (by_symbol k) m && is_elsewhere c m.around)) (λ c d env h xs n ts. refl)
+by_lists P f r MentionedElsewhere c k = f _ (mentions_lists (λ m. same_variable (by_symbol k) m.name && is_elsewhere c m.around) (λ x a e f. e)) (λ c d env h xs n ts. refl)
+by_lists P f r BoundElsewhere c k = f _ (mentions_lists (λ m. same_variable (by_symbol k) m.name && m.binds && is_elsewhere c m.around) (λ x a e f. e)) (λ c d env h xs n ts. refl)
+by_lists P f r IsLexical c k = f _ (lexical_lists k) (λ c d env h xs n ts. refl)
+by_lists P f r IsSwitched c k = f _ (switched_lists k) (λ c d env h xs n ts. refl)
+by_lists P f r InPattern c k = f _ (patterned_lists k) (λ c d env h xs n ts. refl)
+by_lists P f r GivenByPattern c k = f _ (patterns_lists k) (λ c d env h xs n ts. refl)
+by_lists P f r UnderCatch c k = f _ (caught_lists k) (λ c d env h xs n ts. refl)
+by_lists P f r ByArguments c k = f _ (arguments_lists k) (λ c d env h xs n ts. refl)
+by_lists P f r ByEval c k = f _ (seen_lists k) (λ c d env h xs n ts. refl)
+by_lists P f r AmongParameters c k = f _ (params_lists c k) (λ c d env h xs n ts. refl)
+by_lists P f r ReadEarly c k = r c k
