@@ -2,6 +2,7 @@
 -- declares no lexical name, of a `switch`, and of a `var`.
 use Rattle.std.specs.Prelude.{ℕ, zero, suc, ◌≡◌, refl, nat_eq, Bool, true, false, ◌&&◌, ◌||◌, List, [], ◌∷◌, ◌++◌}
 use Rattle.std.proofs.Common.{ap, ◌∙◌, sym, subst}
+use Rattle.std.proofs.lemmas.Bool.{and_parts}
 use Rattle.std.proofs.lemmas.List.{append-nil}
 use Rattle.mini_model.specs.declared.kind.VariableDeclarationKind.TheVariants.{Var}
 use Rattle.mini_model.specs.declared.shape.Shape.TheVariants as shape
@@ -18,21 +19,21 @@ use Rattle.mini_laws.specs.ScopeList.{has_eval, any_has_eval, by_symbol}
 use Rattle.mini_laws.specs.Scopes.{opened, scopes_by, hoisted_by, lexical_scope}
 use Rattle.mini_laws.specs.Shared.{names_arguments, any_names_arguments, is_of_function}
 use Rattle.mini_kept.specs.KeepsNames.{is_statement_use}
-use Rattle.mini_kept.proofs.Quiet.{is_quiet, quiet_names}
+use Rattle.mini_kept.proofs.Quiet.{is_quiet, no_names}
 use Rattle.mini_shrink.specs.Pace.{Pace, Silent, followed, ends_after, all_followed, in_turn, Setting, below, pace, paces}
 use Rattle.mini_shrink.specs.Questions.{Own, finds, finds_each, any_of, early}
-use Rattle.mini_rows.specs.Lists.{declaration, switch}
-use Rattle.mini_rows.specs.Sketches.{AList, If, Asked, AsValue, AsWholeItem, AsWholeList, use_by}
+use Rattle.mini_rows.specs.Lists.{declaration, switch, is_unscoped}
+use Rattle.mini_rows.specs.Sketches.{AList, If, Asked, AsValue, AsItem, AsWholeItem, AsWholeList, use_by}
 use Rattle.mini_rows.proofs.Arranging.{All, Any, Below, all_of, of_all}
-use Rattle.mini_rows.proofs.ArrangedValues.{is_value}
+use Rattle.mini_rows.proofs.ArrangedValues.{is_value, is_no_inner}
 use Rattle.mini_less.specs.Less.{Frame, frame_shape, headed}
 use Rattle.mini_less.specs.TellsLists.{TellsLists}
-use Rattle.mini_less.proofs.Finding.{Lacks, lacks_local, setting, setting_below, lacks_below, below_lacks, belongs_same}
+use Rattle.mini_less.proofs.Finding.{Lacks, lacks_anyhow, lacks_local, setting, setting_below, lacks_below, below_lacks, belongs_same}
 use Rattle.mini_less.proofs.Flags.{none_of, spares_local, spares_below, below_spares, numbers_local, numbers_below, below_numbers, unlike}
 use Rattle.mini_less.proofs.Headed.{and_nothing}
 use Rattle.mini_less.proofs.LoopsLess.{frame_asked, loop_node, loop_setting, loop_standing, head_paces, of_turn, to_turn, told_by_head, silent_root, frame_evals, frame_names, frame_of_function}
 use Rattle.mini_less.proofs.Made.{ByParts, by_parts, Spared, spared_by_parts, spared_below, below_spared, lacks_updated, lacks_properties, lacks_moved, calm_moved, calm_updated, calm_properties, spares_properties, numbers_properties}
-use Rattle.mini_less.proofs.Plainly.{is_reads, split, join, Calmly, calm_local, calm_below, below_calm, standing, standing_below, early_alone, later_scopes}
+use Rattle.mini_less.proofs.Plainly.{is_reads, split, join, Calmly, calm_anyhow, calm_local, calm_below, below_calm, standing, standing_below, early_alone, later_scopes}
 use Rattle.mini_less.proofs.TellingLists.{unheaded_opens, hoisted_opens}
 
 abbrev pub Every : (Tree → Type 0) → Trees → Type 0
@@ -41,6 +42,8 @@ Every P (t ▸ ts) = P t × Every P ts
 
 pub record ByLists (Q : Asked → Tree → Type 0) : Type 1 where
   pub parts : ByParts Q
+  -- an unscoped statement stands in the list and in a block alike
+  pub placed : (t : Tree) → is_unscoped t ≡ true → (Q AsWholeItem t → Q AsItem t) × (Q AsItem t → Q AsWholeItem t)
   pub loop_down : (f : Frame) (i : Tree) (ts : Trees) → headed f i ≡ [] → Q AsWholeItem (loop_node f i ts) → Below Q (frame_asked f) 0 (i ▸ ts)
   pub loop_up : (f : Frame) (i : Tree) (ts : Trees) → headed f i ≡ [] → Below Q (frame_asked f) 0 (i ▸ ts) → Q AsWholeItem (loop_node f i ts)
   pub switched : (d e cases : Tree) → is_value (shape_of d) ≡ true → is_value (shape_of e) ≡ true → Q AsWholeItem (switch d cases) → Q AsValue d × (Q AsValue e → Q AsWholeItem (switch e cases))
@@ -52,17 +55,13 @@ pub record ByLists (Q : Asked → Tree → Type 0) : Type 1 where
   pub head_up : (ds : Trees) → Every Declared ds → Q AsValue (declaration Var ds)
 
 value_quiet : (t : Tree) → is_value (shape_of t) ≡ true → is_quiet (shape_of t) ≡ true
-value_quiet t e = by (is_quiet (shape_of t)) e
-  where
-    by : (b : Bool) {c : Bool} → (b && c) ≡ true → b ≡ true
-    by true e = refl
-    by false e = absurd (cc e)
+value_quiet t e = (and_parts (is_quiet (shape_of t)) (is_no_inner (shape_of t)) e).0
 
 pub value_lexical : (t : Tree) → is_value (shape_of t) ≡ true → names_of declared.Lexical t ≡ []
-value_lexical t e = quiet_names declared.Lexical t (value_quiet t e)
+value_lexical t e = no_names declared.Lexical t (value_quiet t e)
 
 value_bound : (t : Tree) → is_value (shape_of t) ≡ true → names_of declared.Bound t ≡ []
-value_bound t e = quiet_names declared.Bound t (value_quiet t e)
+value_bound t e = no_names declared.Bound t (value_quiet t e)
 
 hoisted : (u : Use) → is_statement_use u ≡ true → hoisted_by u ≡ Hoisted
 hoisted Read e = refl
@@ -143,6 +142,7 @@ module _ (o : Own) (t : TellsLists o) (c : Setting) (env : Environment) (su : is
   pub lacks_lists : ByLists Q
   lacks_lists = record {
     parts = by_parts Q (lacks_updated o t.plainly c env) (lacks_properties o t.plainly c env) (lacks_moved o t.plainly c env) (lacks_local o t.plainly c env);
+    placed = λ x e. (lacks_anyhow o t.plainly c env su AsWholeItem AsItem refl refl x e, lacks_anyhow o t.plainly c env su AsItem AsWholeItem refl refl x e);
     loop_down = loop_lacks;
     loop_up = lacks_loop;
     switched = switch_lacks;
@@ -247,6 +247,7 @@ module _ (m s : ℕ) (c : Setting) (env : Environment) (su : is_statement_use c.
   pub calm_lists : ByLists C
   calm_lists = record {
     parts = by_parts C (calm_updated m s c env) (calm_properties m s c env) (calm_moved m s c env) (calm_local m s c env);
+    placed = λ x e. (calm_anyhow m s c env su AsWholeItem AsItem refl refl x e, calm_anyhow m s c env su AsItem AsWholeItem refl refl x e);
     loop_down = loop_calm;
     loop_up = calm_loop;
     switched = switch_calm;
@@ -273,6 +274,7 @@ pub spared_lists : ByLists Spared
 unfolding has_eval
 spared_lists = record {
   parts = spared_by_parts;
+  placed = λ t e. (λ a. a, λ a. a);
   loop_down = λ f i ts e a. spared_below (frame_asked f) 0 (i ▸ ts) (sym (frame_evals f (i ▸ ts)) ∙ a);
   loop_up = λ f i ts e a. frame_evals f (i ▸ ts) ∙ below_spared (frame_asked f) 0 (i ▸ ts) a;
   switched = λ d e cases v u a. let (x, y) = none_of (has_eval d) (has_eval cases || false) a in (x, λ q j. q j || y j);
@@ -300,6 +302,7 @@ pub names_lists : ByLists Names
 unfolding names_arguments
 names_lists = record {
   parts = by_parts Names (λ x e f. e) spares_properties (λ t e. (λ a. a, λ a. a)) spares_local;
+  placed = λ t e. (λ a. a, λ a. a);
   loop_down = λ f i ts e a. spares_below (frame_asked f) (is_of_function (frame_shape f)) (frame_of_function f) 0 (i ▸ ts) (sym (frame_names f (i ▸ ts)) ∙ a);
   loop_up = λ f i ts e a. frame_names f (i ▸ ts) ∙ below_spares (frame_asked f) (is_of_function (frame_shape f)) (frame_of_function f) 0 (i ▸ ts) a;
   switched = λ d e cases v u a. let (x, y) = none_of (names_arguments d) (names_arguments cases || false) a in (x, λ q j. q j || y j);
@@ -329,6 +332,7 @@ module _ (b : ℕ) where
   unfolding has_number
   numbers_lists = record {
     parts = by_parts Unnumbered (λ x e f. e) (numbers_properties b) (λ t e. (λ a. a, λ a. a)) (numbers_local b);
+    placed = λ t e. (λ a. a, λ a. a);
     loop_down = λ f i ts e a. numbers_below b (frame_asked f) 0 (i ▸ ts) (rest_of (any_has_number (suc b) (i ▸ ts)) a);
     loop_up = λ f i ts e a j. unlike b j || below_numbers b (frame_asked f) 0 (i ▸ ts) a j;
     switched = λ d e cases v u a.
@@ -345,9 +349,7 @@ module _ (b : ℕ) where
       rest_of r a = (none_of (nat_eq 0 (suc b)) r a).1
 
       var_number : (ds : Trees) → has_number (suc b) (declaration Var ds) ≡ false → Every (λ t. has_number (suc b) t ≡ false) ds
-      unfolding has_number
       var_number ds a = every_number ds (rest_of (any_has_number (suc b) ds) (none_of (has_number (suc b) (listed ds)) false (rest_of (has_number (suc b) (listed ds) || false) a)).0)
 
       number_var : (ds : Trees) → Every (λ t. has_number (suc b) t ≡ false) ds → has_number (suc b) (declaration Var ds) ≡ false
-      unfolding has_number
       number_var ds a = λ j. unlike b j || ((unlike b j || number_every ds a j) || false)

@@ -12,6 +12,8 @@ pub mod Listing
 pub mod TellingLists
 pub mod LessRows
 pub mod ByLists
+pub mod ListMade
+pub mod ListHeads
 pub mod ListRowsLess
 pub mod MoreRowsLess
 pub mod Made
