@@ -14,6 +14,7 @@ pub mod LessRows
 pub mod ByLists
 pub mod ListMade
 pub mod ListHeads
+pub mod ListJoins
 pub mod ListRowsLess
 pub mod MoreRowsLess
 pub mod Made

@@ -1,14 +1,18 @@
 -- Each fact tells only so much of such statements.
-use Rattle.std.specs.Prelude.{ℕ, zero, suc, ◌≡◌, refl, Bool, true, false, ◌&&◌, ◌||◌, List, [], ◌++◌}
+use Rattle.std.specs.Prelude.{ℕ, zero, suc, ◌≡◌, refl, Bool, true, false, ◌&&◌, ◌||◌, List, [], ◌∷◌, ◌++◌}
 use Rattle.std.specs.List.{list_any}
 use Rattle.std.proofs.Common.{ap, ◌∙◌, sym}
-use Rattle.mini_model.specs.declared.kind.VariableDeclarationKind.TheVariants.{Var}
+use Rattle.std.proofs.lemmas.List.{append-nil}
+use Rattle.mini_model.specs.declared.kind.VariableDeclarationKind.{VariableDeclarationKind}
+use Rattle.mini_model.specs.declared.kind.VariableDeclarationKind.TheVariants.{Var, Let, Const}
 use Rattle.mini_model.specs.declared.name.Name.{Name}
 use Rattle.mini_model.specs.declared.shape.Shape.TheVariants as shape
-use Rattle.mini_model.specs.Tree.{Tree, Trees, none, ◌▸◌}
+use Rattle.mini_model.specs.Paths.{append}
+use Rattle.mini_model.specs.Tree.{Tree, Trees, none, ◌▸◌, listed}
 use Rattle.mini_laws.specs.declared.names.Declared.TheVariants as declared
 use Rattle.mini_laws.specs.declared.names.Use.{Use}
-use Rattle.mini_laws.specs.DeclaredNames.{names_of, with_names}
+use Rattle.mini_laws.specs.declared.names.Use.TheVariants.{Read}
+use Rattle.mini_laws.specs.DeclaredNames.{names_of, all_names, with_names}
 use Rattle.mini_laws.specs.Foreign.{is_write, own_lexical}
 use Rattle.mini_laws.specs.Mentions.{Mention, same_variable, is_among, is_elsewhere}
 use Rattle.mini_laws.specs.Resolved.{Environment}
@@ -18,10 +22,20 @@ use Rattle.mini_shrink.specs.Pace.{Setting, Question}
 use Rattle.mini_shrink.specs.Questions.{Own, asks, mentions_such, gives_such, pattern_gives, names_at, lexical_at, switched_at, pattern_at, caught_at, arguments_at, params_at, seen_from, seen_at, early}
 use Rattle.mini_shrink.specs.Facts.{Fact, Written, WrittenElsewhere, Given, GivenElsewhere, GivenByPattern, MentionedElsewhere, BoundElsewhere, IsLexical, IsSwitched, InPattern, UnderCatch, ByArguments, ByEval, AmongParameters, ReadEarly, question}
 use Rattle.mini_rows.specs.Lists.{is_unscoped_shape}
+use Rattle.mini_rows.proofs.ListKeptDeclarations.{all_both}
 use Rattle.mini_less.specs.Less.{Frame, AFor, AWhile, ADo, AnIn, AnOf, frame_shape, headed, TellsPlainly}
 use Rattle.mini_less.specs.TellsLists.{TellsLists}
 use Rattle.mini_less.proofs.EachFact.{Unordered}
 use Rattle.mini_less.proofs.Plainly.{Updates, mentions_plainly, unscoped_mention, gives_plainly, loop_gives, loop_pattern, loop_lexical, pattern_gives_plainly, names_plainly, no_switched, no_pattern, no_caught, no_arguments, no_params, loop_switched, loop_pattern_at, loop_caught, loop_arguments, loop_params, lexical_plainly, unseen, head_scope, later_scopes, seen_plainly}
+
+-- a name among those of two lists is among those of either
+pub among_both : (x : Name) (xs ys : List Name) → is_among x (xs ++ ys) ≡ (is_among x xs || is_among x ys)
+among_both x [] ys = refl
+among_both x (z ∷ xs) ys = ap (λ b. same_variable x z || b) (among_both x xs ys) ∙ sym (or_more (same_variable x z) (is_among x xs) (is_among x ys))
+  where
+    or_more : (x y z : Bool) → ((x || y) || z) ≡ (x || (y || z))
+    or_more true y z = refl
+    or_more false y z = refl
 
 loop_unscoped : (f : Frame) → is_unscoped_shape (frame_shape f) ≡ true
 loop_unscoped AFor = refl
@@ -38,6 +52,7 @@ mentions_lists p u = record {
   unheaded = λ c env f i ts e. unscoped_mention p c (frame_shape f) [] (loop_unscoped f);
   switched = λ c env d e cases x y z. refl;
   hoisted = λ c env ts. refl;
+  joined = λ c env k ds es r x y. refl;
 }
 
 pub gives_lists : (p : Mention → Bool) → TellsLists (gives_such p)
@@ -46,6 +61,7 @@ gives_lists p = record {
   unheaded = λ c env f i ts e. by c f (i ▸ ts);
   switched = λ c env d e cases x y z. refl;
   hoisted = λ c env ts. refl;
+  joined = λ c env k ds es r x y. refl;
 }
   where
     by : (c : Setting) (f : Frame) (ts : Trees) → gives_such p c [] (frame_shape f) [] 0 ts ≡ false
@@ -61,6 +77,7 @@ patterns_lists s = record {
   unheaded = λ c env f i ts e. ap (is_among (by_symbol s)) (loop_pattern c.used env f (i ▸ ts));
   switched = λ c env d e cases x y z. refl;
   hoisted = λ c env ts. refl;
+  joined = λ c env k ds es r x y. refl;
 }
 
 -- ---- names that stand at a node
@@ -72,6 +89,7 @@ switched_lists s = record {
   unheaded = λ c env f i ts e. ap (is_among (by_symbol s)) (loop_switched c f (i ▸ ts));
   switched = λ c env d e cases x y z. (λ j. is_among (by_symbol s) ((y ∙ sym x) j ++ (names_of declared.Lexical cases ++ []))) ∙ z;
   hoisted = λ c env ts. refl;
+  joined = λ c env k ds es r x y. refl;
 }
 
 pub patterned_lists : (s : ℕ) → TellsLists (names_at pattern_at s)
@@ -80,6 +98,7 @@ patterned_lists s = record {
   unheaded = λ c env f i ts e. ap (is_among (by_symbol s)) (loop_pattern_at c f (i ▸ ts));
   switched = λ c env d e cases x y z. refl;
   hoisted = λ c env ts. refl;
+  joined = λ c env k ds es r x y. refl;
 }
 
 pub caught_lists : (s : ℕ) → TellsLists (names_at caught_at s)
@@ -88,6 +107,7 @@ caught_lists s = record {
   unheaded = λ c env f i ts e. ap (is_among (by_symbol s)) (loop_caught c f (i ▸ ts));
   switched = λ c env d e cases x y z. refl;
   hoisted = λ c env ts. refl;
+  joined = λ c env k ds es r x y. refl;
 }
 
 pub arguments_lists : (s : ℕ) → TellsLists (names_at arguments_at s)
@@ -96,6 +116,7 @@ arguments_lists s = record {
   unheaded = λ c env f i ts e. ap (is_among (by_symbol s)) (loop_arguments c f (i ▸ ts));
   switched = λ c env d e cases x y z. refl;
   hoisted = λ c env ts. refl;
+  joined = λ c env k ds es r x y. refl;
 }
 
 pub params_lists : (b s : ℕ) → TellsLists (names_at (params_at b) s)
@@ -104,19 +125,35 @@ params_lists b s = record {
   unheaded = λ c env f i ts e. ap (is_among (by_symbol s)) (loop_params b c f (i ▸ ts));
   switched = λ c env d e cases x y z. refl;
   hoisted = λ c env ts. refl;
+  joined = λ c env k ds es r x y. refl;
 }
 
 pub lexical_lists : (s : ℕ) → TellsLists (names_at lexical_at s)
+unfolding names_of
 lexical_lists s = record {
   plainly = lexical_plainly s;
   unheaded = λ c env f i ts e. ap (is_among (by_symbol s)) (loop_lexical c.is_body f (i ▸ ts));
   switched = λ c env d e cases x y z. ap (is_among (by_symbol s)) (of_switch c.is_body (e ▸ cases ▸ none));
   hoisted = λ c env ts. ap (is_among (by_symbol s)) (of_var c.is_body ts);
+  joined = λ c env k ds es r x y. lexical_joined c.is_body k ds es x y;
 }
   where
     of_switch : (b : Bool) (ts : Trees) → own_lexical b shape.SwitchStatement ts ≡ []
     of_switch true ts = refl
     of_switch false ts = refl
+
+    joined_names : (ds es : Trees) → is_among (by_symbol s) (all_names declared.Bound ds ++ []) ≡ false → is_among (by_symbol s) (all_names declared.Bound es ++ []) ≡ false → is_among (by_symbol s) (all_names declared.Bound (append ds es) ++ []) ≡ false
+    joined_names ds es x y =
+        let one : (ts : Trees) → is_among (by_symbol s) (all_names declared.Bound ts ++ []) ≡ is_among (by_symbol s) (all_names declared.Bound ts) = λ ts. ap (is_among (by_symbol s)) (append-nil (all_names declared.Bound ts)) in
+        one (append ds es) ∙ ap (is_among (by_symbol s)) (all_both declared.Bound ds es) ∙ among_both (by_symbol s) (all_names declared.Bound ds) (all_names declared.Bound es) ∙ (λ j. (sym (one ds) ∙ x) j || (sym (one es) ∙ y) j)
+
+    lexical_joined : (b : Bool) (k : VariableDeclarationKind) (ds es : Trees) → is_among (by_symbol s) (own_lexical b (shape.VariableDeclaration k) (listed ds ▸ none)) ≡ false → is_among (by_symbol s) (own_lexical b (shape.VariableDeclaration k) (listed es ▸ none)) ≡ false → is_among (by_symbol s) (own_lexical b (shape.VariableDeclaration k) (listed (append ds es) ▸ none)) ≡ false
+    lexical_joined true Var ds es x y = refl
+    lexical_joined false Var ds es x y = refl
+    lexical_joined true Let ds es x y = joined_names ds es x y
+    lexical_joined false Let ds es x y = joined_names ds es x y
+    lexical_joined true Const ds es x y = joined_names ds es x y
+    lexical_joined false Const ds es x y = joined_names ds es x y
 
     of_var : (b : Bool) (ts : Trees) → own_lexical b (shape.VariableDeclaration Var) ts ≡ []
     of_var true ts = refl
@@ -137,6 +174,13 @@ pub hoisted_opens : (u : Use) (ts : Trees) (j : ℕ) → opened u (shape.Variabl
 unfolding scopes_by
 hoisted_opens u ts j = refl
 
+-- nor does a declaration in a list
+pub declaration_opens : (u : Use) → u ≡ Read → (k : VariableDeclarationKind) (ts : Trees) (j : ℕ) → opened u (shape.VariableDeclaration k) ts j ≡ []
+unfolding scopes_by
+declaration_opens u r Var ts j = refl
+declaration_opens u r Let ts j = ap (λ v. opened v (shape.VariableDeclaration Let) ts j) r
+declaration_opens u r Const ts j = ap (λ v. opened v (shape.VariableDeclaration Const) ts j) r
+
 never_and : (b : Bool) → (b && false) ≡ false
 never_and true = refl
 never_and false = refl
@@ -151,6 +195,7 @@ seen_lists s = record {
       let first : (t : Tree) → ((any_has_eval (t ▸ cases ▸ none) && false) || later) ≡ later = λ t. ap (λ b. b || later) (never_and (any_has_eval (t ▸ cases ▸ none))) in
       first e ∙ sym (first d) ∙ z;
   hoisted = λ c env ts. unseen (by_symbol s) (opened c.used (shape.VariableDeclaration Var) ts) (hoisted_opens c.used ts) 0 ts;
+  joined = λ c env k ds es r x y. unseen (by_symbol s) (opened c.used (shape.VariableDeclaration k) (listed (append ds es) ▸ none)) (declaration_opens c.used r k (listed (append ds es) ▸ none)) 0 (listed (append ds es) ▸ none);
 }
 
 -- ---- each fact

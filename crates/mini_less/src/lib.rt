@@ -3,6 +3,7 @@
 #![tactic(auto)]
 
 ghost use Rattle.mini_less.specs.Families.{ConstantsReadLess, SequencesReadLess, TemplatesReadLess, BooleansReadLess, NegationsReadLess, ChoicesReadLess, WritesReadLess, KeysReadLess, FoldingsReadLess, DeMorganReadsLess, WholeFamiliesReadLess, IfRowsLess, BodyRowsLess, BodyRowsOfThisLess, FirstRowsReadLess, OperandsReadLess, SpellingsReadLess, ReadsLessJoins, ReadsLessNarrows, ListRowsLess, MoreRowsLess, TurnsReadLess, TurnsShrink};
+ghost use Rattle.mini_less.specs.ListFamilies.{HeadRowsLess};
 ghost use Rattle.mini_less.specs.Rebuilt.{ListsAskLess, StatementsAskLess};
 
 use mini_laws::Rewrites;
@@ -125,4 +126,10 @@ pub fn body_rows_less()
 /// Rows that rest on what is known of the body around, of members and of `this`.
 pub fn body_rows_of_this_less()
     ensures { BodyRowsOfThisLess }
+{}
+
+/// Rows of lists on heads of statements and on what follows a jump: 67 with every head, 68 into the
+/// head of a `for`, 74, 75 at the end of a body, and 77 of `break` and `continue`.
+pub fn head_rows_less()
+    ensures { HeadRowsLess }
 {}
