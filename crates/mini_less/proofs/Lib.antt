@@ -15,6 +15,7 @@ pub mod ByLists
 pub mod ListMade
 pub mod ListHeads
 pub mod ListJoins
+pub mod LeanLists
 pub mod ListRowsLess
 pub mod MoreRowsLess
 pub mod Made

@@ -24,7 +24,6 @@ use Rattle.mini_rows.proofs.ArrangedValues.{is_value, value_fits}
 use Rattle.mini_rows.proofs.ListKeptKeys.{left_lexical}
 use Rattle.mini_less.specs.Families.{LessAt, NeighboursLess}
 use Rattle.mini_less.specs.Less.{AFor, AnIn, Plain}
-use Rattle.mini_less.specs.ListFamilies.{HeadRowsLess}
 use Rattle.mini_less.proofs.ByLists.{ByLists, Every, value_lexical}
 use Rattle.mini_less.proofs.IfsLess.{if_parts, an_if, nothing, said}
 use Rattle.mini_less.proofs.ListMade.{ListMade, made_list_less}
@@ -253,16 +252,3 @@ row_75_block_less jump u = last_less (Row75Block jump) (λ a b r. ap are_unscope
         let body = first_all Any Q AsItem r.body (jump ▸ none) (block_parts Q l (append r.body (jump ▸ none)) (all_unscoped r.body (jump ▸ none) r.loose (λ j. u j && true)) first) in
         subst (All Q AsWholeItem) (sym r.written)
         (an_if Q l.parts AsWholeItem r.test (block r.body) (alternate_of r.rest) test (a_block Q l r.body r.loose body) (an_alternate Q l r.rest r.unscoped (all_placed Q l r.rest r.unscoped z.1)), tt)
-
-pub head_rows_less : HeadRowsLess
-head_rows_less = record {
-  row_67 = row_67_less;
-  row_67_absent = row_67_absent_less;
-  row_67_in = row_67_in_less;
-  row_68_free = row_68_free_less;
-  row_68_init = row_68_init_less;
-  row_74 = row_74_less;
-  row_75 = row_75_less bare_return;
-  row_75_block = row_75_block_less bare_return refl;
-  row_77_leap = row_77_leap_less;
-}

@@ -3,7 +3,7 @@
 #![tactic(auto)]
 
 ghost use Rattle.mini_less.specs.Families.{ConstantsReadLess, SequencesReadLess, TemplatesReadLess, BooleansReadLess, NegationsReadLess, ChoicesReadLess, WritesReadLess, KeysReadLess, FoldingsReadLess, DeMorganReadsLess, WholeFamiliesReadLess, IfRowsLess, BodyRowsLess, BodyRowsOfThisLess, FirstRowsReadLess, OperandsReadLess, SpellingsReadLess, ReadsLessJoins, ReadsLessNarrows, ListRowsLess, MoreRowsLess, TurnsReadLess, TurnsShrink};
-ghost use Rattle.mini_less.specs.ListFamilies.{HeadRowsLess};
+ghost use Rattle.mini_less.specs.ListFamilies.{HeadRowsLess, LeanListsReadLess};
 ghost use Rattle.mini_less.specs.Rebuilt.{ListsAskLess, StatementsAskLess};
 
 use mini_laws::Rewrites;
@@ -128,8 +128,15 @@ pub fn body_rows_of_this_less()
     ensures { BodyRowsOfThisLess }
 {}
 
-/// Rows of lists on heads of statements and on what follows a jump: 67 with every head, 68 into the
-/// head of a `for`, 74, 75 at the end of a body, and 77 of `break` and `continue`.
+/// Rows of lists on heads of statements, on declarations that become one and on what follows a jump:
+/// 67 with every head, 68, also into the head of a `for`, 74, 75 at the end of a body, and 77 of
+/// `break` and `continue`.
 pub fn head_rows_less()
     ensures { HeadRowsLess }
+{}
+
+/// All rows of lists as one relation, but 69 and 70, by which a declarator gives a value that an
+/// assignment gave, and 77 where a `var` stands in what never runs.
+pub fn lean_lists_read_less()
+    ensures { LeanListsReadLess }
 {}
