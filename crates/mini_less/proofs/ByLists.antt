@@ -27,7 +27,7 @@ use Rattle.mini_rows.specs.Sketches.{AList, If, Asked, AsValue, AsItem, AsWholeI
 use Rattle.mini_rows.proofs.Arranging.{All, Any, Below, all_of, of_all}
 use Rattle.mini_rows.proofs.ArrangedValues.{is_value, is_no_inner}
 use Rattle.mini_less.specs.Less.{Frame, frame_shape, headed}
-use Rattle.mini_less.specs.TellsLists.{TellsLists}
+use Rattle.mini_less.specs.TellsLists.{Every, TellsLists}
 use Rattle.mini_less.proofs.Finding.{Lacks, lacks_anyhow, lacks_local, setting, setting_below, lacks_below, below_lacks, belongs_same}
 use Rattle.mini_less.proofs.Flags.{none_of, spares_local, spares_below, below_spares, numbers_local, numbers_below, below_numbers, unlike}
 use Rattle.mini_less.proofs.Headed.{and_nothing}
@@ -35,10 +35,6 @@ use Rattle.mini_less.proofs.LoopsLess.{frame_asked, loop_node, loop_setting, loo
 use Rattle.mini_less.proofs.Made.{ByParts, by_parts, Spared, spared_by_parts, spared_below, below_spared, lacks_updated, lacks_properties, lacks_moved, calm_moved, calm_updated, calm_properties, spares_properties, numbers_properties}
 use Rattle.mini_less.proofs.Plainly.{is_reads, split, join, Calmly, calm_anyhow, calm_local, calm_below, below_calm, standing, standing_below, early_alone, later_scopes}
 use Rattle.mini_less.proofs.TellingLists.{unheaded_opens, hoisted_opens}
-
-abbrev pub Every : (Tree → Type 0) → Trees → Type 0
-Every P none = Unit {0}
-Every P (t ▸ ts) = P t × Every P ts
 
 pub record ByLists (Q : Asked → Tree → Type 0) : Type 1 where
   pub parts : ByParts Q
@@ -63,22 +59,22 @@ value_lexical t e = no_names declared.Lexical t (value_quiet t e)
 value_bound : (t : Tree) → is_value (shape_of t) ≡ true → names_of declared.Bound t ≡ []
 value_bound t e = no_names declared.Bound t (value_quiet t e)
 
-hoisted : (u : Use) → is_statement_use u ≡ true → hoisted_by u ≡ Hoisted
+pub hoisted : (u : Use) → is_statement_use u ≡ true → hoisted_by u ≡ Hoisted
 hoisted Read e = refl
 hoisted Alone e = refl
 hoisted u e = absurd (cc e)
 
 -- around the declarators of a `var`
-abbrev declaring : Setting → Setting
+abbrev pub declaring : Setting → Setting
 declaring c = record c { used = Hoisted; is_body = false }
 
 -- ---- what is found
 
 module _ (o : Own) (t : TellsLists o) (c : Setting) (env : Environment) (su : is_statement_use c.used ≡ true) where
-  abbrev Q : Asked → Tree → Type 0
+  abbrev pub Q : Asked → Tree → Type 0
   Q = Lacks o t.plainly c env
 
-  abbrev at : Asked → Setting
+  abbrev pub at : Asked → Setting
   at = setting o t.plainly c env
 
   loop_lacks : (f : Frame) (i : Tree) (ts : Trees) → headed f i ≡ [] → Q AsWholeItem (loop_node f i ts) → Below Q (frame_asked f) 0 (i ▸ ts)
@@ -107,7 +103,7 @@ module _ (o : Own) (t : TellsLists o) (c : Setting) (env : Environment) (su : is
       (subst (λ s. finds o s env d ≡ false) there (subst (λ r. finds o first r d ≡ false) same z),
       λ q j. t.switched k env d e cases (value_lexical d v) (value_lexical e u) x j || (subst (λ r. finds o first r e ≡ false) (sym same) (subst (λ s. finds o s env e ≡ false) (sym there) q) j || w j))
 
-  abbrev Declares : Asked → Tree → Type 0
+  abbrev pub Declares : Asked → Tree → Type 0
   Declares = Lacks o t.plainly (declaring c) env
 
   module _ (u : Asked) (used : hoisted_by (use_by c.used u) ≡ Hoisted) where
@@ -123,7 +119,7 @@ module _ (o : Own) (t : TellsLists o) (c : Setting) (env : Environment) (su : is
         all_of Any Declares AsWholeItem 0 ds ((lacks_local o t.plainly (declaring c) env).down AList AsWholeList ds tt
         (subst (λ s. finds o s env (listed ds) ≡ false) around_declarators (subst (λ r. finds o k r (listed ds) ≡ false) (append-nil env) z))).1
 
-    lacks_var : (ds : Trees) → All Declares AsWholeItem ds → Q u (declaration Var ds)
+    pub lacks_var : (ds : Trees) → All Declares AsWholeItem ds → Q u (declaration Var ds)
     unfolding finds scopes_by
     lacks_var ds a =
         let k = below false (at u) (shape.VariableDeclaration Var) 0 0 in
@@ -135,7 +131,7 @@ module _ (o : Own) (t : TellsLists o) (c : Setting) (env : Environment) (su : is
   to_every none a = tt
   to_every (d ▸ ds) a = (a.0, to_every ds a.1)
 
-  of_every : (ds : Trees) → Every (Declares AsWholeItem) ds → All Declares AsWholeItem ds
+  pub of_every : (ds : Trees) → Every (Declares AsWholeItem) ds → All Declares AsWholeItem ds
   of_every none a = tt
   of_every (d ▸ ds) a = (a.0, of_every ds a.1)
 
@@ -156,10 +152,10 @@ module _ (o : Own) (t : TellsLists o) (c : Setting) (env : Environment) (su : is
 -- ---- the order of reads
 
 module _ (m s : ℕ) (c : Setting) (env : Environment) (su : is_statement_use c.used ≡ true) where
-  abbrev C : Asked → Tree → Type 0
+  abbrev pub C : Asked → Tree → Type 0
   C = Calmly m s c env
 
-  abbrev stood : Asked → Setting
+  abbrev pub stood : Asked → Setting
   stood = standing m s c env
 
   -- what a loop says whose head declares no lexical name
@@ -213,7 +209,7 @@ module _ (m s : ℕ) (c : Setting) (env : Environment) (su : is_statement_use c.
       let (x, y) = of_first b d later v a in
       (x, λ q. to_first b e later u q y)
 
-  abbrev Declaring : Asked → Tree → Type 0
+  abbrev pub Declaring : Asked → Tree → Type 0
   Declaring = Calmly m s (declaring c) env
 
   module _ (u : Asked) (used : hoisted_by (use_by c.used u) ≡ Hoisted) where
@@ -228,7 +224,7 @@ module _ (m s : ℕ) (c : Setting) (env : Environment) (su : is_statement_use c.
         all_of Any Declaring AsWholeItem 0 ds ((calm_local m s (declaring c) env).down AList AsWholeList ds tt
         (subst (λ x. is_reads (pace (early m s) x env (listed ds)) ≡ false) calm_around (subst (λ r. is_reads (pace (early m s) k r (listed ds)) ≡ false) (append-nil env) z))).1
 
-    calm_var : (ds : Trees) → All Declaring AsWholeItem ds → C u (declaration Var ds)
+    pub calm_var : (ds : Trees) → All Declaring AsWholeItem ds → C u (declaration Var ds)
     unfolding pace scopes_by
     calm_var ds a =
         let k = below false (stood u) (shape.VariableDeclaration Var) 0 0 in
@@ -240,7 +236,7 @@ module _ (m s : ℕ) (c : Setting) (env : Environment) (su : is_statement_use c.
   to_each none a = tt
   to_each (d ▸ ds) a = (a.0, to_each ds a.1)
 
-  of_each : (ds : Trees) → Every (Declaring AsWholeItem) ds → All Declaring AsWholeItem ds
+  pub of_each : (ds : Trees) → Every (Declaring AsWholeItem) ds → All Declaring AsWholeItem ds
   of_each none a = tt
   of_each (d ▸ ds) a = (a.0, of_each ds a.1)
 

@@ -15,6 +15,8 @@ pub mod ByLists
 pub mod ListMade
 pub mod ListHeads
 pub mod ListJoins
+pub mod ListLeft
+pub mod HoistedNames
 pub mod LeanLists
 pub mod ListRowsLess
 pub mod MoreRowsLess

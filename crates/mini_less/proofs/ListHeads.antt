@@ -25,7 +25,8 @@ use Rattle.mini_rows.proofs.ListKeptKeys.{left_lexical}
 use Rattle.mini_less.specs.Families.{LessAt, NeighboursLess}
 use Rattle.mini_less.specs.Less.{AFor, AnIn, Plain}
 use Rattle.mini_less.specs.ListFamilies.{Row77Nameless}
-use Rattle.mini_less.proofs.ByLists.{ByLists, Every, value_lexical}
+use Rattle.mini_less.proofs.ByLists.{ByLists, value_lexical}
+use Rattle.mini_less.specs.TellsLists.{Every}
 use Rattle.mini_less.proofs.IfsLess.{if_parts, an_if, nothing, said}
 use Rattle.mini_less.proofs.ListMade.{ListMade, made_list_less}
 use Rattle.mini_less.proofs.ListRowsLess.{append_none}
@@ -66,7 +67,7 @@ first_of x y e = (and_parts x y e).0
 second_fits : (strict : Bool) (k : Depth) (t u : Tree) → fill strict (each (one (a_statement k))) (t ▸ (u ▸ none)) ≡ true → fits strict (one (a_statement k)) u ≡ true
 second_fits strict k t u e = (and_parts (fits strict (one (a_statement k)) u) true (and_parts (fits strict (one (a_statement k)) t) (fits strict (one (a_statement k)) u && true) e).1).0
 
-first_fits : (strict : Bool) (k : Depth) (t : Tree) (ts : Trees) → fill strict (each (one (a_statement k))) (t ▸ ts) ≡ true → fits strict (one (a_statement k)) t ≡ true
+pub first_fits : (strict : Bool) (k : Depth) (t : Tree) (ts : Trees) → fill strict (each (one (a_statement k))) (t ▸ ts) ≡ true → fits strict (one (a_statement k)) t ≡ true
 first_fits strict k t ts e = (and_parts (fits strict (one (a_statement k)) t) (fill strict (each (one (a_statement k))) ts) e).0
 
 -- ---- 67

@@ -83,7 +83,7 @@ module _ (b s : ℕ) (c : Setting) (env : Environment) (x : Bool) where
       let (y, z) = split (loose t) (said ts) (sym (ap is_reads (one_says t ts u)) ∙ a) in
       (y, to_calm ts v z)
 
-  unscoped_ended : (ts : Trees) → are_unscoped ts ≡ true → is_ended (said ts) ≡ false
+  pub unscoped_ended : (ts : Trees) → are_unscoped ts ≡ true → is_ended (said ts) ≡ false
   unscoped_ended none e = refl
   unscoped_ended (t ▸ ts) e =
       let (u, v) = and_parts (is_unscoped t) (are_unscoped ts) e in

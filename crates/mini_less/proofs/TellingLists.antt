@@ -1,18 +1,21 @@
 -- Each fact tells only so much of such statements.
-use Rattle.std.specs.Prelude.{ℕ, zero, suc, ◌≡◌, refl, Bool, true, false, ◌&&◌, ◌||◌, List, [], ◌∷◌, ◌++◌}
+use Rattle.std.specs.Prelude.{ℕ, zero, suc, ◌≡◌, refl, nat_eq, map, not, Bool, true, false, ◌&&◌, ◌||◌, List, [], ◌∷◌, ◌++◌}
 use Rattle.std.specs.List.{list_any}
-use Rattle.std.proofs.Common.{ap, ◌∙◌, sym}
+use Rattle.std.proofs.Common.{ap, ◌∙◌, sym, inl, inr, true≢false}
 use Rattle.std.proofs.lemmas.List.{append-nil}
 use Rattle.mini_model.specs.declared.kind.VariableDeclarationKind.{VariableDeclarationKind}
 use Rattle.mini_model.specs.declared.kind.VariableDeclarationKind.TheVariants.{Var, Let, Const}
 use Rattle.mini_model.specs.declared.name.Name.{Name}
 use Rattle.mini_model.specs.declared.shape.Shape.TheVariants as shape
 use Rattle.mini_model.specs.Paths.{append}
-use Rattle.mini_model.specs.Tree.{Tree, Trees, none, ◌▸◌, listed}
+use Rattle.mini_model.specs.Tree.{Tree, Trees, none, ◌▸◌, listed, absent}
 use Rattle.mini_laws.specs.declared.names.Declared.TheVariants as declared
 use Rattle.mini_laws.specs.declared.names.Use.{Use}
-use Rattle.mini_laws.specs.declared.names.Use.TheVariants.{Read}
+use Rattle.mini_laws.specs.declared.names.Use.TheVariants.{Read, Hoisted}
+use Rattle.mini_laws.specs.References.{writes}
 use Rattle.mini_laws.specs.DeclaredNames.{names_of, all_names, with_names}
+use Rattle.mini_laws.specs.declared.names.Around.{Around}
+use Rattle.mini_laws.specs.Shared.{given_values, own_pattern_writes, write_at}
 use Rattle.mini_laws.specs.Foreign.{is_write, own_lexical}
 use Rattle.mini_laws.specs.Mentions.{Mention, same_variable, is_among, is_elsewhere}
 use Rattle.mini_laws.specs.Resolved.{Environment}
@@ -21,10 +24,12 @@ use Rattle.mini_laws.specs.Scopes.{opened, scopes_by, lexical_scope}
 use Rattle.mini_shrink.specs.Pace.{Setting, Question}
 use Rattle.mini_shrink.specs.Questions.{Own, asks, mentions_such, gives_such, pattern_gives, names_at, lexical_at, switched_at, pattern_at, caught_at, arguments_at, params_at, seen_from, seen_at, early}
 use Rattle.mini_shrink.specs.Facts.{Fact, Written, WrittenElsewhere, Given, GivenElsewhere, GivenByPattern, MentionedElsewhere, BoundElsewhere, IsLexical, IsSwitched, InPattern, UnderCatch, ByArguments, ByEval, AmongParameters, ReadEarly, question}
-use Rattle.mini_rows.specs.Lists.{is_unscoped_shape}
+use Rattle.mini_rows.specs.Lists.{binding, is_unscoped_shape}
 use Rattle.mini_rows.proofs.ListKeptDeclarations.{all_both}
 use Rattle.mini_less.specs.Less.{Frame, AFor, AWhile, ADo, AnIn, AnOf, frame_shape, headed, TellsPlainly}
-use Rattle.mini_less.specs.TellsLists.{TellsLists}
+use Rattle.mini_less.specs.TellsLists.{Names, TellsLists}
+use Rattle.mini_less.proofs.HoistedNames.{Within, AsksWithin, hoisted_unasked}
+use Rattle.mini_shrink.proofs.Finding.{mentions_found}
 use Rattle.mini_less.proofs.EachFact.{Unordered}
 use Rattle.mini_less.proofs.Plainly.{Updates, mentions_plainly, unscoped_mention, gives_plainly, loop_gives, loop_pattern, loop_lexical, pattern_gives_plainly, names_plainly, no_switched, no_pattern, no_caught, no_arguments, no_params, loop_switched, loop_pattern_at, loop_caught, loop_arguments, loop_params, lexical_plainly, unseen, head_scope, later_scopes, seen_plainly}
 
@@ -44,15 +49,48 @@ loop_unscoped ADo = refl
 loop_unscoped AnIn = refl
 loop_unscoped AnOf = refl
 
+every_name : (P : Name → Type 0) → ((x : Name) → P x) → (xs : List Name) → Names P xs
+every_name P f [] = tt
+every_name P f (x ∷ xs) = (f x, every_name P f xs)
+
+map_names : (P R : Name → Type 0) → ((x : Name) → P x → R x) → (xs : List Name) → Names P xs → Names R xs
+map_names P R f [] a = tt
+map_names P R f (x ∷ xs) a = (f x a.0, map_names P R f xs a.1)
+
+elsewhere_within : (c : ℕ) (a b : Around) → Within a b → is_elsewhere c a ≡ true → is_elsewhere c b ≡ true
+elsewhere_within c a b (inl q) e = ap (is_elsewhere c) q ∙ e
+elsewhere_within c a b (inr q) e = ap (λ z. z || not (nat_eq b.number c)) q
+
+both_true : (x y z : Bool) → (y ≡ true → z ≡ true) → (x && y) ≡ true → (x && z) ≡ true
+both_true true y z f e = f e
+both_true false y z f e = e
+
+-- what binds a name is no write
+never_written : (q b d : Bool) → ((q && false) && b) ≡ true → d ≡ true
+never_written true b d e = absurd (true≢false (sym e))
+never_written false b d e = absurd (true≢false (sym e))
+
+never_elsewhere : (q b c d : Bool) → (((q && false) && b) && c) ≡ true → d ≡ true
+never_elsewhere true b c d e = absurd (true≢false (sym e))
+never_elsewhere false b c d e = absurd (true≢false (sym e))
+
+write_within : (s : Name) → AsksWithin (is_write s)
+write_within s x u a b k e = never_written (same_variable s x) (writes Hoisted) _ e
+
+write_elsewhere : (s : Name) (c : ℕ) → AsksWithin (λ m. is_write s m && is_elsewhere c m.around)
+write_elsewhere s c x u a b k e = never_elsewhere (same_variable s x) (writes Hoisted) (is_elsewhere c a) _ e
+
 -- ---- names that are mentioned, or given a value
 
-pub mentions_lists : (p : Mention → Bool) → Updates p → TellsLists (mentions_such p)
-mentions_lists p u = record {
+pub mentions_lists : (p : Mention → Bool) → Updates p → AsksWithin p → TellsLists (mentions_such p)
+mentions_lists p u w = record {
   plainly = mentions_plainly p u;
   unheaded = λ c env f i ts e. unscoped_mention p c (frame_shape f) [] (loop_unscoped f);
   switched = λ c env d e cases x y z. refl;
   hoisted = λ c env ts. refl;
   joined = λ c env k ds es r x y. refl;
+  bare = λ c env x u. refl;
+  left = λ c env t e k later u a. map_names _ _ (λ x y. (λ j. p (record { name = x; used = u j; binds = true; around = a j }) || false) ∙ λ j. y j || false) (names_of declared.Hoisted t) (hoisted_unasked p w c.around c.used t (mentions_found p c env t ∙ e));
 }
 
 pub gives_lists : (p : Mention → Bool) → TellsLists (gives_such p)
@@ -62,6 +100,8 @@ gives_lists p = record {
   switched = λ c env d e cases x y z. refl;
   hoisted = λ c env ts. refl;
   joined = λ c env k ds es r x y. refl;
+  bare = λ c env x u. ap (λ v. list_any p (map (write_at c.around) (given_values v shape.VariableDeclarator [] (binding x ▸ (absent ▸ none))))) u;
+  left = λ c env t e k later u a. every_name _ (λ x. refl) (names_of declared.Hoisted t);
 }
   where
     by : (c : Setting) (f : Frame) (ts : Trees) → gives_such p c [] (frame_shape f) [] 0 ts ≡ false
@@ -78,6 +118,8 @@ patterns_lists s = record {
   switched = λ c env d e cases x y z. refl;
   hoisted = λ c env ts. refl;
   joined = λ c env k ds es r x y. refl;
+  bare = λ c env x u. ap (λ v. is_among (by_symbol s) (own_pattern_writes v env shape.VariableDeclarator (binding x ▸ (absent ▸ none)))) u;
+  left = λ c env t e k later u a. every_name _ (λ x. refl) (names_of declared.Hoisted t);
 }
 
 -- ---- names that stand at a node
@@ -90,6 +132,8 @@ switched_lists s = record {
   switched = λ c env d e cases x y z. (λ j. is_among (by_symbol s) ((y ∙ sym x) j ++ (names_of declared.Lexical cases ++ []))) ∙ z;
   hoisted = λ c env ts. refl;
   joined = λ c env k ds es r x y. refl;
+  bare = λ c env x u. refl;
+  left = λ c env t e k later u a. every_name _ (λ x. refl) (names_of declared.Hoisted t);
 }
 
 pub patterned_lists : (s : ℕ) → TellsLists (names_at pattern_at s)
@@ -99,6 +143,8 @@ patterned_lists s = record {
   switched = λ c env d e cases x y z. refl;
   hoisted = λ c env ts. refl;
   joined = λ c env k ds es r x y. refl;
+  bare = λ c env x u. refl;
+  left = λ c env t e k later u a. every_name _ (λ x. refl) (names_of declared.Hoisted t);
 }
 
 pub caught_lists : (s : ℕ) → TellsLists (names_at caught_at s)
@@ -108,6 +154,8 @@ caught_lists s = record {
   switched = λ c env d e cases x y z. refl;
   hoisted = λ c env ts. refl;
   joined = λ c env k ds es r x y. refl;
+  bare = λ c env x u. refl;
+  left = λ c env t e k later u a. every_name _ (λ x. refl) (names_of declared.Hoisted t);
 }
 
 pub arguments_lists : (s : ℕ) → TellsLists (names_at arguments_at s)
@@ -117,6 +165,8 @@ arguments_lists s = record {
   switched = λ c env d e cases x y z. refl;
   hoisted = λ c env ts. refl;
   joined = λ c env k ds es r x y. refl;
+  bare = λ c env x u. refl;
+  left = λ c env t e k later u a. every_name _ (λ x. refl) (names_of declared.Hoisted t);
 }
 
 pub params_lists : (b s : ℕ) → TellsLists (names_at (params_at b) s)
@@ -126,6 +176,8 @@ params_lists b s = record {
   switched = λ c env d e cases x y z. refl;
   hoisted = λ c env ts. refl;
   joined = λ c env k ds es r x y. refl;
+  bare = λ c env x u. refl;
+  left = λ c env t e k later u a. every_name _ (λ x. refl) (names_of declared.Hoisted t);
 }
 
 pub lexical_lists : (s : ℕ) → TellsLists (names_at lexical_at s)
@@ -136,6 +188,8 @@ lexical_lists s = record {
   switched = λ c env d e cases x y z. ap (is_among (by_symbol s)) (of_switch c.is_body (e ▸ cases ▸ none));
   hoisted = λ c env ts. ap (is_among (by_symbol s)) (of_var c.is_body ts);
   joined = λ c env k ds es r x y. lexical_joined c.is_body k ds es x y;
+  bare = λ c env x u. ap (is_among (by_symbol s)) (of_declarator c.is_body (binding x ▸ (absent ▸ none)));
+  left = λ c env t e k later u a. every_name _ (λ x. ap (is_among (by_symbol s)) (of_binding k.is_body)) (names_of declared.Hoisted t);
 }
   where
     of_switch : (b : Bool) (ts : Trees) → own_lexical b shape.SwitchStatement ts ≡ []
@@ -154,6 +208,14 @@ lexical_lists s = record {
     lexical_joined false Let ds es x y = joined_names ds es x y
     lexical_joined true Const ds es x y = joined_names ds es x y
     lexical_joined false Const ds es x y = joined_names ds es x y
+
+    of_declarator : (b : Bool) (ts : Trees) → own_lexical b shape.VariableDeclarator ts ≡ []
+    of_declarator true ts = refl
+    of_declarator false ts = refl
+
+    of_binding : (b : Bool) → own_lexical b shape.BindingIdentifier none ≡ []
+    of_binding true = refl
+    of_binding false = refl
 
     of_var : (b : Bool) (ts : Trees) → own_lexical b (shape.VariableDeclaration Var) ts ≡ []
     of_var true ts = refl
@@ -196,17 +258,19 @@ seen_lists s = record {
       first e ∙ sym (first d) ∙ z;
   hoisted = λ c env ts. unseen (by_symbol s) (opened c.used (shape.VariableDeclaration Var) ts) (hoisted_opens c.used ts) 0 ts;
   joined = λ c env k ds es r x y. unseen (by_symbol s) (opened c.used (shape.VariableDeclaration k) (listed (append ds es) ▸ none)) (declaration_opens c.used r k (listed (append ds es) ▸ none)) 0 (listed (append ds es) ▸ none);
+  bare = λ c env x u. unseen (by_symbol s) (opened c.used shape.VariableDeclarator (binding x ▸ (absent ▸ none))) (λ j. refl) 0 (binding x ▸ (absent ▸ none));
+  left = λ c env t e k later u a. every_name _ (λ x. refl) (names_of declared.Hoisted t);
 }
 
 -- ---- each fact
 
 pub by_lists : (P : Question → Type 0) → ((o : Own) → TellsLists o → Unordered o → P (asks o)) → ((b k : ℕ) → P (early b k)) → (g : Fact) (b k : ℕ) → P (question g b k)
-by_lists P f r Written c k = f _ (mentions_lists (is_write (by_symbol k)) (λ x a e f. e)) (λ c d env h xs n ts. refl)
-by_lists P f r WrittenElsewhere c k = f _ (mentions_lists (λ m. is_write (by_symbol k) m && is_elsewhere c m.around) (λ x a e f. e)) (λ c d env h xs n ts. refl)
+by_lists P f r Written c k = f _ (mentions_lists (is_write (by_symbol k)) (λ x a e f. e) (write_within (by_symbol k))) (λ c d env h xs n ts. refl)
+by_lists P f r WrittenElsewhere c k = f _ (mentions_lists (λ m. is_write (by_symbol k) m && is_elsewhere c m.around) (λ x a e f. e) (write_elsewhere (by_symbol k) c)) (λ c d env h xs n ts. refl)
 by_lists P f r Given c k = f _ (gives_lists (is_write (by_symbol k))) (λ c d env h xs n ts. refl)
 by_lists P f r GivenElsewhere c k = f _ (gives_lists (λ m. is_write (by_symbol k) m && is_elsewhere c m.around)) (λ c d env h xs n ts. refl)
-by_lists P f r MentionedElsewhere c k = f _ (mentions_lists (λ m. same_variable (by_symbol k) m.name && is_elsewhere c m.around) (λ x a e f. e)) (λ c d env h xs n ts. refl)
-by_lists P f r BoundElsewhere c k = f _ (mentions_lists (λ m. same_variable (by_symbol k) m.name && m.binds && is_elsewhere c m.around) (λ x a e f. e)) (λ c d env h xs n ts. refl)
+by_lists P f r MentionedElsewhere c k = f _ (mentions_lists (λ m. same_variable (by_symbol k) m.name && is_elsewhere c m.around) (λ x a e f. e) (λ x u a b w e. both_true (same_variable (by_symbol k) x) (is_elsewhere c a) (is_elsewhere c b) (elsewhere_within c a b w) e)) (λ c d env h xs n ts. refl)
+by_lists P f r BoundElsewhere c k = f _ (mentions_lists (λ m. same_variable (by_symbol k) m.name && m.binds && is_elsewhere c m.around) (λ x a e f. e) (λ x u a b w e. both_true (same_variable (by_symbol k) x && true) (is_elsewhere c a) (is_elsewhere c b) (elsewhere_within c a b w) e)) (λ c d env h xs n ts. refl)
 by_lists P f r IsLexical c k = f _ (lexical_lists k) (λ c d env h xs n ts. refl)
 by_lists P f r IsSwitched c k = f _ (switched_lists k) (λ c d env h xs n ts. refl)
 by_lists P f r InPattern c k = f _ (patterned_lists k) (λ c d env h xs n ts. refl)
