@@ -11,7 +11,8 @@ use Rattle.mini_rows.specs.Switches.{Switches}
 use Rattle.mini_less.specs.Families.{LessAt, NeighboursLess}
 use Rattle.mini_less.specs.ListFamilies.{HeadRowsLess, LeanNeighbourRow, LeanListRow, LeanListsReadLess}
 use Rattle.mini_less.proofs.LessRows.{reads_less_by}
-use Rattle.mini_less.proofs.ListHeads.{row_67_less, row_67_absent_less, row_67_in_less, row_68_free_less, row_68_init_less, row_74_less, row_75_less, row_75_block_less, row_77_leap_less, row_77_nameless_less}
+use Rattle.mini_less.proofs.ListHeads.{row_67_less, row_67_absent_less, row_67_in_less, row_68_free_less, row_68_init_less, row_74_less, row_75_less, row_75_block_less, row_77_leap_less}
+use Rattle.mini_less.proofs.ListLeft.{row_77_unreached_less}
 use Rattle.mini_less.proofs.ListJoins.{row_68_less}
 use Rattle.mini_less.proofs.ListRowsLess.{list_rows_less}
 use Rattle.mini_less.proofs.MoreRowsLess.{more_rows_less}
@@ -28,6 +29,7 @@ head_rows_less = record {
   row_75 = row_75_less bare_return;
   row_75_block = row_75_block_less bare_return refl;
   row_77_leap = row_77_leap_less;
+  row_77_unreached = row_77_unreached_less;
 }
 
 module _ (p : Position) (l : is_statement_list p ≡ true) (n w : Tree) (before read put after : Trees) (e : n ≡ listed (append before (append read after))) (f : w ≡ listed (append before (append put after))) where
@@ -54,7 +56,7 @@ module _ (p : Position) (l : is_statement_list p ≡ true) (n w : Tree) (before 
   neighbours o (inr (s, inl r)) = by _ row_74_less r
   neighbours o (inr (s, inr (inl r))) = by _ more_rows_less.row_77 r
   neighbours o (inr (s, inr (inr (inl r)))) = by _ row_77_leap_less r
-  neighbours o (inr (s, inr (inr (inr r)))) = by _ row_77_nameless_less r
+  neighbours o (inr (s, inr (inr (inr r)))) = by _ row_77_unreached_less r
 
 last : (o : Switches) (p : Position) → is_statement_list p ≡ true → (n w : Tree) → AtEnd (EndRow o bare_return) n w → LessAt p n w
 last o p l n w r = by r.row

@@ -15,7 +15,7 @@ use Rattle.mini_laws.specs.declared.names.Declared.TheVariants as declared
 use Rattle.mini_laws.specs.DeclaredNames.{names_of}
 use Rattle.mini_kept.specs.Placed.{is_statement_list}
 use Rattle.mini_kept.proofs.Expressions.{refused_here}
-use Rattle.mini_rows.specs.Lists.{block, declaration, is_unscoped, are_unscoped, of_parts, are_parts, is_one_part_shape, declares_nothing, with_head, for_loop, for_in, alternate_of, bare_return, leap, Breaks, Continues, Leap, Row67, Row67Absent, Row67In, Row68Free, Row68Init, Row74, Row75, Row75Block, Row77Leap, declared_bare, InList, AtEnd}
+use Rattle.mini_rows.specs.Lists.{block, declaration, is_unscoped, are_unscoped, of_parts, are_parts, is_one_part_shape, declares_nothing, with_head, for_loop, for_in, alternate_of, bare_return, leap, Breaks, Continues, Leap, Row67, Row67Absent, Row67In, Row68Free, Row68Init, Row74, Row75, Row75Block, Row77Leap, InList, AtEnd}
 use Rattle.mini_rows.specs.Lists as row
 use Rattle.mini_rows.specs.Sketches.{AList, Block, Return, Throw, part, under, list, end, ◌▹◌, no_items, items, Free, Asked, AsValue, AsBranch, AsItem, AsItems, AsWholeItem}
 use Rattle.mini_rows.proofs.Arranging.{All, Any, all_of, of_all, first_all, second_all, both_all}
@@ -24,7 +24,6 @@ use Rattle.mini_rows.proofs.ArrangedValues.{is_value, value_fits}
 use Rattle.mini_rows.proofs.ListKeptKeys.{left_lexical}
 use Rattle.mini_less.specs.Families.{LessAt, NeighboursLess}
 use Rattle.mini_less.specs.Less.{AFor, AnIn, Plain}
-use Rattle.mini_less.specs.ListFamilies.{Row77Nameless}
 use Rattle.mini_less.proofs.ByLists.{ByLists, value_lexical}
 use Rattle.mini_less.specs.TellsLists.{Every}
 use Rattle.mini_less.proofs.IfsLess.{if_parts, an_if, nothing, said}
@@ -255,7 +254,7 @@ row_75_block_less jump u = last_less (Row75Block jump) (λ a b r. ap are_unscope
         subst (All Q AsWholeItem) (sym r.written)
         (an_if Q l.parts AsWholeItem r.test (block r.body) (alternate_of r.rest) test (a_block Q l r.body r.loose body) (an_alternate Q l r.rest r.unscoped (all_placed Q l r.rest r.unscoped z.1)), tt)
 
--- ---- 77, of what never runs and hoists no name
+-- ---- what stands behind a jump
 
 one_after_another : (ts us vs : Trees) → append (append ts us) vs ≡ append ts (append us vs)
 one_after_another none us vs = refl
@@ -264,11 +263,3 @@ one_after_another (t ▸ ts) us vs = ap (λ ws. t ▸ ws) (one_after_another ts 
 -- what is between a jump and what never runs stands before that
 pub behind : (before : Trees) (first : Tree) (between ts after : Trees) → append before (append (first ▸ append between ts) after) ≡ append (append before (first ▸ between)) (append ts after)
 behind before first between ts after = ap (λ us. append before (first ▸ us)) (one_after_another between ts after) ∙ sym (one_after_another before (first ▸ between) (append ts after))
-
-pub row_77_nameless_less : NeighboursLess Row77Nameless
-row_77_nameless_less p l n w r =
-    let x = r.row.row in
-    made_list_less p l (append r.before (x.first ▸ x.between)) r.after (x.gone ▸ none) none n w
-    (r.shape ∙ ap (λ ts. listed (append r.before (append ts r.after))) x.shape ∙ ap listed (behind r.before x.first x.between (x.gone ▸ none) r.after))
-    (r.written ∙ ap (λ ts. listed (append r.before (append ts r.after))) (x.written ∙ ap (λ ys. x.first ▸ append x.between (declared_bare ys)) r.row.nameless) ∙ ap listed (behind r.before x.first x.between none r.after))
-    (λ j. x.unscoped j && true) (λ strict k f Q l y. tt)

@@ -1,18 +1,16 @@
 -- Rows of lists of which each asks less, beside those on neighbours without loops.
-use Rattle.std.specs.Prelude.{◌≡◌, ◌⊎◌, true, []}
+use Rattle.std.specs.Prelude.{◌≡◌, ◌⊎◌, true}
 use Rattle.mini_model.specs.declared.place.Position.{Position}
 use Rattle.mini_model.specs.declared.place.Position.TheVariants.{StatementList, BodyList}
 use Rattle.mini_model.specs.Tree.{Tree, Trees}
-use Rattle.mini_laws.specs.declared.names.Declared.TheVariants as declared
-use Rattle.mini_laws.specs.DeclaredNames.{names_of}
 use Rattle.mini_kept.specs.Placed.{is_statement_list}
-use Rattle.mini_rows.specs.Lists.{Row67, Row67Absent, Row67In, Row68, Row68Free, Row68Init, Row74, Row75, Row75Block, Row77, Row77Leap, Row77Unreached, StretchRow, EndRow, bare_return, InList, AtEnd}
+use Rattle.mini_rows.specs.Lists.{Row67, Row67Absent, Row67In, Row68, Row68Free, Row68Init, Row74, Row75, Row75Block, Row77Leap, Row77Unreached, StretchRow, GuardsRow, EndRow, bare_return, InList, AtEnd}
 use Rattle.mini_rows.specs.Switches.{Switches}
 use Rattle.mini_shrink.specs.Facts.{ReadsLess}
 use Rattle.mini_less.specs.Families.{LessAt, NeighboursLess}
 
 -- 67 with every head, 68, also into the head of a `for`, 74, 75 at the end of a body, and 77 of `break`
--- and `continue`
+-- and `continue` and of what never runs
 pub record HeadRowsLess : Type 0 where
   pub row_67 : NeighboursLess Row67
   pub row_67_absent : NeighboursLess Row67Absent
@@ -24,16 +22,11 @@ pub record HeadRowsLess : Type 0 where
   pub row_75 : (p : Position) → is_statement_list p ≡ true → (n w : Tree) → AtEnd (Row75 bare_return) n w → LessAt p n w
   pub row_75_block : (p : Position) → is_statement_list p ≡ true → (n w : Tree) → AtEnd (Row75Block bare_return) n w → LessAt p n w
   pub row_77_leap : NeighboursLess Row77Leap
+  pub row_77_unreached : NeighboursLess Row77Unreached
 
--- 77 of what never runs and hoists no name
-pub record Row77Nameless (a b : Trees) : Type 0 where
-  pub row : Row77Unreached a b
-  pub nameless : names_of declared.Hoisted row.gone ≡ []
-
--- the rows of lists but 69 and 70, which write a declarator with a value for an assignment, and 77 of
--- what a `var` stands in
+-- the rows of lists but 69 and 70, which write a declarator that gives a value for an assignment
 abbrev pub LeanNeighbourRow : Switches → Trees → Trees → Type 0
-LeanNeighbourRow o a b = StretchRow o a b ⊎ ((o.sequences ≡ true) × (Row74 a b ⊎ (Row77 a b ⊎ (Row77Leap a b ⊎ Row77Nameless a b))))
+LeanNeighbourRow o a b = StretchRow o a b ⊎ GuardsRow o a b
 
 abbrev pub LeanListRow : Switches → Position → Tree → Tree → Type 0
 LeanListRow o StatementList n w = InList (LeanNeighbourRow o) n w

@@ -130,13 +130,13 @@ pub fn body_rows_of_this_less()
 
 /// Rows of lists on heads of statements, on declarations that become one and on what follows a jump:
 /// 67 with every head, 68, also into the head of a `for`, 74, 75 at the end of a body, and 77 of
-/// `break` and `continue`.
+/// `break` and `continue` and of what never runs.
 pub fn head_rows_less()
     ensures { HeadRowsLess }
 {}
 
 /// All rows of lists as one relation, but 69 and 70, by which a declarator gives a value that an
-/// assignment gave, and 77 where a `var` stands in what never runs.
+/// assignment gave.
 pub fn lean_lists_read_less()
     ensures { LeanListsReadLess }
 {}
