@@ -1,13 +1,12 @@
 -- What holds of trees by their parts holds so of the statements of a list, too: of a loop whose head
 -- declares no lexical name, of a `switch`, and of a `var`.
-use Rattle.std.specs.Prelude.{ℕ, zero, suc, ◌≡◌, refl, nat_eq, Bool, true, false, ◌&&◌, ◌||◌, List, [], ◌∷◌, ◌++◌}
+use Rattle.std.specs.Prelude.{ℕ, suc, ◌≡◌, refl, nat_eq, Bool, true, false, ◌&&◌, ◌||◌, [], ◌++◌}
 use Rattle.std.proofs.Common.{ap, ◌∙◌, sym, subst}
 use Rattle.std.proofs.lemmas.Bool.{and_parts}
 use Rattle.std.proofs.lemmas.List.{append-nil}
 use Rattle.mini_model.specs.declared.kind.VariableDeclarationKind.TheVariants.{Var}
 use Rattle.mini_model.specs.declared.shape.Shape.TheVariants as shape
-use Rattle.mini_model.specs.Tree.{Tree, Trees, node, none, ◌▸◌, listed, shape_of}
-use Rattle.mini_laws.specs.declared.names.Binding.{Binding}
+use Rattle.mini_model.specs.Tree.{Tree, Trees, none, ◌▸◌, listed, shape_of}
 use Rattle.mini_laws.specs.declared.names.Declared.TheVariants as declared
 use Rattle.mini_laws.specs.declared.names.Use.{Use}
 use Rattle.mini_laws.specs.declared.names.Use.TheVariants.{Read, Hoisted, Alone}
@@ -16,7 +15,7 @@ use Rattle.mini_laws.specs.Foreign.{has_number, any_has_number}
 use Rattle.mini_laws.specs.Mentions.{is_among}
 use Rattle.mini_laws.specs.Resolved.{Environment}
 use Rattle.mini_laws.specs.ScopeList.{has_eval, any_has_eval, by_symbol}
-use Rattle.mini_laws.specs.Scopes.{opened, scopes_by, hoisted_by, lexical_scope}
+use Rattle.mini_laws.specs.Scopes.{opened, scopes_by, hoisted_by}
 use Rattle.mini_laws.specs.Shared.{names_arguments, any_names_arguments, is_of_function}
 use Rattle.mini_kept.specs.KeepsNames.{is_statement_use}
 use Rattle.mini_kept.proofs.Quiet.{is_quiet, no_names}
@@ -34,7 +33,7 @@ use Rattle.mini_less.proofs.Headed.{and_nothing}
 use Rattle.mini_less.proofs.LoopsLess.{frame_asked, loop_node, loop_setting, loop_standing, head_paces, of_turn, to_turn, told_by_head, silent_root, frame_evals, frame_names, frame_of_function}
 use Rattle.mini_less.proofs.Made.{ByParts, by_parts, Spared, spared_by_parts, spared_below, below_spared, lacks_updated, lacks_properties, lacks_moved, calm_moved, calm_updated, calm_properties, spares_properties, numbers_properties}
 use Rattle.mini_less.proofs.Plainly.{is_reads, split, join, Calmly, calm_anyhow, calm_local, calm_below, below_calm, standing, standing_below, early_alone, later_scopes}
-use Rattle.mini_less.proofs.TellingLists.{unheaded_opens, hoisted_opens}
+use Rattle.mini_less.proofs.TellingLists.{unheaded_opens}
 
 pub record ByLists (Q : Asked → Tree → Type 0) : Type 1 where
   pub parts : ByParts Q
@@ -99,9 +98,10 @@ module _ (o : Own) (t : TellsLists o) (c : Setting) (env : Environment) (su : is
       let (x, y) = none_of (o k env shape.SwitchStatement [] 0 (d ▸ cases ▸ none)) (finds o first (env ++ []) d || later) a in
       let (z, w) = none_of (finds o first (env ++ []) d) later y in
       let there : first ≡ at AsValue = setting_below o t.plainly c env If AsWholeItem 0 in
-      let same : env ++ [] ≡ env = append-nil env in
-      (subst (λ s. finds o s env d ≡ false) there (subst (λ r. finds o first r d ≡ false) same z),
-      λ q j. t.switched k env d e cases (value_lexical d v) (value_lexical e u) x j || (subst (λ r. finds o first r e ≡ false) (sym same) (subst (λ s. finds o s env e ≡ false) (sym there) q) j || w j))
+      let same : env ++ [] ≡ env = append-nil env in (
+        subst (λ s. finds o s env d ≡ false) there (subst (λ r. finds o first r d ≡ false) same z),
+        λ q j. t.switched k env d e cases (value_lexical d v) (value_lexical e u) x j || (subst (λ r. finds o first r e ≡ false) (sym same) (subst (λ s. finds o s env e ≡ false) (sym there) q) j || w j),
+      )
 
   abbrev pub Declares : Asked → Tree → Type 0
   Declares = Lacks o t.plainly (declaring c) env
@@ -322,7 +322,6 @@ module _ (b : ℕ) where
   unfolding has_number
   number_every none a = refl
   number_every (d ▸ ds) a = λ j. a.0 j || number_every ds a.1 j
-
 
   pub numbers_lists : ByLists Unnumbered
   unfolding has_number

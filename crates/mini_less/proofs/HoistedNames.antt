@@ -10,7 +10,6 @@ use Rattle.mini_model.specs.declared.shape.Shape.TheVariants as shape
 use Rattle.mini_accept.specs.WellShaped.{Slot, Filling, these, each, each_or_last, pieces, Tagging, untagged, tagged, is_quasi_by, is_quasi, are_quasis, is_last, has_names, is_whole, class_of, filling, fits, fill}
 use Rattle.mini_model.specs.Tree.{Tree, Trees, node, none, ◌▸◌, shape_of}
 use Rattle.mini_laws.specs.declared.names.Around.{Around}
-use Rattle.mini_laws.specs.declared.names.Declared.{Declared}
 use Rattle.mini_laws.specs.declared.names.Declared.TheVariants as declared
 use Rattle.mini_laws.specs.declared.names.Use.{Use}
 use Rattle.mini_laws.specs.declared.names.Use.TheVariants.{Hoisted}

@@ -1,12 +1,12 @@
 -- The rows of lists as one relation.
-use Rattle.std.specs.Prelude.{◌≡◌, ◌⊎◌, refl, true}
+use Rattle.std.specs.Prelude.{◌≡◌, refl, true}
 use Rattle.std.proofs.Common.{inl, inr}
 use Rattle.mini_model.specs.declared.place.Position.{Position}
 use Rattle.mini_model.specs.declared.place.Position.TheVariants.{StatementList, BodyList}
 use Rattle.mini_model.specs.Paths.{append}
 use Rattle.mini_model.specs.Tree.{Tree, Trees, listed}
 use Rattle.mini_kept.specs.Placed.{is_statement_list}
-use Rattle.mini_rows.specs.Lists.{InList, AtEnd, StretchRow, SequencesRow, EndRow, bare_return}
+use Rattle.mini_rows.specs.Lists.{AtEnd, SequencesRow, EndRow, bare_return}
 use Rattle.mini_rows.specs.Switches.{Switches}
 use Rattle.mini_less.specs.Families.{LessAt, NeighboursLess}
 use Rattle.mini_less.specs.ListFamilies.{HeadRowsLess, LeanNeighbourRow, LeanListRow, LeanListsReadLess}

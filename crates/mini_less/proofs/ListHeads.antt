@@ -1,24 +1,24 @@
 -- Rows on the heads of statements in a list, on declarations that join them, and on a jump and what
 -- follows it ask less.
-use Rattle.std.specs.Prelude.{◌≡◌, refl, Bool, true, false, ◌&&◌, [], ◌∷◌}
+use Rattle.std.specs.Prelude.{◌≡◌, refl, Bool, true, ◌&&◌, [], ◌∷◌}
 use Rattle.std.proofs.Common.{ap, ◌∙◌, sym, subst, true≢false}
 use Rattle.std.proofs.lemmas.Bool.{and_parts}
-use Rattle.mini_accept.specs.WellShaped.{Depth, a_statement, an_init, a_loop_left, an_expression, Slot, one, one_or_absent, each, fill, fits}
+use Rattle.mini_accept.specs.WellShaped.{Depth, a_statement, an_init, a_loop_left, an_expression, one, one_or_absent, each, fill, fits}
 use Rattle.mini_model.specs.declared.kind.VariableDeclarationKind.TheVariants.{Var}
 use Rattle.mini_model.specs.declared.operator.LogicalOperator.TheVariants.{Or}
 use Rattle.mini_model.specs.declared.operator.UnaryOperator.TheVariants.{LogicalNot}
 use Rattle.mini_model.specs.declared.place.Position.{Position}
 use Rattle.mini_model.specs.declared.shape.Shape.TheVariants as shape
 use Rattle.mini_model.specs.Paths.{append}
-use Rattle.mini_model.specs.Tree.{Tree, Trees, node, none, ◌▸◌, listed, absent, shape_of, expression_statement, if_else, if_alone, logical, negation}
+use Rattle.mini_model.specs.Tree.{Tree, Trees, node, none, ◌▸◌, listed, absent, shape_of, expression_statement, logical, negation}
 use Rattle.mini_laws.specs.declared.names.Declared.TheVariants as declared
 use Rattle.mini_laws.specs.DeclaredNames.{names_of}
 use Rattle.mini_kept.specs.Placed.{is_statement_list}
 use Rattle.mini_kept.proofs.Expressions.{refused_here}
 use Rattle.mini_rows.specs.Lists.{block, declaration, is_unscoped, are_unscoped, of_parts, are_parts, is_one_part_shape, declares_nothing, with_head, for_loop, for_in, alternate_of, bare_return, leap, Breaks, Continues, Leap, Row67, Row67Absent, Row67In, Row68Free, Row68Init, Row74, Row75, Row75Block, Row77Leap, InList, AtEnd}
 use Rattle.mini_rows.specs.Lists as row
-use Rattle.mini_rows.specs.Sketches.{AList, Block, Return, Throw, part, under, list, end, ◌▹◌, no_items, items, Free, Asked, AsValue, AsBranch, AsItem, AsItems, AsWholeItem}
-use Rattle.mini_rows.proofs.Arranging.{All, Any, all_of, of_all, first_all, second_all, both_all}
+use Rattle.mini_rows.specs.Sketches.{AList, Block, Return, Throw, under, list, end, ◌▹◌, no_items, items, Free, Asked, AsValue, AsBranch, AsItem, AsItems, AsWholeItem}
+use Rattle.mini_rows.proofs.Arranging.{All, Any, all_of, of_all, first_all}
 use Rattle.mini_rows.proofs.ArrangedPlain.{is_plain}
 use Rattle.mini_rows.proofs.ArrangedValues.{is_value, value_fits}
 use Rattle.mini_rows.proofs.ListKeptKeys.{left_lexical}
@@ -172,9 +172,11 @@ row_68_init_less = neighbours_less Row68Init (λ a b r. ap are_unscoped r.shape)
     made a b r strict k f Q l y =
         let z = subst (All Q AsWholeItem) r.shape y in
         let (init, rest) = l.loop_down AFor (declaration Var r.es) (r.test ▸ (r.update ▸ (r.body ▸ none))) (var_lexical r.es) z.1.0 in
-        subst (All Q AsWholeItem) (sym r.written)
-        (l.loop_up AFor (declaration Var (append r.ds r.es)) (r.test ▸ (r.update ▸ (r.body ▸ none))) (var_lexical (append r.ds r.es))
-        (l.head_up (append r.ds r.es) (both_every l.Declared r.ds r.es (l.var_down r.ds z.0) (l.head_down r.es init)), rest), tt)
+        subst (All Q AsWholeItem) (sym r.written) (
+          l.loop_up AFor (declaration Var (append r.ds r.es)) (r.test ▸ (r.update ▸ (r.body ▸ none))) (var_lexical (append r.ds r.es))
+              (l.head_up (append r.ds r.es) (both_every l.Declared r.ds r.es (l.var_down r.ds z.0) (l.head_down r.es init)), rest),
+          tt,
+        )
 
 -- ---- 74
 

@@ -1,44 +1,33 @@
 -- Two declarations of a kind that become one ask less.
-use Rattle.std.specs.Prelude.{ℕ, zero, suc, ◌≡◌, ◌⊎◌, refl, nat_eq, Bool, true, false, ◌&&◌, ◌||◌, List, [], ◌∷◌, ◌++◌}
-use Rattle.std.proofs.Common.{ap, ◌∙◌, sym, subst, inl, inr, true≢false}
+use Rattle.std.specs.Prelude.{ℕ, suc, ◌≡◌, refl, Bool, true, false, ◌&&◌, ◌||◌, [], ◌++◌}
+use Rattle.std.proofs.Common.{ap, ◌∙◌, sym, subst, true≢false}
 use Rattle.std.proofs.lemmas.List.{append-nil}
-use Rattle.mini_accept.specs.WellShaped.{Slot, fits}
 use Rattle.mini_model.specs.declared.kind.VariableDeclarationKind.{VariableDeclarationKind}
 use Rattle.mini_model.specs.declared.kind.VariableDeclarationKind.TheVariants.{Var, Let, Const}
-use Rattle.mini_model.specs.declared.name.Name.{Name}
-use Rattle.mini_model.specs.declared.place.Position.{Position}
-use Rattle.mini_model.specs.declared.place.Position.TheVariants.{StatementList, BodyList}
 use Rattle.mini_model.specs.declared.shape.Shape.TheVariants as shape
 use Rattle.mini_model.specs.Paths.{append}
-use Rattle.mini_model.specs.Tree.{Tree, Trees, none, ◌▸◌, listed, shape_of}
-use Rattle.mini_laws.specs.declared.names.Binding.{Binding}
+use Rattle.mini_model.specs.Tree.{Tree, Trees, none, ◌▸◌, listed}
 use Rattle.mini_laws.specs.declared.names.Declared.TheVariants as declared
-use Rattle.mini_laws.specs.declared.names.Use.{Use}
 use Rattle.mini_laws.specs.declared.names.Use.TheVariants.{Read}
-use Rattle.mini_laws.specs.DeclaredNames.{names_of, all_names, is_inner}
+use Rattle.mini_laws.specs.DeclaredNames.{names_of, all_names}
 use Rattle.mini_laws.specs.Foreign.{has_number, any_has_number}
 use Rattle.mini_laws.specs.Mentions.{is_among}
 use Rattle.mini_laws.specs.Naming.{is_lexical}
 use Rattle.mini_laws.specs.Resolved.{Environment}
-use Rattle.mini_laws.specs.ScopeList.{has_eval, any_has_eval, is_eval_callee, by_symbol}
-use Rattle.mini_laws.specs.Scopes.{opened, scopes_by}
-use Rattle.mini_laws.specs.Shared.{names_arguments, any_names_arguments, is_of_function}
-use Rattle.mini_laws.specs.Value.{Variable, Declared}
-use Rattle.mini_kept.specs.KeepsNames.{is_used}
-use Rattle.mini_kept.specs.Placed.{is_statement_list, fits_place}
-use Rattle.mini_shrink.specs.Pace.{Pace, Ends, Silent, Reads, reads_if, followed, ends_if, ends_after, AtMost, Setting, below, Question, pace}
+use Rattle.mini_laws.specs.ScopeList.{has_eval, any_has_eval, by_symbol}
+use Rattle.mini_laws.specs.Scopes.{opened}
+use Rattle.mini_laws.specs.Shared.{names_arguments}
+use Rattle.mini_shrink.specs.Pace.{Pace, Ends, Silent, Reads, reads_if, followed, ends_after, AtMost, Setting, below, Question, pace}
 use Rattle.mini_shrink.specs.Questions.{Own, asks, early}
-use Rattle.mini_shrink.specs.Shrinking.{AsksLess}
 use Rattle.mini_rows.specs.Lists.{declaration, Row68}
 use Rattle.mini_rows.proofs.ListKeptDeclarations.{all_both}
-use Rattle.mini_less.specs.Families.{LessAt, NeighboursLess}
+use Rattle.mini_less.specs.Families.{NeighboursLess}
 use Rattle.mini_less.specs.TellsLists.{TellsLists}
-use Rattle.mini_less.specs.Neighbours.{PassesLists, of_items, items_say}
-use Rattle.mini_less.proofs.Finding.{never}
+use Rattle.mini_less.specs.Neighbours.{of_items, items_say}
 use Rattle.mini_less.proofs.Flags.{none_of, unlike}
-use Rattle.mini_less.proofs.LessRows.{Adds, evals_add, numbers_add, names_add, any_names, list_names, list_evals, list_numbers, list_zero}
+use Rattle.mini_less.proofs.LessRows.{Adds, evals_add, numbers_add, names_add, any_names, list_names}
 use Rattle.mini_less.proofs.Listing.{say, none_ended, asks_pass, early_passes}
-use Rattle.mini_less.proofs.Neighbours.{neighbours_ask_less, listed_is, appended}
+use Rattle.mini_less.proofs.Neighbours.{listed_is, appended}
 use Rattle.mini_less.proofs.Plainly.{is_reads, split, join, less_by}
 use Rattle.mini_less.proofs.ListHeads.{both_every}
 use Rattle.mini_less.proofs.ListMade.{ListMade, SaysLess, StretchLess, stretch_less, made_stretch}

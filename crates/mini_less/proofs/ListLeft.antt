@@ -1,8 +1,7 @@
 -- A statement that never runs leaves only its `var` names behind, and the list asks less.
-use Rattle.std.specs.Prelude.{ℕ, zero, suc, ◌≡◌, refl, Bool, true, false, ◌&&◌, ◌||◌, not, List, [], ◌∷◌, ◌++◌}
-use Rattle.std.proofs.Common.{ap, ◌∙◌, sym, subst}
-use Rattle.std.proofs.lemmas.Bool.{and_parts}
-use Rattle.mini_accept.specs.WellShaped.{a_statement, one, each, fill, fits}
+use Rattle.std.specs.Prelude.{ℕ, suc, ◌≡◌, refl, Bool, true, false, ◌&&◌, ◌||◌, not, List, [], ◌∷◌, ◌++◌}
+use Rattle.std.proofs.Common.{ap, ◌∙◌}
+use Rattle.mini_accept.specs.WellShaped.{a_statement, one}
 use Rattle.mini_model.specs.declared.kind.VariableDeclarationKind.TheVariants.{Var}
 use Rattle.mini_model.specs.declared.name.Name.{Name}
 use Rattle.mini_model.specs.declared.shape.Shape.TheVariants as shape
@@ -19,11 +18,11 @@ use Rattle.mini_laws.specs.Scopes.{scopes_by}
 use Rattle.mini_laws.specs.Shared.{is_arguments, is_of_function, names_arguments, any_names_arguments}
 use Rattle.mini_kept.specs.KeepsNames.{is_statement_use}
 use Rattle.mini_shrink.specs.Pace.{Silent, reads_if, followed, ends_after, Setting, below, pace}
-use Rattle.mini_shrink.specs.Questions.{Own, asks, finds, early}
+use Rattle.mini_shrink.specs.Questions.{Own, finds, early}
 use Rattle.mini_rows.specs.Lists.{binding, declaration, declarator, bare_declarators, declared_bare, left_behind, is_unscoped, Row77Unreached}
 use Rattle.mini_rows.specs.Sketches.{AbsentPart, Asked, AsWholeItem}
 use Rattle.mini_rows.proofs.Arranging.{All}
-use Rattle.mini_less.specs.Families.{LessAt, NeighboursLess}
+use Rattle.mini_less.specs.Families.{NeighboursLess}
 use Rattle.mini_less.specs.Neighbours.{of_items, items_say}
 use Rattle.mini_less.specs.TellsLists.{Every, Names, TellsLists}
 use Rattle.mini_less.proofs.ByLists.{hoisted, lacks_var, of_every, calm_var, of_each}
@@ -34,7 +33,7 @@ use Rattle.mini_less.proofs.LessRows.{any_names}
 use Rattle.mini_less.proofs.ListHeads.{behind, first_fits}
 use Rattle.mini_less.proofs.ListMade.{StretchLess, stretch_less, unscoped_ended}
 use Rattle.mini_less.proofs.Listing.{with_belongs, say, to_lacks, of_lacks, none_ended, loosely, loosely_more, of_calm}
-use Rattle.mini_less.proofs.Plainly.{is_reads, less_by, Calmly, standing}
+use Rattle.mini_less.proofs.Plainly.{is_reads, less_by, Calmly}
 use Rattle.mini_shrink.proofs.Paces.{through}
 
 -- whatever holds of each declarator without a value holds of the `var`

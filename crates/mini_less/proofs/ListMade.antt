@@ -4,7 +4,6 @@ use Rattle.std.specs.Prelude.{ℕ, zero, suc, ◌≡◌, refl, nat_eq, Bool, tru
 use Rattle.std.proofs.Common.{ap, ◌∙◌, sym, subst, inl, true≢false}
 use Rattle.std.proofs.lemmas.Bool.{and_parts}
 use Rattle.mini_accept.specs.WellShaped.{Depth, a_statement, Slot, one, each, fill, fits}
-use Rattle.mini_model.specs.declared.kind.VariableDeclarationKind.TheVariants.{Let, Const, Var}
 use Rattle.mini_model.specs.declared.place.Position.{Position}
 use Rattle.mini_model.specs.declared.place.Position.TheVariants.{StatementList, BodyList}
 use Rattle.mini_model.specs.declared.shape.Shape.TheVariants as shape
@@ -39,7 +38,7 @@ use Rattle.mini_less.proofs.EachFact.{Unordered}
 use Rattle.mini_less.proofs.Finding.{Lacks, never}
 use Rattle.mini_less.proofs.Flags.{none_of}
 use Rattle.mini_less.proofs.Headed.{and_nothing}
-use Rattle.mini_less.proofs.LessRows.{Adds, over, evals_add, numbers_add, names_add, any_names, list_names, list_evals, list_numbers, list_zero}
+use Rattle.mini_less.proofs.LessRows.{over, evals_add, numbers_add, names_add, any_names, list_names, list_evals, list_numbers, list_zero}
 use Rattle.mini_less.proofs.Listing.{middle_fits, with_belongs, say, to_lacks, of_lacks, none_ended, loosely, loosely_more, of_calm, asks_pass, early_passes, list_slot}
 use Rattle.mini_less.proofs.Neighbours.{neighbours_ask_less}
 use Rattle.mini_less.proofs.Ordered.{unscoped_anywhere}

@@ -18,7 +18,6 @@ use Rattle.mini_laws.specs.declared.names.Around.{Around}
 use Rattle.mini_laws.specs.Shared.{given_values, own_pattern_writes, write_at}
 use Rattle.mini_laws.specs.Foreign.{is_write, own_lexical}
 use Rattle.mini_laws.specs.Mentions.{Mention, same_variable, is_among, is_elsewhere}
-use Rattle.mini_laws.specs.Resolved.{Environment}
 use Rattle.mini_laws.specs.ScopeList.{any_has_eval, by_symbol}
 use Rattle.mini_laws.specs.Scopes.{opened, scopes_by, lexical_scope}
 use Rattle.mini_shrink.specs.Pace.{Setting, Question}
@@ -26,12 +25,12 @@ use Rattle.mini_shrink.specs.Questions.{Own, asks, mentions_such, gives_such, pa
 use Rattle.mini_shrink.specs.Facts.{Fact, Written, WrittenElsewhere, Given, GivenElsewhere, GivenByPattern, MentionedElsewhere, BoundElsewhere, IsLexical, IsSwitched, InPattern, UnderCatch, ByArguments, ByEval, AmongParameters, ReadEarly, question}
 use Rattle.mini_rows.specs.Lists.{binding, is_unscoped_shape}
 use Rattle.mini_rows.proofs.ListKeptDeclarations.{all_both}
-use Rattle.mini_less.specs.Less.{Frame, AFor, AWhile, ADo, AnIn, AnOf, frame_shape, headed, TellsPlainly}
+use Rattle.mini_less.specs.Less.{Frame, AFor, AWhile, ADo, AnIn, AnOf, frame_shape, headed}
 use Rattle.mini_less.specs.TellsLists.{Names, TellsLists}
 use Rattle.mini_less.proofs.HoistedNames.{Within, AsksWithin, hoisted_unasked}
 use Rattle.mini_shrink.proofs.Finding.{mentions_found}
 use Rattle.mini_less.proofs.EachFact.{Unordered}
-use Rattle.mini_less.proofs.Plainly.{Updates, mentions_plainly, unscoped_mention, gives_plainly, loop_gives, loop_pattern, loop_lexical, pattern_gives_plainly, names_plainly, no_switched, no_pattern, no_caught, no_arguments, no_params, loop_switched, loop_pattern_at, loop_caught, loop_arguments, loop_params, lexical_plainly, unseen, head_scope, later_scopes, seen_plainly}
+use Rattle.mini_less.proofs.Plainly.{Updates, mentions_plainly, unscoped_mention, gives_plainly, loop_pattern, loop_lexical, pattern_gives_plainly, names_plainly, no_switched, no_pattern, no_caught, no_arguments, no_params, loop_switched, loop_pattern_at, loop_caught, loop_arguments, loop_params, lexical_plainly, unseen, head_scope, later_scopes, seen_plainly}
 
 -- a name among those of two lists is among those of either
 pub among_both : (x : Name) (xs ys : List Name) → is_among x (xs ++ ys) ≡ (is_among x xs || is_among x ys)
