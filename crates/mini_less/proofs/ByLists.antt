@@ -1,5 +1,5 @@
--- What holds of trees by their parts holds so of the statements of a list, too: of a loop whose head
--- declares no lexical name, of a `switch`, and of a `var`.
+-- What holds of trees by their parts holds so of the statements of a list, too: of a loop whose
+-- head declares no lexical name, of a `switch`, and of a `var`.
 use Rattle.std.specs.Prelude.{ℕ, suc, ◌≡◌, refl, nat_eq, Bool, true, false, ◌&&◌, ◌||◌, [], ◌++◌}
 use Rattle.std.proofs.Common.{ap, ◌∙◌, sym, subst}
 use Rattle.std.proofs.lemmas.Bool.{and_parts}

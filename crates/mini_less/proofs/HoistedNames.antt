@@ -57,8 +57,8 @@ both_names : (P : Name → Type 0) (xs ys : List Name) → Names P xs → Names 
 both_names P [] ys a b = b
 both_names P (x ∷ xs) ys a b = (a.0, both_names P xs ys a.1 b)
 
--- what holds of a tree and passes to what stands in it, outside of other bodies, and of a name where
--- it is bound
+-- what holds of a tree and passes to what stands in it, outside of other bodies, holds of each name
+-- that it hoists, where it tells so of a name that is bound
 module _ (R : Tree → Type 0) (P : Name → Type 0) (here : (xs : List Name) (n : ℕ) (ts : Trees) → R (node shape.BindingIdentifier xs n ts) → Names P xs) (down : (h : Shape) (xs : List Name) (n : ℕ) (ts : Trees) → hands_around h ≡ true → R (node h xs n ts) → Every R ts) where
   mutual
     unfolding names_of

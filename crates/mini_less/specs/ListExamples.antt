@@ -1,6 +1,6 @@
--- `var x; x = 1;` gives x no value by its declarator, and `var x = 1;` does; neither do `var x;` and
--- the head of `for (x of 1)`, and that of `for (var x of 1)` does. So rows 69 and 70 don't ask less,
--- as long as it is a fact by itself whether a `var` gives a name a value.
+-- `var x; x = 1;` gives x no value by its declarator, and `var x = 1;` does. The head of
+-- `for (x of 1)` after `var x;` doesn't either, and that of `for (var x of 1)` does. So rows 69 and
+-- 70 don't ask less, as long as it is a fact by itself whether a `var` gives a name a value.
 use Rattle.std.specs.Prelude.{◌≡◌, refl, pos, [], Some, codes}
 use Rattle.mini_model.specs.declared.kind.VariableDeclarationKind.TheVariants.{Var}
 use Rattle.mini_model.specs.declared.name.Name.{Name}

@@ -9,8 +9,8 @@ use Rattle.mini_rows.specs.Switches.{Switches}
 use Rattle.mini_shrink.specs.Facts.{ReadsLess}
 use Rattle.mini_less.specs.Families.{LessAt, NeighboursLess}
 
--- 67 with every head, 68, also into the head of a `for`, 74, 75 at the end of a body, and 77 of `break`
--- and `continue` and of what never runs
+-- 67 with every head, 68, also into the head of a `for`, 74, 75 at the end of a body, and 77 of
+-- `break` and `continue` and of what never runs
 pub record HeadRowsLess : Type 0 where
   pub row_67 : NeighboursLess Row67
   pub row_67_absent : NeighboursLess Row67Absent

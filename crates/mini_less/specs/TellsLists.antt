@@ -25,9 +25,9 @@ Names P [] = Unit {0}
 Names P (x ∷ xs) = P x × Names P xs
 
 -- a loop whose head declares no lexical name tells nothing, a `switch` the same whatever it goes
--- over, as long as that declares nothing, and a `var` nothing besides its declarators; a declaration
--- that stands in a list tells no more than two of its kind that have its declarators; and a `var`
--- without a value tells nothing of the names that a statement hoists which tells nothing
+-- over, as long as that declares nothing, and a `var` nothing besides its declarators. A
+-- declaration that stands in a list tells no more than two of its kind that have its declarators.
+-- Where a statement tells nothing, a `var` without a value tells nothing of the names that it hoists
 pub record TellsLists (o : Own) : Type 0 where
   pub plainly : TellsPlainly o
   pub unheaded : (c : Setting) (env : Environment) (f : Frame) (i : Tree) (ts : Trees) → headed f i ≡ [] → o c env (frame_shape f) [] 0 (i ▸ ts) ≡ false
