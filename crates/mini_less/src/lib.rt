@@ -129,8 +129,8 @@ pub fn body_rows_of_this_less()
 {}
 
 /// Rows of lists on heads of statements, on declarations that become one and on what follows a
-/// jump: 67 with every head, 68, also into the head of a `for`, 74, 75 at the end of a body, and 77 of
-/// `break` and `continue` and of what never runs.
+/// jump: 67 with every head, 68, also into the head of a `for`, 74, 75 at the end of a body, and 77
+/// of `break` and `continue` and of what never runs.
 pub fn head_rows_less()
     ensures { HeadRowsLess }
 {}
