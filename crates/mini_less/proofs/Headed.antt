@@ -40,7 +40,7 @@ pub hands_nothing : (h : Head) → is_statement_head h ≡ true → hands_on (sh
 hands_nothing AList e = absurd (cc e)
 hands_nothing h e = refl
 
-and_nothing : (o : Bool) → (o && (false || false)) ≡ false
+pub and_nothing : (o : Bool) → (o && (false || false)) ≡ false
 and_nothing true = refl
 and_nothing false = refl
 

@@ -41,10 +41,10 @@ module _ (Q : Asked → Tree → Type 0) (l : ByParts Q) where
   pub an_if : (c : Asked) (a s u : Tree) → Q AsValue a → Q AsBranch s → Q AsBranch u → Q c (if_else a s u)
   an_if c a s u x y z = l.up If refl c (a ▸ s ▸ u ▸ none) tt (x, (y, (z, tt)))
 
-  said : (c : Asked) (a : Tree) → Q c (expression_statement a) → Q AsValue a
+  pub said : (c : Asked) (a : Tree) → Q c (expression_statement a) → Q AsValue a
   said c a y = (l.down OfExpression refl c (a ▸ none) tt y).0
 
-  says : (c : Asked) (a : Tree) → Q AsValue a → Q c (expression_statement a)
+  pub says : (c : Asked) (a : Tree) → Q AsValue a → Q c (expression_statement a)
   says c a y = l.up OfExpression refl c (a ▸ none) tt (y, tt)
 
   pub nothing : (c : Asked) → Q c absent

@@ -82,33 +82,33 @@ kept_or false false true a y f e = ap (λ b. b || y) (f refl)
 kept_or false false false true y f e = refl
 kept_or false false false false y f e = e
 
-abbrev Adds : (Trees → Bool) → Type 0
+abbrev pub Adds : (Trees → Bool) → Type 0
 Adds F = (ts us : Trees) → F (append ts us) ≡ (F ts || F us)
 
 or_more : (x y z : Bool) → ((x || y) || z) ≡ (x || (y || z))
 or_more true y z = refl
 or_more false y z = refl
 
-over : (F : Trees → Bool) → Adds F → (z : Bool) (before after a d : Trees) → ((z || F d) ≡ true → (z || F a) ≡ true) → (z || F (append before (append d after))) ≡ true → (z || F (append before (append a after))) ≡ true
+pub over : (F : Trees → Bool) → Adds F → (z : Bool) (before after a d : Trees) → ((z || F d) ≡ true → (z || F a) ≡ true) → (z || F (append before (append d after))) ≡ true → (z || F (append before (append a after))) ≡ true
 over F m z before after a d f e =
     let whole : (ts : Trees) → F (append before (append ts after)) ≡ (F before || (F ts || F after)) = λ ts. m before (append ts after) ∙ ap (λ b. F before || b) (m ts after) in
     ap (λ b. z || b) (whole a) ∙ kept_or z (F before) (F d) (F a) (F after) f (sym (ap (λ b. z || b) (whole d)) ∙ e)
 
-evals_add : Adds any_has_eval
+pub evals_add : Adds any_has_eval
 unfolding has_eval
 evals_add none us = refl
 evals_add (t ▸ ts) us = ap (λ b. has_eval t || b) (evals_add ts us) ∙ sym (or_more (has_eval t) (any_has_eval ts) (any_has_eval us))
 
-numbers_add : (b : ℕ) → Adds (any_has_number b)
+pub numbers_add : (b : ℕ) → Adds (any_has_number b)
 unfolding has_number
 numbers_add b none us = refl
 numbers_add b (t ▸ ts) us = ap (λ x. has_number b t || x) (numbers_add b ts us) ∙ sym (or_more (has_number b t) (any_has_number b ts) (any_has_number b us))
 
-abbrev any_names : Trees → Bool
+abbrev pub any_names : Trees → Bool
 any_names none = false
 any_names (t ▸ ts) = names_arguments t || any_names ts
 
-names_add : Adds any_names
+pub names_add : Adds any_names
 names_add none us = refl
 names_add (t ▸ ts) us = ap (λ x. names_arguments t || x) (names_add ts us) ∙ sym (or_more (names_arguments t) (any_names ts) (any_names us))
 
@@ -117,19 +117,19 @@ unfolding names_arguments
 names_are i none = refl
 names_are i (t ▸ ts) = ap (λ x. names_arguments t || x) (names_are (suc i) ts)
 
-list_names : (ts : Trees) → names_arguments (listed ts) ≡ any_names ts
+pub list_names : (ts : Trees) → names_arguments (listed ts) ≡ any_names ts
 unfolding names_arguments
 list_names ts = names_are 0 ts
 
-list_evals : (ts : Trees) → has_eval (listed ts) ≡ any_has_eval ts
+pub list_evals : (ts : Trees) → has_eval (listed ts) ≡ any_has_eval ts
 unfolding has_eval
 list_evals ts = refl
 
-list_numbers : (b : ℕ) (ts : Trees) → has_number b (listed ts) ≡ (nat_eq 0 b || any_has_number b ts)
+pub list_numbers : (b : ℕ) (ts : Trees) → has_number b (listed ts) ≡ (nat_eq 0 b || any_has_number b ts)
 unfolding has_number
 list_numbers b ts = refl
 
-list_zero : (ts : Trees) → has_number 0 (listed ts) ≡ true
+pub list_zero : (ts : Trees) → has_number 0 (listed ts) ≡ true
 unfolding has_number
 list_zero ts = refl
 

@@ -9,7 +9,15 @@ pub mod Statements
 pub mod TurnsLess
 pub mod Ordered
 pub mod Listing
+pub mod TellingLists
 pub mod LessRows
+pub mod ByLists
+pub mod ListMade
+pub mod ListHeads
+pub mod ListJoins
+pub mod ListLeft
+pub mod HoistedNames
+pub mod LeanLists
 pub mod ListRowsLess
 pub mod MoreRowsLess
 pub mod Made

@@ -37,7 +37,7 @@ use Rattle.mini_less.proofs.Plainly.{read, is_reads, is_ended, split, join, less
 
 -- ---- a stretch fits
 
-middle_fits : (strict : Bool) (s : Slot) (before a after : Trees) → fill strict (each s) (append before (append a after)) ≡ true → fill strict (each s) a ≡ true
+pub middle_fits : (strict : Bool) (s : Slot) (before a after : Trees) → fill strict (each s) (append before (append a after)) ≡ true → fill strict (each s) a ≡ true
 middle_fits strict s (t ▸ before) a after e = middle_fits strict s before a after (and_parts (fits strict s t) (fill strict (each s) (append before (append a after))) e).1
 middle_fits strict s none none after e = refl
 middle_fits strict s none (t ▸ a) after e =
@@ -57,35 +57,35 @@ no_end : (b : Bool) (r : Pace) → is_ended r ≡ false → is_ended (followed (
 no_end true r e = refl
 no_end false r e = e
 
-abbrev with_belongs : Setting → Setting
+abbrev pub with_belongs : Setting → Setting
 with_belongs c = record c { belongs = c.belongs && true }
 
 module _ (o : Own) (p : TellsPlainly o) (z : Unordered o) (x : Bool) (c : Setting) (env : Environment) where
-  abbrev say : Trees → Pace
+  abbrev pub say : Trees → Pace
   say = items_say (asks o) (of_items x c) env
 
   told : (t : Tree) → is_reads (pace (asks o) (of_items x c) env t) ≡ finds o (record c { belongs = c.belongs && true; ordered = false }) env t
   told t = ap is_reads (pace_is o (of_items x c) env t) ∙ tells (finds o (of_items x c) env t) ∙ unordered o z (of_items x c) false env t
 
-  to_lacks : (ts : Trees) → is_reads (say ts) ≡ false → All (Lacks o p (with_belongs c) env) AsWholeItem ts
+  pub to_lacks : (ts : Trees) → is_reads (say ts) ≡ false → All (Lacks o p (with_belongs c) env) AsWholeItem ts
   to_lacks none a = tt
   to_lacks (t ▸ ts) a = let (u, v) = split (pace (asks o) (of_items x c) env t) (say ts) a in (sym (told t) ∙ u, to_lacks ts v)
 
-  of_lacks : (ts : Trees) → All (Lacks o p (with_belongs c) env) AsWholeItem ts → is_reads (say ts) ≡ false
+  pub of_lacks : (ts : Trees) → All (Lacks o p (with_belongs c) env) AsWholeItem ts → is_reads (say ts) ≡ false
   of_lacks none a = refl
   of_lacks (t ▸ ts) a = join (pace (asks o) (of_items x c) env t) (say ts) (told t ∙ a.0) (of_lacks ts a.1)
 
-  none_ended : (ts : Trees) → is_ended (say ts) ≡ false
+  pub none_ended : (ts : Trees) → is_ended (say ts) ≡ false
   none_ended none = refl
   none_ended (t ▸ ts) = subst (λ r. is_ended (followed (ends_after false r) (say ts)) ≡ false) (sym (pace_is o (of_items x c) env t)) (no_end (finds o (of_items x c) env t) (say ts) (none_ended ts))
 
 -- ---- the order of reads
 
 module _ (b s : ℕ) (c : Setting) (env : Environment) where
-  abbrev loosely : Trees → Pace
+  abbrev pub loosely : Trees → Pace
   loosely = items_say (early b s) (of_items false c) env
 
-  loosely_more : (x : Bool) (ts : Trees) → AtMost (items_say (early b s) (of_items x c) env ts) (loosely ts)
+  pub loosely_more : (x : Bool) (ts : Trees) → AtMost (items_say (early b s) (of_items x c) env ts) (loosely ts)
   loosely_more x none = tt
   loosely_more x (t ▸ ts) =
       let p = pace (early b s) (of_items x c) env t in
@@ -94,7 +94,7 @@ module _ (b s : ℕ) (c : Setting) (env : Environment) where
       both (ends_after e p) (ends_after false r) (items_say (early b s) (of_items x c) env ts) (loosely ts)
       (ended_more e false (λ a. absurd (true≢false (sym a))) p r (more_ordered b s x false (λ a. absurd (true≢false (sym a))) (of_items x c) env t)) (loosely_more x ts)
 
-  of_calm : (ts : Trees) → All (Calmly b s (with_belongs c) env) AsWholeItem ts → is_reads (loosely ts) ≡ false
+  pub of_calm : (ts : Trees) → All (Calmly b s (with_belongs c) env) AsWholeItem ts → is_reads (loosely ts) ≡ false
   of_calm none a = refl
   of_calm (t ▸ ts) a = join (pace (early b s) (of_items false c) env t) (loosely ts) a.0 (of_calm ts a.1)
 
@@ -130,18 +130,18 @@ module _ (f : Free) (ps : Parts) (u : AreLoose ps f) (is js : Items) (e : rebuil
         (to_parts_in Any (Calmly b s k env) (calm_local b s k env) ps AsWholeItem is (items_plain f ps u AsWholeItem is sn) (headed_calm b s c env x ps is y a)))))
         (headed_ended b s c env x ps is y))
 
-abbrev asks_pass : (o : Own) → TellsPlainly o → PassesLists (asks o)
+abbrev pub asks_pass : (o : Own) → TellsPlainly o → PassesLists (asks o)
 asks_pass o p = record { silent = λ c env ts. ap reads_if (p.plain c env AList ts tt); orders = λ c. false; ordered = λ c ts. refl }
 
-abbrev early_passes : (b s : ℕ) → PassesLists (early b s)
+abbrev pub early_passes : (b s : ℕ) → PassesLists (early b s)
 early_passes b s = record { silent = λ c env ts. refl; orders = λ c. (true && c.ordered) || false; ordered = λ c ts. refl }
 
-as_statement : (p : Position) → is_statement_list p ≡ true → (v : Use) → is_used p v ≡ true → is_statement_use v ≡ true
+pub as_statement : (p : Position) → is_statement_list p ≡ true → (v : Use) → is_used p v ≡ true → is_statement_use v ≡ true
 as_statement StatementList e v k = ap is_statement_use (read v k)
 as_statement BodyList e v k = ap is_statement_use (read v k)
 as_statement p e v k = absurd (cc e)
 
-list_slot : (p : Position) → is_statement_list p ≡ true → (s : Slot) → fits_place p s ≡ true → fits_place StatementList s ≡ true
+pub list_slot : (p : Position) → is_statement_list p ≡ true → (s : Slot) → fits_place p s ≡ true → fits_place StatementList s ≡ true
 list_slot StatementList e s k = k
 list_slot BodyList e (one c) k = refl
 list_slot BodyList e (one_or_absent c) k = refl

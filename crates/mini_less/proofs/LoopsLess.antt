@@ -72,7 +72,7 @@ module _ (q : Question) where
   later_paces sc z cs k e none = refl
   later_paces sc z cs k e (t ▸ ts) = λ j. ends_after (q.ends (cs (suc k)) t) (pace q (cs (suc k)) (e ++ z k j) t) ∷ (ap (λ r. paces q sc cs (suc (suc k)) (e ++ r) ts) (z k) ∙ later_paces sc z cs (suc k) (e ++ []) ts) j
 
-  head_paces : (sc : ℕ → List Binding) → ((j : ℕ) → sc (suc j) ≡ []) → (cs : ℕ → Setting) (e : Environment) (i : Tree) (ts : Trees) → paces q sc cs 0 e (i ▸ ts) ≡ paces q (λ j. []) cs 0 (e ++ sc 0) (i ▸ ts)
+  pub head_paces : (sc : ℕ → List Binding) → ((j : ℕ) → sc (suc j) ≡ []) → (cs : ℕ → Setting) (e : Environment) (i : Tree) (ts : Trees) → paces q sc cs 0 e (i ▸ ts) ≡ paces q (λ j. []) cs 0 (e ++ sc 0) (i ▸ ts)
   unfolding pace
   head_paces sc z cs e i ts = λ j. ends_after (q.ends (cs 0) i) (pace q (cs 0) (sym (append-nil (e ++ sc 0)) j) i) ∷ (later_paces sc z cs 0 (e ++ sc 0) ts ∙ ap (λ r. paces q (λ j. []) cs 1 r ts) (sym (append-nil (e ++ sc 0)))) j
 
@@ -92,7 +92,7 @@ abbrev in_head : Environment → Frame → Tree → Environment
 in_head env f i = env ++ lexical_scope (headed f i)
 
 module _ (o : Own) (p : TellsPlainly o) (c : Setting) (env : Environment) where
-  loop_setting : (f : Frame) (j : ℕ) → below false c (frame_shape f) 0 j ≡ setting o p c env (frame_asked f j)
+  pub loop_setting : (f : Frame) (j : ℕ) → below false c (frame_shape f) 0 j ≡ setting o p c env (frame_asked f j)
   loop_setting AFor zero = setting_below o p c env If AsWhole 0
   loop_setting AFor (suc zero) = setting_below o p c env If AsWhole 0
   loop_setting AFor (suc (suc zero)) = setting_below o p c env If AsWhole 0
@@ -115,7 +115,7 @@ swap p r x e =
     join p (followed (ends_after false r) x) d (join r x a g)
 
 module _ (m s : ℕ) (c : Setting) (env : Environment) where
-  loop_standing : (f : Frame) (j : ℕ) → below false c (frame_shape f) 0 j ≡ standing m s c env (frame_asked f j)
+  pub loop_standing : (f : Frame) (j : ℕ) → below false c (frame_shape f) 0 j ≡ standing m s c env (frame_asked f j)
   loop_standing AFor zero = standing_below m s c env If AsWhole false refl 0
   loop_standing AFor (suc zero) = standing_below m s c env If AsWhole false refl 0
   loop_standing AFor (suc (suc zero)) = standing_below m s c env If AsWhole false refl 0
@@ -132,10 +132,10 @@ module _ (m s : ℕ) (c : Setting) (env : Environment) where
   loop_standing AnOf (suc (suc j)) = standing_below m s c env If AsWhole false refl 1
 
   -- where nothing ends the order of the first two doesn't matter
-  abbrev plainly_said : Frame → Tree → Trees → List Pace
+  abbrev pub plainly_said : Frame → Tree → Trees → List Pace
   plainly_said f i ts = paces (early m s) (λ k. []) (below false c (frame_shape f) 0) 0 env (i ▸ ts)
 
-  of_turn : (f : Frame) (i : Tree) (ts : Trees) → is_reads (in_turn (frame_shape f) (plainly_said f i ts)) ≡ false → is_reads (all_followed (plainly_said f i ts)) ≡ false
+  pub of_turn : (f : Frame) (i : Tree) (ts : Trees) → is_reads (in_turn (frame_shape f) (plainly_said f i ts)) ≡ false → is_reads (all_followed (plainly_said f i ts)) ≡ false
   unfolding pace
   of_turn AFor i ts a = a
   of_turn AWhile i ts a = a
@@ -145,7 +145,7 @@ module _ (m s : ℕ) (c : Setting) (env : Environment) where
   of_turn AnOf i none a = a
   of_turn AnOf i (r ▸ ts) a = swap (pace (early m s) (below false c shape.ForOfStatement 0 0) (env ++ []) i) (pace (early m s) (below false c shape.ForOfStatement 0 1) ((env ++ []) ++ []) r) (all_followed (paces (early m s) (λ k. []) (below false c shape.ForOfStatement 0) 2 ((env ++ []) ++ []) ts)) a
 
-  to_turn : (f : Frame) (i : Tree) (ts : Trees) → is_reads (all_followed (plainly_said f i ts)) ≡ false → is_reads (in_turn (frame_shape f) (plainly_said f i ts)) ≡ false
+  pub to_turn : (f : Frame) (i : Tree) (ts : Trees) → is_reads (all_followed (plainly_said f i ts)) ≡ false → is_reads (in_turn (frame_shape f) (plainly_said f i ts)) ≡ false
   unfolding pace
   to_turn AFor i ts a = a
   to_turn AWhile i ts a = a
@@ -202,21 +202,21 @@ module _ (m s : ℕ) (c : Setting) (env : Environment) where
   head_says AnOf i (r ▸ ts) z = ap (followed (second_pace shape.ForOfStatement r)) (cut_off (declares_it i) (declares_so i z) (head_pace shape.ForOfStatement i) (all_followed (paces (early m s) (λ k. []) (below true c shape.ForOfStatement 0) 2 ((env ++ []) ++ []) ts)) Silent)
 
   -- a loop declares nothing around it, and hands no order on
-  told_by_head : (f : Frame) (i : Tree) (ts : Trees) → (early m s).orders c (frame_shape f) (i ▸ ts) ≡ is_among (by_symbol s) (headed f i)
+  pub told_by_head : (f : Frame) (i : Tree) (ts : Trees) → (early m s).orders c (frame_shape f) (i ▸ ts) ≡ is_among (by_symbol s) (headed f i)
   told_by_head AFor i ts = refl
   told_by_head AWhile i ts = refl
   told_by_head ADo i ts = refl
   told_by_head AnIn i ts = refl
   told_by_head AnOf i ts = refl
 
-  silent_root : (f : Frame) (ts : Trees) → (early m s).before c env (frame_shape f) [] 0 ts ≡ Silent
+  pub silent_root : (f : Frame) (ts : Trees) → (early m s).before c env (frame_shape f) [] 0 ts ≡ Silent
   silent_root AFor ts = refl
   silent_root AWhile ts = refl
   silent_root ADo ts = refl
   silent_root AnIn ts = refl
   silent_root AnOf ts = refl
 
-abbrev loop_node : Frame → Tree → Trees → Tree
+abbrev pub loop_node : Frame → Tree → Trees → Tree
 loop_node f i ts = node (frame_shape f) [] 0 (i ▸ ts)
 
 -- what holds of the parts of one holds of those of the other
@@ -227,7 +227,7 @@ LoopMade f i ts j us = (Q : Asked → Tree → Type 0) → ByParts Q → Below Q
 abbrev pub HeadStays : Frame → Tree → Trees → Tree → Trees → Type 0
 HeadStays f i ts j us = ((j ≡ i) × (before_head f us ≡ before_head f ts)) ⊎ (headed f i ≡ [])
 
-frame_evals : (f : Frame) (ts : Trees) → has_eval (node (frame_shape f) [] 0 ts) ≡ any_has_eval ts
+pub frame_evals : (f : Frame) (ts : Trees) → has_eval (node (frame_shape f) [] 0 ts) ≡ any_has_eval ts
 unfolding has_eval
 frame_evals AFor ts = refl
 frame_evals AWhile ts = refl
@@ -235,7 +235,7 @@ frame_evals ADo ts = refl
 frame_evals AnIn ts = refl
 frame_evals AnOf ts = refl
 
-frame_names : (f : Frame) (ts : Trees) → names_arguments (node (frame_shape f) [] 0 ts) ≡ any_names_arguments (is_of_function (frame_shape f)) 0 ts
+pub frame_names : (f : Frame) (ts : Trees) → names_arguments (node (frame_shape f) [] 0 ts) ≡ any_names_arguments (is_of_function (frame_shape f)) 0 ts
 unfolding names_arguments
 frame_names AFor ts = refl
 frame_names AWhile ts = refl
@@ -243,7 +243,7 @@ frame_names ADo ts = refl
 frame_names AnIn ts = refl
 frame_names AnOf ts = refl
 
-frame_of_function : (f : Frame) (k : ℕ) → is_of_function (frame_shape f) k ≡ true
+pub frame_of_function : (f : Frame) (k : ℕ) → is_of_function (frame_shape f) k ≡ true
 frame_of_function AFor k = refl
 frame_of_function AWhile k = refl
 frame_of_function ADo k = refl

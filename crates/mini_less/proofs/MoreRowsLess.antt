@@ -97,7 +97,7 @@ row_67 l k n w r = by r.row.row.head r.row.short r.row.row.shape r.row.row.writt
     by h g e f = absurd (true≢false (sym g))
 
 -- 77
-appended : (before : Trees) (t : Tree) (us : Trees) → append (append before (t ▸ none)) us ≡ append before (t ▸ us)
+pub appended : (before : Trees) (t : Tree) (us : Trees) → append (append before (t ▸ none)) us ≡ append before (t ▸ us)
 appended none t us = refl
 appended (b ▸ before) t us = ap (λ ts. b ▸ ts) (appended before t us)
 

@@ -178,7 +178,7 @@ pub no_params : (b : ℕ) (c : Setting) (h : Head) (ts : Trees) → params_at b 
 no_params b c AList ts = refl
 no_params b c h ts = refl
 
-unseen : (x : Name) (sc : ℕ → List Binding) → ((j : ℕ) → sc j ≡ []) → (i : ℕ) (ts : Trees) → seen_from sc i ts x ≡ false
+pub unseen : (x : Name) (sc : ℕ → List Binding) → ((j : ℕ) → sc j ≡ []) → (i : ℕ) (ts : Trees) → seen_from sc i ts x ≡ false
 unseen x sc z i none = refl
 unseen x sc z i (t ▸ ts) = λ j. (ap (λ bs. any_has_eval (t ▸ ts) && is_among x (names_in bs)) (z i) ∙ by (any_has_eval (t ▸ ts))) j || unseen x sc z (suc i) ts j
   where

@@ -1,6 +1,8 @@
 pub mod Families
 pub mod Flags
 pub mod Less
+pub mod ListExamples
+pub mod ListFamilies
 pub mod Neighbours
 pub mod Rebuilt
 pub mod Own
@@ -8,3 +10,4 @@ pub mod HeldKeys
 pub mod Arrows
 pub mod Names
 pub mod BodyEnds
+pub mod TellsLists

@@ -8,6 +8,7 @@ ghost use Rattle.mini_less.specs.BodyEnds.{BodyEndsLess};
 ghost use Rattle.mini_less.specs.HeldKeys.{HeldKeysReadLess};
 ghost use Rattle.mini_less.specs.Names.{NamesReadLess, CatchesReadLess};
 ghost use Rattle.mini_less.specs.Own.{SteadyReadsLess, LexicalReadsLess, PastBlocksReadLess};
+ghost use Rattle.mini_less.specs.ListFamilies.{HeadRowsLess, LeanListsReadLess};
 ghost use Rattle.mini_less.specs.Rebuilt.{ListsAskLess, StatementsAskLess};
 
 use mini_laws::Rewrites;
@@ -164,4 +165,17 @@ pub fn catches_read_less()
 /// Rows on the jump that ends a block which is the body of a loop: 78.
 pub fn body_ends_less()
     ensures { BodyEndsLess }
+{}
+
+/// Rows of lists on heads of statements, on declarations that become one and on what follows a
+/// jump: 67 with every head, 68, also into the head of a `for`, 74, 75 at the end of a body, and 77
+/// of `break` and `continue` and of what never runs.
+pub fn head_rows_less()
+    ensures { HeadRowsLess }
+{}
+
+/// All rows of lists as one relation, but 69 and 70, by which a declarator gives a value that an
+/// assignment gave.
+pub fn lean_lists_read_less()
+    ensures { LeanListsReadLess }
 {}

@@ -1,0 +1,350 @@
+-- What holds of trees by their parts holds so of the statements of a list, too: of a loop whose
+-- head declares no lexical name, of a `switch`, and of a `var`.
+use Rattle.std.specs.Prelude.{ℕ, suc, ◌≡◌, refl, nat_eq, Bool, true, false, ◌&&◌, ◌||◌, [], ◌++◌}
+use Rattle.std.proofs.Common.{ap, ◌∙◌, sym, subst}
+use Rattle.std.proofs.lemmas.Bool.{and_parts}
+use Rattle.std.proofs.lemmas.List.{append-nil}
+use Rattle.mini_model.specs.declared.kind.VariableDeclarationKind.TheVariants.{Var}
+use Rattle.mini_model.specs.declared.shape.Shape.TheVariants as shape
+use Rattle.mini_model.specs.Tree.{Tree, Trees, none, ◌▸◌, listed, shape_of}
+use Rattle.mini_laws.specs.declared.names.Declared.TheVariants as declared
+use Rattle.mini_laws.specs.declared.names.Use.{Use}
+use Rattle.mini_laws.specs.declared.names.Use.TheVariants.{Read, Hoisted, Alone}
+use Rattle.mini_laws.specs.DeclaredNames.{names_of}
+use Rattle.mini_laws.specs.Foreign.{has_number, any_has_number}
+use Rattle.mini_laws.specs.Mentions.{is_among}
+use Rattle.mini_laws.specs.Resolved.{Environment}
+use Rattle.mini_laws.specs.ScopeList.{has_eval, any_has_eval, by_symbol}
+use Rattle.mini_laws.specs.Scopes.{opened, scopes_by, hoisted_by}
+use Rattle.mini_laws.specs.Shared.{names_arguments, any_names_arguments, is_of_function}
+use Rattle.mini_kept.specs.KeepsNames.{is_statement_use}
+use Rattle.mini_kept.proofs.Quiet.{is_quiet, no_names}
+use Rattle.mini_shrink.specs.Pace.{Pace, Silent, followed, ends_after, all_followed, in_turn, Setting, below, pace, paces}
+use Rattle.mini_shrink.specs.Questions.{Own, finds, finds_each, any_of, early}
+use Rattle.mini_rows.specs.Lists.{declaration, switch, is_unscoped}
+use Rattle.mini_rows.specs.Sketches.{AList, If, Asked, AsValue, AsItem, AsWholeItem, AsWholeList, use_by}
+use Rattle.mini_rows.proofs.Arranging.{All, Any, Below, all_of, of_all}
+use Rattle.mini_rows.proofs.ArrangedValues.{is_value, is_no_inner}
+use Rattle.mini_less.specs.Less.{Frame, frame_shape, headed}
+use Rattle.mini_less.specs.TellsLists.{Every, TellsLists}
+use Rattle.mini_less.proofs.Finding.{Lacks, lacks_anyhow, lacks_local, setting, setting_below, lacks_below, below_lacks, belongs_same}
+use Rattle.mini_less.proofs.Flags.{none_of, spares_local, spares_below, below_spares, numbers_local, numbers_below, below_numbers, unlike}
+use Rattle.mini_less.proofs.Headed.{and_nothing}
+use Rattle.mini_less.proofs.LoopsLess.{frame_asked, loop_node, loop_setting, loop_standing, head_paces, of_turn, to_turn, told_by_head, silent_root, frame_evals, frame_names, frame_of_function}
+use Rattle.mini_less.proofs.Made.{ByParts, by_parts, Spared, spared_by_parts, spared_below, below_spared, lacks_updated, lacks_properties, lacks_moved, calm_moved, calm_updated, calm_properties, spares_properties, numbers_properties}
+use Rattle.mini_less.proofs.Plainly.{is_reads, split, join, Calmly, calm_anyhow, calm_local, calm_below, below_calm, standing, standing_below, early_alone, later_scopes}
+use Rattle.mini_less.proofs.TellingLists.{unheaded_opens}
+
+pub record ByLists (Q : Asked → Tree → Type 0) : Type 1 where
+  pub parts : ByParts Q
+  -- an unscoped statement stands in the list and in a block alike
+  pub placed : (t : Tree) → is_unscoped t ≡ true → (Q AsWholeItem t → Q AsItem t) × (Q AsItem t → Q AsWholeItem t)
+  pub loop_down : (f : Frame) (i : Tree) (ts : Trees) → headed f i ≡ [] → Q AsWholeItem (loop_node f i ts) → Below Q (frame_asked f) 0 (i ▸ ts)
+  pub loop_up : (f : Frame) (i : Tree) (ts : Trees) → headed f i ≡ [] → Below Q (frame_asked f) 0 (i ▸ ts) → Q AsWholeItem (loop_node f i ts)
+  pub switched : (d e cases : Tree) → is_value (shape_of d) ≡ true → is_value (shape_of e) ≡ true → Q AsWholeItem (switch d cases) → Q AsValue d × (Q AsValue e → Q AsWholeItem (switch e cases))
+  -- a declarator of a `var`, which stands in a list or in the head of a `for`
+  pub Declared : Tree → Type 0
+  pub var_down : (ds : Trees) → Q AsWholeItem (declaration Var ds) → Every Declared ds
+  pub var_up : (ds : Trees) → Every Declared ds → Q AsWholeItem (declaration Var ds)
+  pub head_down : (ds : Trees) → Q AsValue (declaration Var ds) → Every Declared ds
+  pub head_up : (ds : Trees) → Every Declared ds → Q AsValue (declaration Var ds)
+
+value_quiet : (t : Tree) → is_value (shape_of t) ≡ true → is_quiet (shape_of t) ≡ true
+value_quiet t e = (and_parts (is_quiet (shape_of t)) (is_no_inner (shape_of t)) e).0
+
+pub value_lexical : (t : Tree) → is_value (shape_of t) ≡ true → names_of declared.Lexical t ≡ []
+value_lexical t e = no_names declared.Lexical t (value_quiet t e)
+
+value_bound : (t : Tree) → is_value (shape_of t) ≡ true → names_of declared.Bound t ≡ []
+value_bound t e = no_names declared.Bound t (value_quiet t e)
+
+pub hoisted : (u : Use) → is_statement_use u ≡ true → hoisted_by u ≡ Hoisted
+hoisted Read e = refl
+hoisted Alone e = refl
+hoisted u e = absurd (cc e)
+
+-- around the declarators of a `var`
+abbrev pub declaring : Setting → Setting
+declaring c = record c { used = Hoisted; is_body = false }
+
+-- ---- what is found
+
+module _ (o : Own) (t : TellsLists o) (c : Setting) (env : Environment) (su : is_statement_use c.used ≡ true) where
+  abbrev pub Q : Asked → Tree → Type 0
+  Q = Lacks o t.plainly c env
+
+  abbrev pub at : Asked → Setting
+  at = setting o t.plainly c env
+
+  loop_lacks : (f : Frame) (i : Tree) (ts : Trees) → headed f i ≡ [] → Q AsWholeItem (loop_node f i ts) → Below Q (frame_asked f) 0 (i ▸ ts)
+  unfolding finds
+  loop_lacks f i ts e a =
+      let h = frame_shape f in
+      lacks_below o t.plainly c env (frame_asked f) (opened c.used h (i ▸ ts)) (unheaded_opens c.used f i ts e) (below false c h 0) (loop_setting o t.plainly c env f) 0 env refl (i ▸ ts)
+      (none_of (o (at AsWholeItem) env h [] 0 (i ▸ ts)) (any_of (finds_each o (opened c.used h (i ▸ ts)) (below false c h 0) 0 env (i ▸ ts))) a).1
+
+  lacks_loop : (f : Frame) (i : Tree) (ts : Trees) → headed f i ≡ [] → Below Q (frame_asked f) 0 (i ▸ ts) → Q AsWholeItem (loop_node f i ts)
+  unfolding finds
+  lacks_loop f i ts e a =
+      let h = frame_shape f in
+      λ j. t.unheaded (at AsWholeItem) env f i ts e j || below_lacks o t.plainly c env (frame_asked f) (opened c.used h (i ▸ ts)) (unheaded_opens c.used f i ts e) (below false c h 0) (loop_setting o t.plainly c env f) 0 env refl (i ▸ ts) a j
+
+  switch_lacks : (d e cases : Tree) → is_value (shape_of d) ≡ true → is_value (shape_of e) ≡ true → Q AsWholeItem (switch d cases) → Q AsValue d × (Q AsValue e → Q AsWholeItem (switch e cases))
+  unfolding finds scopes_by
+  switch_lacks d e cases v u a =
+      let k = at AsWholeItem in
+      let first = below false k shape.SwitchStatement 0 0 in
+      let later = any_of (finds_each o (opened c.used shape.SwitchStatement (d ▸ cases ▸ none)) (below false k shape.SwitchStatement 0) 1 (env ++ []) (cases ▸ none)) in
+      let (x, y) = none_of (o k env shape.SwitchStatement [] 0 (d ▸ cases ▸ none)) (finds o first (env ++ []) d || later) a in
+      let (z, w) = none_of (finds o first (env ++ []) d) later y in
+      let there : first ≡ at AsValue = setting_below o t.plainly c env If AsWholeItem 0 in
+      let same : env ++ [] ≡ env = append-nil env in (
+        subst (λ s. finds o s env d ≡ false) there (subst (λ r. finds o first r d ≡ false) same z),
+        λ q j. t.switched k env d e cases (value_lexical d v) (value_lexical e u) x j || (subst (λ r. finds o first r e ≡ false) (sym same) (subst (λ s. finds o s env e ≡ false) (sym there) q) j || w j),
+      )
+
+  abbrev pub Declares : Asked → Tree → Type 0
+  Declares = Lacks o t.plainly (declaring c) env
+
+  module _ (u : Asked) (used : hoisted_by (use_by c.used u) ≡ Hoisted) where
+    around_declarators : below false (at u) (shape.VariableDeclaration Var) 0 0 ≡ setting o t.plainly (declaring c) env AsWholeList
+    around_declarators = λ i. record { used = used i; around = c.around; strict = c.strict; is_body = false; belongs = belongs_same If c.belongs 0 i; ordered = false }
+
+    var_lacks : (ds : Trees) → Q u (declaration Var ds) → All Declares AsWholeItem ds
+    unfolding finds scopes_by
+    var_lacks ds a =
+        let k = below false (at u) (shape.VariableDeclaration Var) 0 0 in
+        let (x, y) = none_of (o (at u) env (shape.VariableDeclaration Var) [] 0 (listed ds ▸ none)) (finds o k (env ++ []) (listed ds) || false) a in
+        let (z, w) = none_of (finds o k (env ++ []) (listed ds)) false y in
+        all_of Any Declares AsWholeItem 0 ds ((lacks_local o t.plainly (declaring c) env).down AList AsWholeList ds tt
+        (subst (λ s. finds o s env (listed ds) ≡ false) around_declarators (subst (λ r. finds o k r (listed ds) ≡ false) (append-nil env) z))).1
+
+    pub lacks_var : (ds : Trees) → All Declares AsWholeItem ds → Q u (declaration Var ds)
+    unfolding finds scopes_by
+    lacks_var ds a =
+        let k = below false (at u) (shape.VariableDeclaration Var) 0 0 in
+        let z : finds o k (env ++ []) (listed ds) ≡ false = subst (λ r. finds o k r (listed ds) ≡ false) (sym (append-nil env)) (subst (λ s. finds o s env (listed ds) ≡ false) (sym around_declarators)
+        ((lacks_local o t.plainly (declaring c) env).up AList AsWholeList ds tt tt (of_all Any Declares AsWholeItem 0 ds a))) in
+        λ j. t.hoisted (at u) env (listed ds ▸ none) j || (z j || false)
+
+  to_every : (ds : Trees) → All Declares AsWholeItem ds → Every (Declares AsWholeItem) ds
+  to_every none a = tt
+  to_every (d ▸ ds) a = (a.0, to_every ds a.1)
+
+  pub of_every : (ds : Trees) → Every (Declares AsWholeItem) ds → All Declares AsWholeItem ds
+  of_every none a = tt
+  of_every (d ▸ ds) a = (a.0, of_every ds a.1)
+
+  pub lacks_lists : ByLists Q
+  lacks_lists = record {
+    parts = by_parts Q (lacks_updated o t.plainly c env) (lacks_properties o t.plainly c env) (lacks_moved o t.plainly c env) (lacks_local o t.plainly c env);
+    placed = λ x e. (lacks_anyhow o t.plainly c env su AsWholeItem AsItem refl refl x e, lacks_anyhow o t.plainly c env su AsItem AsWholeItem refl refl x e);
+    loop_down = loop_lacks;
+    loop_up = lacks_loop;
+    switched = switch_lacks;
+    Declared = Declares AsWholeItem;
+    var_down = λ ds a. to_every ds (var_lacks AsWholeItem (hoisted c.used su) ds a);
+    var_up = λ ds a. lacks_var AsWholeItem (hoisted c.used su) ds (of_every ds a);
+    head_down = λ ds a. to_every ds (var_lacks AsValue refl ds a);
+    head_up = λ ds a. lacks_var AsValue refl ds (of_every ds a);
+  }
+
+-- ---- the order of reads
+
+module _ (m s : ℕ) (c : Setting) (env : Environment) (su : is_statement_use c.used ≡ true) where
+  abbrev pub C : Asked → Tree → Type 0
+  C = Calmly m s c env
+
+  abbrev pub stood : Asked → Setting
+  stood = standing m s c env
+
+  -- what a loop says whose head declares no lexical name
+  loop_says : (f : Frame) (i : Tree) (ts : Trees) → headed f i ≡ [] → pace (early m s) (stood AsWholeItem) env (loop_node f i ts) ≡ in_turn (frame_shape f) (paces (early m s) (λ k. []) (below false c (frame_shape f) 0) 0 env (i ▸ ts))
+  unfolding pace
+  loop_says f i ts e =
+      let q = early m s in
+      let h = frame_shape f in
+      let k = stood AsWholeItem in
+      ap (λ x. followed x (in_turn h (paces q (opened c.used h (i ▸ ts)) (below (q.orders k h (i ▸ ts)) k h 0) 0 env (i ▸ ts)))) (silent_root m s k env f (i ▸ ts))
+      ∙ ap (λ x. in_turn h (paces q (opened c.used h (i ▸ ts)) (below x k h 0) 0 env (i ▸ ts))) (told_by_head m s k env f i ts ∙ ap (is_among (by_symbol s)) e)
+      ∙ ap (in_turn h) (head_paces q (opened c.used h (i ▸ ts)) (later_scopes c.used f i ts) (below false k h 0) env i ts ∙ ap (λ x. paces q (λ k. []) (below false c h 0) 0 x (i ▸ ts)) (ap (λ b. env ++ b) (unheaded_opens c.used f i ts e 0) ∙ append-nil env))
+
+  loop_calm : (f : Frame) (i : Tree) (ts : Trees) → headed f i ≡ [] → C AsWholeItem (loop_node f i ts) → Below C (frame_asked f) 0 (i ▸ ts)
+  loop_calm f i ts e a =
+      calm_below m s c env (frame_asked f) (λ k. []) (λ k. refl) (below false c (frame_shape f) 0) (loop_standing m s c env f) 0 env refl (i ▸ ts)
+      (of_turn m s c env f i ts (sym (ap is_reads (loop_says f i ts e)) ∙ a))
+
+  calm_loop : (f : Frame) (i : Tree) (ts : Trees) → headed f i ≡ [] → Below C (frame_asked f) 0 (i ▸ ts) → C AsWholeItem (loop_node f i ts)
+  calm_loop f i ts e a =
+      ap is_reads (loop_says f i ts e) ∙ to_turn m s c env f i ts (below_calm m s c env (frame_asked f) (λ k. []) (λ k. refl) (below false c (frame_shape f) 0) (loop_standing m s c env f) 0 env refl (i ▸ ts) a)
+
+  -- what a `switch` goes over, before its cases
+  abbrev over : Bool → Setting
+  over b = below b (stood AsWholeItem) shape.SwitchStatement 0 0
+
+  abbrev first : Bool → Tree → Pace → Pace
+  first b d r = followed (ends_after ((early m s).ends (over b) d) (pace (early m s) (over b) (env ++ []) d)) r
+
+  no_end : (b : Bool) (d : Tree) → is_value (shape_of d) ≡ true → (early m s).ends (over b) d ≡ false
+  no_end b d v = (λ j. b && (is_among (by_symbol s) (value_lexical d v j) || is_among (by_symbol s) (value_bound d v j))) ∙ and_nothing b
+
+  over_alone : (b : Bool) (d : Tree) → is_value (shape_of d) ≡ true → pace (early m s) (over b) (env ++ []) d ≡ pace (early m s) (stood AsValue) env d
+  over_alone b d v =
+      early_alone m s (over b) (env ++ []) d v
+      ∙ ap (λ k. pace (early m s) k (env ++ []) d) (standing_below m s c env If AsWholeItem false refl 0)
+      ∙ ap (λ r. pace (early m s) (stood AsValue) r d) (append-nil env)
+
+  of_first : (b : Bool) (d : Tree) (r : Pace) → is_value (shape_of d) ≡ true → is_reads (first b d r) ≡ false → C AsValue d × (is_reads r ≡ false)
+  of_first b d r v a = split (pace (early m s) (stood AsValue) env d) r (sym (λ j. is_reads (followed (ends_after (no_end b d v j) (over_alone b d v j)) r)) ∙ a)
+
+  to_first : (b : Bool) (d : Tree) (r : Pace) → is_value (shape_of d) ≡ true → C AsValue d → is_reads r ≡ false → is_reads (first b d r) ≡ false
+  to_first b d r v x y = (λ j. is_reads (followed (ends_after (no_end b d v j) (over_alone b d v j)) r)) ∙ join (pace (early m s) (stood AsValue) env d) r x y
+
+  switch_calm : (d e cases : Tree) → is_value (shape_of d) ≡ true → is_value (shape_of e) ≡ true → C AsWholeItem (switch d cases) → C AsValue d × (C AsValue e → C AsWholeItem (switch e cases))
+  unfolding pace scopes_by
+  switch_calm d e cases v u a =
+      let k = stood AsWholeItem in
+      let b = is_among (by_symbol s) (names_of declared.Lexical cases) in
+      let later : Pace = all_followed (paces (early m s) (opened c.used shape.SwitchStatement (d ▸ cases ▸ none)) (below b k shape.SwitchStatement 0) 1 (env ++ []) (cases ▸ none)) in
+      let (x, y) = of_first b d later v a in
+      (x, λ q. to_first b e later u q y)
+
+  abbrev pub Declaring : Asked → Tree → Type 0
+  Declaring = Calmly m s (declaring c) env
+
+  module _ (u : Asked) (used : hoisted_by (use_by c.used u) ≡ Hoisted) where
+    calm_around : below false (stood u) (shape.VariableDeclaration Var) 0 0 ≡ standing m s (declaring c) env AsWholeList
+    calm_around = λ i. record { used = used i; around = c.around; strict = c.strict; is_body = false; belongs = belongs_same If c.belongs 0 i; ordered = false }
+
+    var_calm : (ds : Trees) → C u (declaration Var ds) → All Declaring AsWholeItem ds
+    unfolding pace scopes_by
+    var_calm ds a =
+        let k = below false (stood u) (shape.VariableDeclaration Var) 0 0 in
+        let (z, w) = split (pace (early m s) k (env ++ []) (listed ds)) Silent a in
+        all_of Any Declaring AsWholeItem 0 ds ((calm_local m s (declaring c) env).down AList AsWholeList ds tt
+        (subst (λ x. is_reads (pace (early m s) x env (listed ds)) ≡ false) calm_around (subst (λ r. is_reads (pace (early m s) k r (listed ds)) ≡ false) (append-nil env) z))).1
+
+    pub calm_var : (ds : Trees) → All Declaring AsWholeItem ds → C u (declaration Var ds)
+    unfolding pace scopes_by
+    calm_var ds a =
+        let k = below false (stood u) (shape.VariableDeclaration Var) 0 0 in
+        join (pace (early m s) k (env ++ []) (listed ds)) Silent
+        (subst (λ r. is_reads (pace (early m s) k r (listed ds)) ≡ false) (sym (append-nil env)) (subst (λ x. is_reads (pace (early m s) x env (listed ds)) ≡ false) (sym calm_around)
+        ((calm_local m s (declaring c) env).up AList AsWholeList ds tt tt (of_all Any Declaring AsWholeItem 0 ds a)))) refl
+
+  to_each : (ds : Trees) → All Declaring AsWholeItem ds → Every (Declaring AsWholeItem) ds
+  to_each none a = tt
+  to_each (d ▸ ds) a = (a.0, to_each ds a.1)
+
+  pub of_each : (ds : Trees) → Every (Declaring AsWholeItem) ds → All Declaring AsWholeItem ds
+  of_each none a = tt
+  of_each (d ▸ ds) a = (a.0, of_each ds a.1)
+
+  pub calm_lists : ByLists C
+  calm_lists = record {
+    parts = by_parts C (calm_updated m s c env) (calm_properties m s c env) (calm_moved m s c env) (calm_local m s c env);
+    placed = λ x e. (calm_anyhow m s c env su AsWholeItem AsItem refl refl x e, calm_anyhow m s c env su AsItem AsWholeItem refl refl x e);
+    loop_down = loop_calm;
+    loop_up = calm_loop;
+    switched = switch_calm;
+    Declared = Declaring AsWholeItem;
+    var_down = λ ds a. to_each ds (var_calm AsWholeItem (hoisted c.used su) ds a);
+    var_up = λ ds a. calm_var AsWholeItem (hoisted c.used su) ds (of_each ds a);
+    head_down = λ ds a. to_each ds (var_calm AsValue refl ds a);
+    head_up = λ ds a. calm_var AsValue refl ds (of_each ds a);
+  }
+
+-- ---- what a tree tells besides names
+
+every_spared : (ds : Trees) → any_has_eval ds ≡ false → Every (λ t. has_eval t ≡ false) ds
+unfolding has_eval
+every_spared none a = tt
+every_spared (d ▸ ds) a = let (x, y) = none_of (has_eval d) (any_has_eval ds) a in (x, every_spared ds y)
+
+spared_every : (ds : Trees) → Every (λ t. has_eval t ≡ false) ds → any_has_eval ds ≡ false
+unfolding has_eval
+spared_every none a = refl
+spared_every (d ▸ ds) a = λ j. a.0 j || spared_every ds a.1 j
+
+pub spared_lists : ByLists Spared
+unfolding has_eval
+spared_lists = record {
+  parts = spared_by_parts;
+  placed = λ t e. (λ a. a, λ a. a);
+  loop_down = λ f i ts e a. spared_below (frame_asked f) 0 (i ▸ ts) (sym (frame_evals f (i ▸ ts)) ∙ a);
+  loop_up = λ f i ts e a. frame_evals f (i ▸ ts) ∙ below_spared (frame_asked f) 0 (i ▸ ts) a;
+  switched = λ d e cases v u a. let (x, y) = none_of (has_eval d) (has_eval cases || false) a in (x, λ q j. q j || y j);
+  Declared = λ t. has_eval t ≡ false;
+  var_down = λ ds a. every_spared ds (none_of (any_has_eval ds) false a).0;
+  var_up = λ ds a j. spared_every ds a j || false;
+  head_down = λ ds a. every_spared ds (none_of (any_has_eval ds) false a).0;
+  head_up = λ ds a j. spared_every ds a j || false;
+}
+
+abbrev Names : Asked → Tree → Type 0
+Names d t = names_arguments t ≡ false
+
+every_names : (i : ℕ) (ds : Trees) → any_names_arguments (is_of_function shape.Listed) i ds ≡ false → Every (λ t. names_arguments t ≡ false) ds
+unfolding names_arguments
+every_names i none a = tt
+every_names i (d ▸ ds) a = let (x, y) = none_of (names_arguments d) (any_names_arguments (is_of_function shape.Listed) (suc i) ds) a in (x, every_names (suc i) ds y)
+
+names_every : (i : ℕ) (ds : Trees) → Every (λ t. names_arguments t ≡ false) ds → any_names_arguments (is_of_function shape.Listed) i ds ≡ false
+unfolding names_arguments
+names_every i none a = refl
+names_every i (d ▸ ds) a = λ j. a.0 j || names_every (suc i) ds a.1 j
+
+pub names_lists : ByLists Names
+unfolding names_arguments
+names_lists = record {
+  parts = by_parts Names (λ x e f. e) spares_properties (λ t e. (λ a. a, λ a. a)) spares_local;
+  placed = λ t e. (λ a. a, λ a. a);
+  loop_down = λ f i ts e a. spares_below (frame_asked f) (is_of_function (frame_shape f)) (frame_of_function f) 0 (i ▸ ts) (sym (frame_names f (i ▸ ts)) ∙ a);
+  loop_up = λ f i ts e a. frame_names f (i ▸ ts) ∙ below_spares (frame_asked f) (is_of_function (frame_shape f)) (frame_of_function f) 0 (i ▸ ts) a;
+  switched = λ d e cases v u a. let (x, y) = none_of (names_arguments d) (names_arguments cases || false) a in (x, λ q j. q j || y j);
+  Declared = λ t. names_arguments t ≡ false;
+  var_down = λ ds a. every_names 0 ds (none_of (any_names_arguments (is_of_function shape.Listed) 0 ds) false a).0;
+  var_up = λ ds a j. names_every 0 ds a j || false;
+  head_down = λ ds a. every_names 0 ds (none_of (any_names_arguments (is_of_function shape.Listed) 0 ds) false a).0;
+  head_up = λ ds a j. names_every 0 ds a j || false;
+}
+
+module _ (b : ℕ) where
+  abbrev Unnumbered : Asked → Tree → Type 0
+  Unnumbered d t = has_number (suc b) t ≡ false
+
+  every_number : (ds : Trees) → any_has_number (suc b) ds ≡ false → Every (λ t. has_number (suc b) t ≡ false) ds
+  unfolding has_number
+  every_number none a = tt
+  every_number (d ▸ ds) a = let (x, y) = none_of (has_number (suc b) d) (any_has_number (suc b) ds) a in (x, every_number ds y)
+
+  number_every : (ds : Trees) → Every (λ t. has_number (suc b) t ≡ false) ds → any_has_number (suc b) ds ≡ false
+  unfolding has_number
+  number_every none a = refl
+  number_every (d ▸ ds) a = λ j. a.0 j || number_every ds a.1 j
+
+  pub numbers_lists : ByLists Unnumbered
+  unfolding has_number
+  numbers_lists = record {
+    parts = by_parts Unnumbered (λ x e f. e) (numbers_properties b) (λ t e. (λ a. a, λ a. a)) (numbers_local b);
+    placed = λ t e. (λ a. a, λ a. a);
+    loop_down = λ f i ts e a. numbers_below b (frame_asked f) 0 (i ▸ ts) (rest_of (any_has_number (suc b) (i ▸ ts)) a);
+    loop_up = λ f i ts e a j. unlike b j || below_numbers b (frame_asked f) 0 (i ▸ ts) a j;
+    switched = λ d e cases v u a.
+        let (x, y) = none_of (has_number (suc b) d) (has_number (suc b) cases || false) (rest_of (has_number (suc b) d || (has_number (suc b) cases || false)) a) in
+        (x, λ q j. unlike b j || (q j || y j));
+    Declared = λ t. has_number (suc b) t ≡ false;
+    var_down = var_number;
+    var_up = number_var;
+    head_down = var_number;
+    head_up = number_var;
+  }
+    where
+      rest_of : (r : Bool) → (nat_eq 0 (suc b) || r) ≡ false → r ≡ false
+      rest_of r a = (none_of (nat_eq 0 (suc b)) r a).1
+
+      var_number : (ds : Trees) → has_number (suc b) (declaration Var ds) ≡ false → Every (λ t. has_number (suc b) t ≡ false) ds
+      var_number ds a = every_number ds (rest_of (any_has_number (suc b) ds) (none_of (has_number (suc b) (listed ds)) false (rest_of (has_number (suc b) (listed ds) || false) a)).0)
+
+      number_var : (ds : Trees) → Every (λ t. has_number (suc b) t ≡ false) ds → has_number (suc b) (declaration Var ds) ≡ false
+      number_var ds a = λ j. unlike b j || ((unlike b j || number_every ds a j) || false)

@@ -1,0 +1,5 @@
+use Rattle.mini_less.proofs.LeanLists as law
+use Rattle.mini_less.proofs.head_rows_less.Goals as goal
+
+pub returns : goal.returns
+returns c = law.head_rows_less
