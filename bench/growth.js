@@ -83,6 +83,7 @@ const SHAPES = {
   "sequences": (n) => `x = (${each(n, () => "a", ", ")}, c);`,
   "sequences of calls": (n) => `x = (${each(n, () => "a()", ", ")}, c);`,
   "sequences in a sequence": (n) => `x = (${each(n, () => "(a(), b)", ", ")}, c);`,
+  "this in a sequence": (n) => body(`${each(n, () => "this, f()", ", ")};`),
   "sequences in one another": nest(40, "(a(), ", "b", ", c)", ";"),
   "templates of constants": (n) => `x = \`${each(n, (i) => `a\${${i % 10}}`, "")}\`;`,
   "templates of names": (n) => `x = \`${each(n, () => "a${p}", "")}\`;`,
@@ -122,14 +123,14 @@ function unitsFor(make, bytes) {
   return Math.max(1, Math.round(bytes / slope));
 }
 
-const folder = fs.mkdtempSync(path.join(os.tmpdir(), "growth-"));
-
 // Seconds of processor and how the run ended.
 function timed(program, input) {
+  const folder = fs.mkdtempSync(path.join(os.tmpdir(), "growth-"));
   const file = path.join(folder, "input.json");
   fs.writeFileSync(file, input);
   const line = `ulimit -t ${4 * LIMIT}; TIMEFORMAT="%U %S"; time "$0" --max-depth=1000 < "$1" > /dev/null 2> /dev/null`;
   const ended = spawnSync("bash", ["-c", line, program, file]);
+  fs.rmSync(folder, { recursive: true });
   const [user, system] = ended.stderr.toString().trim().split("\n").at(-1).split(" ").map(Number);
   return { seconds: user + system, status: ended.status };
 }
@@ -168,7 +169,8 @@ function main() {
     console.log(`${row.name}: ${Math.round(perByte(row) / median)} times the median`);
     process.exitCode = 1;
   }
-  fs.rmSync(folder, { recursive: true });
 }
 
-main();
+if (require.main === module) main();
+
+module.exports = { SHAPES, timed };
