@@ -21,16 +21,17 @@ use Rattle.mini_laws.specs.Mentions.{Mention, same_variable, is_among, is_elsewh
 use Rattle.mini_laws.specs.ScopeList.{any_has_eval, by_symbol}
 use Rattle.mini_laws.specs.Scopes.{opened, scopes_by, lexical_scope}
 use Rattle.mini_shrink.specs.Pace.{Setting, Question}
-use Rattle.mini_shrink.specs.Questions.{Own, asks, mentions_such, gives_such, pattern_gives, names_at, lexical_at, switched_at, pattern_at, caught_at, arguments_at, params_at, seen_from, seen_at, early}
+use Rattle.mini_shrink.specs.Questions.{Own, asks, finds, mentions_such, gives_such, sets_such, pattern_gives, names_at, lexical_at, switched_at, pattern_at, caught_at, arguments_at, params_at, seen_from, seen_at, early}
 use Rattle.mini_shrink.specs.Facts.{Fact, Written, WrittenElsewhere, Given, GivenElsewhere, GivenByPattern, MentionedElsewhere, BoundElsewhere, IsLexical, IsSwitched, InPattern, UnderCatch, ByArguments, ByEval, AmongParameters, ReadEarly, question}
 use Rattle.mini_rows.specs.Lists.{binding, is_unscoped_shape}
 use Rattle.mini_rows.proofs.ListKeptDeclarations.{all_both}
 use Rattle.mini_less.specs.Less.{Frame, AFor, AWhile, ADo, AnIn, AnOf, frame_shape, headed}
 use Rattle.mini_less.specs.TellsLists.{Names, TellsLists}
 use Rattle.mini_less.proofs.HoistedNames.{Within, AsksWithin, hoisted_unasked}
-use Rattle.mini_shrink.proofs.Finding.{mentions_found}
+use Rattle.mini_shrink.proofs.Finding.{mentions_found, finds_either}
 use Rattle.mini_less.proofs.EachFact.{Unordered}
-use Rattle.mini_less.proofs.Plainly.{Updates, mentions_plainly, unscoped_mention, gives_plainly, loop_pattern, loop_lexical, pattern_gives_plainly, names_plainly, no_switched, no_pattern, no_caught, no_arguments, no_params, loop_switched, loop_pattern_at, loop_caught, loop_arguments, loop_params, lexical_plainly, unseen, head_scope, later_scopes, seen_plainly}
+use Rattle.mini_less.proofs.Flags.{none_of}
+use Rattle.mini_less.proofs.Plainly.{Updates, mentions_plainly, unscoped_mention, sets_plainly, loop_pattern, loop_lexical, pattern_gives_plainly, names_plainly, no_switched, no_pattern, no_caught, no_arguments, no_params, loop_switched, loop_pattern_at, loop_caught, loop_arguments, loop_params, lexical_plainly, unseen, head_scope, later_scopes, seen_plainly}
 
 -- a name among those of two lists is among those of either
 pub among_both : (x : Name) (xs ys : List Name) → is_among x (xs ++ ys) ≡ (is_among x xs || is_among x ys)
@@ -92,17 +93,22 @@ mentions_lists p u w = record {
   left = λ c env t e k later u a. map_names _ _ (λ x y. (λ j. p (record { name = x; used = u j; binds = true; around = a j }) || false) ∙ λ j. y j || false) (names_of declared.Hoisted t) (hoisted_unasked p w c.around c.used t (mentions_found p c env t ∙ e));
 }
 
-pub gives_lists : (p : Mention → Bool) → TellsLists (gives_such p)
-gives_lists p = record {
-  plainly = gives_plainly p;
-  unheaded = λ c env f i ts e. by c f (i ▸ ts);
+-- a node that writes it, or a `var` that gives it a value
+pub sets_lists : (p : Mention → Bool) → Updates p → AsksWithin p → TellsLists (sets_such p)
+sets_lists p u w = record {
+  plainly = sets_plainly p u;
+  unheaded = λ c env f i ts e j. mentioned.unheaded c env f i ts e j || by c f (i ▸ ts) j;
   switched = λ c env d e cases x y z. refl;
   hoisted = λ c env ts. refl;
   joined = λ c env k ds es r x y. refl;
   bare = λ c env x u. ap (λ v. list_any p (map (write_at c.around) (given_values v shape.VariableDeclarator [] (binding x ▸ (absent ▸ none))))) u;
-  left = λ c env t e k later u a. every_name _ (λ x. refl) (names_of declared.Hoisted t);
+  left = λ c env t e k later u a. map_names _ _ (λ x y j. y j || false) (names_of declared.Hoisted t)
+      (mentioned.left c env t (none_of (finds (mentions_such p) c env t) (finds (gives_such p) c env t) (sym (finds_either (mentions_such p) (gives_such p) c env t) ∙ e)).0 k later u a);
 }
   where
+    mentioned : TellsLists (mentions_such p)
+    mentioned = mentions_lists p u w
+
     by : (c : Setting) (f : Frame) (ts : Trees) → gives_such p c [] (frame_shape f) [] 0 ts ≡ false
     by c AFor ts = refl
     by c AWhile ts = refl
@@ -266,8 +272,8 @@ seen_lists s = record {
 pub by_lists : (P : Question → Type 0) → ((o : Own) → TellsLists o → Unordered o → P (asks o)) → ((b k : ℕ) → P (early b k)) → (g : Fact) (b k : ℕ) → P (question g b k)
 by_lists P f r Written c k = f _ (mentions_lists (is_write (by_symbol k)) (λ x a e f. e) (write_within (by_symbol k))) (λ c d env h xs n ts. refl)
 by_lists P f r WrittenElsewhere c k = f _ (mentions_lists (λ m. is_write (by_symbol k) m && is_elsewhere c m.around) (λ x a e f. e) (write_elsewhere (by_symbol k) c)) (λ c d env h xs n ts. refl)
-by_lists P f r Given c k = f _ (gives_lists (is_write (by_symbol k))) (λ c d env h xs n ts. refl)
-by_lists P f r GivenElsewhere c k = f _ (gives_lists (λ m. is_write (by_symbol k) m && is_elsewhere c m.around)) (λ c d env h xs n ts. refl)
+by_lists P f r Given c k = f _ (sets_lists (is_write (by_symbol k)) (λ x a e f. e) (write_within (by_symbol k))) (λ c d env h xs n ts. refl)
+by_lists P f r GivenElsewhere c k = f _ (sets_lists (λ m. is_write (by_symbol k) m && is_elsewhere c m.around) (λ x a e f. e) (write_elsewhere (by_symbol k) c)) (λ c d env h xs n ts. refl)
 by_lists P f r MentionedElsewhere c k = f _ (mentions_lists (λ m. same_variable (by_symbol k) m.name && is_elsewhere c m.around) (λ x a e f. e) (λ x u a b w e. both_true (same_variable (by_symbol k) x) (is_elsewhere c a) (is_elsewhere c b) (elsewhere_within c a b w) e)) (λ c d env h xs n ts. refl)
 by_lists P f r BoundElsewhere c k = f _ (mentions_lists (λ m. same_variable (by_symbol k) m.name && m.binds && is_elsewhere c m.around) (λ x a e f. e) (λ x u a b w e. both_true (same_variable (by_symbol k) x && true) (is_elsewhere c a) (is_elsewhere c b) (elsewhere_within c a b w) e)) (λ c d env h xs n ts. refl)
 by_lists P f r IsLexical c k = f _ (lexical_lists k) (λ c d env h xs n ts. refl)
