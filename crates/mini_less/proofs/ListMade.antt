@@ -19,7 +19,7 @@ use Rattle.mini_laws.specs.Resolved.{Environment}
 use Rattle.mini_laws.specs.ScopeList.{has_eval, any_has_eval, is_eval_callee, by_symbol}
 use Rattle.mini_laws.specs.Shared.{names_arguments}
 use Rattle.mini_laws.specs.Value.{Variable, Declared}
-use Rattle.mini_kept.specs.KeepsNames.{is_used, is_statement_use}
+use Rattle.mini_kept.specs.KeepsNames.{is_used}
 use Rattle.mini_kept.specs.Placed.{is_statement_list, fits_place}
 use Rattle.mini_kept.proofs.Placed.{statements_slot}
 use Rattle.mini_shrink.specs.Pace.{Pace, followed, ends_after, AtMost, Setting, Question, pace}
@@ -190,13 +190,13 @@ made_stretch a d unscoped made = record {
   asked = λ strict f c r env x o t z.
       let k = with_belongs c in
       less_by (say o t.plainly z x c env d) (say o t.plainly z x c env a)
-      (λ y. of_lacks o t.plainly z x c env d (made strict f.depth f.fit (Lacks o t.plainly k env) (lacks_lists o t k env (ap is_statement_use r)) (to_lacks o t.plainly z x c env a y)))
+      (λ y. of_lacks o t.plainly z x c env d (made strict f.depth f.fit (Lacks o t.plainly k env) (lacks_lists o t k env r) (to_lacks o t.plainly z x c env a y)))
       (none_ended o t.plainly z x c env a);
   in_order = λ strict f c r env x b s.
       let k = with_belongs c in
       let first = items_say (early b s) (of_items x c) env a in
       through (items_say (early b s) (of_items x c) env d) (loosely b s c env d) first (loosely_more b s c env x d)
-      (less_by (loosely b s c env d) first (λ y. of_calm b s c env d (made strict f.depth f.fit (Calmly b s k env) (calm_lists b s k env (ap is_statement_use r)) (to_calm b s c env x a unscoped y)))
+      (less_by (loosely b s c env d) first (λ y. of_calm b s c env d (made strict f.depth f.fit (Calmly b s k env) (calm_lists b s k env r) (to_calm b s c env x a unscoped y)))
       (unscoped_ended b s c env x a unscoped));
   evals = λ strict f y. of_none has_eval any_has_eval evals_tell d (made strict f.depth f.fit (λ c t. has_eval t ≡ false) spared_lists (to_none has_eval any_has_eval evals_tell a y));
   arguments = λ strict f y. of_none names_arguments any_names names_tell d (made strict f.depth f.fit (λ c t. names_arguments t ≡ false) names_lists (to_none names_arguments any_names names_tell a y));
