@@ -370,7 +370,7 @@ module _ (m s : ℕ) (c : Setting) (env : Environment) (r : c.used ≡ Read) whe
     calm_declarator id d x y =
         ap is_reads (declarator_says id d) ∙ join (pace (early m s) naming env id) (followed (ends_after false (pace (early m s) (stood AsValue) env d)) Silent) x (join (pace (early m s) (stood AsValue) env d) Silent y refl)
 
-    valued_calm : (id d e : Tree) → Declaring v AsWholeItem (declarator id d) → C AsValue d × (C AsValue e → Declaring v AsWholeItem (declarator id e))
+    pub valued_calm : (id d e : Tree) → Declaring v AsWholeItem (declarator id d) → C AsValue d × (C AsValue e → Declaring v AsWholeItem (declarator id e))
     valued_calm id d e a = let (x, y) = declarator_calm id d a in (y, λ q. calm_declarator id e x q)
 
     -- what is bound isn't read
