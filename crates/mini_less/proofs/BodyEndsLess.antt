@@ -15,7 +15,7 @@ use Rattle.mini_laws.specs.declared.names.Declared.TheVariants as declared
 use Rattle.mini_laws.specs.declared.names.Use.{Use}
 use Rattle.mini_laws.specs.DeclaredNames.{names_of, all_names}
 use Rattle.mini_laws.specs.Foreign.{is_write, has_number, any_has_number, own_lexical}
-use Rattle.mini_laws.specs.Mentions.{is_among, is_elsewhere}
+use Rattle.mini_laws.specs.Mentions.{own_mentions, is_among, is_elsewhere}
 use Rattle.mini_laws.specs.Resolved.{Environment}
 use Rattle.mini_laws.specs.ScopeList.{any_has_eval, by_symbol, has_eval, is_eval_call, is_eval_callee, names_in}
 use Rattle.mini_laws.specs.Scopes.{opened, scopes_by, lexical_scope, at_or_empty}
@@ -224,8 +224,8 @@ module _ (t u : Tree) (k : SameTold t u) (named : (e : Declared) → names_of e 
       → (question g b s).before c env (frame_shape f) [] 0 (append before (u ▸ after)) ≡ (question g b s).before c env (frame_shape f) [] 0 (append before (t ▸ after))
   loop_before Written b s f before after o c env = refl
   loop_before WrittenElsewhere b s f before after o c env = refl
-  loop_before Given b s f before after o c env = ap (λ xs. reads_if (list_any (is_write (by_symbol s)) (map (write_at c.around) xs))) (loop_gives c.used f (append before (u ▸ after)) ∙ sym (loop_gives c.used f (append before (t ▸ after))))
-  loop_before GivenElsewhere b s f before after o c env = ap (λ xs. reads_if (list_any (λ m. is_write (by_symbol s) m && is_elsewhere b m.around) (map (write_at c.around) xs))) (loop_gives c.used f (append before (u ▸ after)) ∙ sym (loop_gives c.used f (append before (t ▸ after))))
+  loop_before Given b s f before after o c env = ap (λ xs. reads_if (list_any (is_write (by_symbol s)) (own_mentions c.used c.around (frame_shape f) []) || list_any (is_write (by_symbol s)) (map (write_at c.around) xs))) (loop_gives c.used f (append before (u ▸ after)) ∙ sym (loop_gives c.used f (append before (t ▸ after))))
+  loop_before GivenElsewhere b s f before after o c env = ap (λ xs. reads_if (list_any (λ m. is_write (by_symbol s) m && is_elsewhere b m.around) (own_mentions c.used c.around (frame_shape f) []) || list_any (λ m. is_write (by_symbol s) m && is_elsewhere b m.around) (map (write_at c.around) xs))) (loop_gives c.used f (append before (u ▸ after)) ∙ sym (loop_gives c.used f (append before (t ▸ after))))
   loop_before GivenByPattern b s f before after o c env = given_alike s _ _ (loop_pattern c.used env f (append before (t ▸ after))) (loop_pattern c.used env f (append before (u ▸ after)))
   loop_before MentionedElsewhere b s f before after o c env = refl
   loop_before BoundElsewhere b s f before after o c env = refl

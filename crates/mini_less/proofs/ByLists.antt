@@ -1,28 +1,31 @@
 -- What holds of trees by their parts holds so of the statements of a list, too: of a loop whose
 -- head declares no lexical name, of a `switch`, and of a `var`.
-use Rattle.std.specs.Prelude.{ℕ, suc, ◌≡◌, refl, nat_eq, Bool, true, false, ◌&&◌, ◌||◌, [], ◌++◌}
+use Rattle.std.specs.Prelude.{ℕ, suc, ◌≡◌, refl, nat_eq, Bool, true, false, ◌&&◌, ◌||◌, not, [], ◌++◌}
 use Rattle.std.proofs.Common.{ap, ◌∙◌, sym, subst}
 use Rattle.std.proofs.lemmas.Bool.{and_parts}
 use Rattle.std.proofs.lemmas.List.{append-nil}
-use Rattle.mini_model.specs.declared.kind.VariableDeclarationKind.TheVariants.{Var}
+use Rattle.mini_model.specs.declared.kind.VariableDeclarationKind.{VariableDeclarationKind}
+use Rattle.mini_model.specs.declared.kind.VariableDeclarationKind.TheVariants.{Var, Let, Const}
+use Rattle.mini_model.specs.declared.name.Name.{Name}
 use Rattle.mini_model.specs.declared.shape.Shape.TheVariants as shape
-use Rattle.mini_model.specs.Tree.{Tree, Trees, none, ◌▸◌, listed, shape_of}
+use Rattle.mini_model.specs.Tree.{Tree, Trees, none, ◌▸◌, listed, absent, is_absent, identifier, shape_of}
 use Rattle.mini_laws.specs.declared.names.Declared.TheVariants as declared
 use Rattle.mini_laws.specs.declared.names.Use.{Use}
-use Rattle.mini_laws.specs.declared.names.Use.TheVariants.{Read, Hoisted, Alone}
+use Rattle.mini_laws.specs.declared.names.Use.TheVariants.{Read, Write, Hoisted, Headed, Alone}
 use Rattle.mini_laws.specs.DeclaredNames.{names_of}
 use Rattle.mini_laws.specs.Foreign.{has_number, any_has_number}
-use Rattle.mini_laws.specs.Mentions.{is_among}
+use Rattle.mini_laws.specs.Mentions.{is_among, is_elsewhere, same_variable}
+use Rattle.mini_laws.specs.References.{reads}
 use Rattle.mini_laws.specs.Resolved.{Environment}
 use Rattle.mini_laws.specs.ScopeList.{has_eval, any_has_eval, by_symbol}
-use Rattle.mini_laws.specs.Scopes.{opened, scopes_by, hoisted_by}
+use Rattle.mini_laws.specs.Scopes.{use_of, opened, scopes_by, hoisted_by}
 use Rattle.mini_laws.specs.Shared.{names_arguments, any_names_arguments, is_of_function}
 use Rattle.mini_kept.specs.KeepsNames.{is_statement_use}
 use Rattle.mini_kept.proofs.Quiet.{is_quiet, no_names}
-use Rattle.mini_shrink.specs.Pace.{Pace, Silent, followed, ends_after, all_followed, in_turn, Setting, below, pace, paces}
-use Rattle.mini_shrink.specs.Questions.{Own, finds, finds_each, any_of, early}
-use Rattle.mini_rows.specs.Lists.{declaration, switch, is_unscoped}
-use Rattle.mini_rows.specs.Sketches.{AList, If, Asked, AsValue, AsItem, AsWholeItem, AsWholeList, use_by}
+use Rattle.mini_shrink.specs.Pace.{Pace, Silent, followed, ends_after, all_followed, in_turn, reads_if, Setting, below, pace, paces}
+use Rattle.mini_shrink.specs.Questions.{Own, finds, finds_each, any_of, early, hands_on}
+use Rattle.mini_rows.specs.Lists.{binding, declarator, declaration, bare_var, switch, is_unscoped}
+use Rattle.mini_rows.specs.Sketches.{AList, If, Asked, AsValue, AsTarget, AsItem, AsWholeItem, AsWholeList, use_by}
 use Rattle.mini_rows.proofs.Arranging.{All, Any, Below, all_of, of_all}
 use Rattle.mini_rows.proofs.ArrangedValues.{is_value, is_no_inner}
 use Rattle.mini_less.specs.Less.{Frame, frame_shape, headed}
@@ -33,7 +36,7 @@ use Rattle.mini_less.proofs.Headed.{and_nothing}
 use Rattle.mini_less.proofs.LoopsLess.{frame_asked, loop_node, loop_setting, loop_standing, head_paces, of_turn, to_turn, told_by_head, silent_root, frame_evals, frame_names, frame_of_function}
 use Rattle.mini_less.proofs.Made.{ByParts, by_parts, Spared, spared_by_parts, spared_below, below_spared, lacks_updated, lacks_properties, lacks_moved, calm_moved, calm_updated, calm_properties, spares_properties, numbers_properties}
 use Rattle.mini_less.proofs.Plainly.{is_reads, split, join, Calmly, calm_anyhow, calm_local, calm_below, below_calm, standing, standing_below, early_alone, later_scopes}
-use Rattle.mini_less.proofs.TellingLists.{unheaded_opens}
+use Rattle.mini_less.proofs.TellingLists.{unheaded_opens, hoisted_opens, declaration_opens}
 
 pub record ByLists (Q : Asked → Tree → Type 0) : Type 1 where
   pub parts : ByParts Q
@@ -48,6 +51,13 @@ pub record ByLists (Q : Asked → Tree → Type 0) : Type 1 where
   pub var_up : (ds : Trees) → Every Declared ds → Q AsWholeItem (declaration Var ds)
   pub head_down : (ds : Trees) → Q AsValue (declaration Var ds) → Every Declared ds
   pub head_up : (ds : Trees) → Every Declared ds → Q AsValue (declaration Var ds)
+  -- a declarator gives a name a value as an assignment does, and has another value
+  pub given : (x : Name) (v : Tree) → Q AsTarget (identifier x) → Q AsValue v → Declared (declarator (binding x) absent) → Declared (declarator (binding x) v)
+  pub valued : (id d e : Tree) → is_absent d ≡ is_absent e → Declared (declarator id d) → Q AsValue d × (Q AsValue e → Declared (declarator id e))
+  -- a `var` is assigned to in the head of a loop
+  pub target_up : (x : Name) → Q AsTarget (identifier x) → Declared (declarator (binding x) absent) → Q AsTarget (bare_var x)
+  -- the first declarator of a declaration has another value
+  pub initialised : (kind : VariableDeclarationKind) (id d e : Tree) (ds : Trees) → is_absent d ≡ is_absent e → Q AsWholeItem (declaration kind (declarator id d ▸ ds)) → Q AsValue d × (Q AsValue e → Q AsWholeItem (declaration kind (declarator id e ▸ ds)))
 
 value_quiet : (t : Tree) → is_value (shape_of t) ≡ true → is_quiet (shape_of t) ≡ true
 value_quiet t e = (and_parts (is_quiet (shape_of t)) (is_no_inner (shape_of t)) e).0
@@ -63,13 +73,26 @@ hoisted Read e = refl
 hoisted Alone e = refl
 hoisted u e = absurd (cc e)
 
--- around the declarators of a `var`
-abbrev pub declaring : Setting → Setting
-declaring c = record c { used = Hoisted; is_body = false }
+-- around declarators
+abbrev pub declaring : Use → Setting → Setting
+declaring v c = record c { used = v; is_body = false }
+
+-- a declaration of lexical names in a list is used as the list
+abbrev declared_use : VariableDeclarationKind → Use
+declared_use Var = Hoisted
+declared_use k = Read
+
+kind_use : (k : VariableDeclarationKind) → use_of (shape.VariableDeclaration k) Read 0 ≡ declared_use k
+kind_use Var = refl
+kind_use Let = refl
+kind_use Const = refl
 
 -- ---- what is found
 
-module _ (o : Own) (t : TellsLists o) (c : Setting) (env : Environment) (su : is_statement_use c.used ≡ true) where
+module _ (o : Own) (t : TellsLists o) (c : Setting) (env : Environment) (r : c.used ≡ Read) where
+  su : is_statement_use c.used ≡ true
+  su = ap is_statement_use r
+
   abbrev pub Q : Asked → Tree → Type 0
   Q = Lacks o t.plainly c env
 
@@ -103,37 +126,116 @@ module _ (o : Own) (t : TellsLists o) (c : Setting) (env : Environment) (su : is
         λ q j. t.switched k env d e cases (value_lexical d v) (value_lexical e u) x j || (subst (λ r. finds o first r e ≡ false) (sym same) (subst (λ s. finds o s env e ≡ false) (sym there) q) j || w j),
       )
 
-  abbrev pub Declares : Asked → Tree → Type 0
-  Declares = Lacks o t.plainly (declaring c) env
+  abbrev pub Declares : Use → Asked → Tree → Type 0
+  Declares v = Lacks o t.plainly (declaring v c) env
 
-  module _ (u : Asked) (used : hoisted_by (use_by c.used u) ≡ Hoisted) where
-    around_declarators : below false (at u) (shape.VariableDeclaration Var) 0 0 ≡ setting o t.plainly (declaring c) env AsWholeList
+  module _ (k : VariableDeclarationKind) (u : Asked) (v : Use) (used : use_of (shape.VariableDeclaration k) (use_by c.used u) 0 ≡ v) (closed : (ds : Trees) → opened (use_by c.used u) (shape.VariableDeclaration k) (listed ds ▸ none) 0 ≡ []) where
+    around_declarators : below false (at u) (shape.VariableDeclaration k) 0 0 ≡ setting o t.plainly (declaring v c) env AsWholeList
     around_declarators = λ i. record { used = used i; around = c.around; strict = c.strict; is_body = false; belongs = belongs_same If c.belongs 0 i; ordered = false }
 
-    var_lacks : (ds : Trees) → Q u (declaration Var ds) → All Declares AsWholeItem ds
-    unfolding finds scopes_by
+    no_scope : (ds : Trees) → env ++ opened (use_by c.used u) (shape.VariableDeclaration k) (listed ds ▸ none) 0 ≡ env
+    no_scope ds = ap (λ b. env ++ b) (closed ds) ∙ append-nil env
+
+    var_lacks : (ds : Trees) → Q u (declaration k ds) → (o (at u) env (shape.VariableDeclaration k) [] 0 (listed ds ▸ none) ≡ false) × All (Declares v) AsWholeItem ds
+    unfolding finds
     var_lacks ds a =
-        let k = below false (at u) (shape.VariableDeclaration Var) 0 0 in
-        let (x, y) = none_of (o (at u) env (shape.VariableDeclaration Var) [] 0 (listed ds ▸ none)) (finds o k (env ++ []) (listed ds) || false) a in
-        let (z, w) = none_of (finds o k (env ++ []) (listed ds)) false y in
-        all_of Any Declares AsWholeItem 0 ds ((lacks_local o t.plainly (declaring c) env).down AList AsWholeList ds tt
-        (subst (λ s. finds o s env (listed ds) ≡ false) around_declarators (subst (λ r. finds o k r (listed ds) ≡ false) (append-nil env) z))).1
+        let b = below false (at u) (shape.VariableDeclaration k) 0 0 in
+        let later = env ++ opened (use_by c.used u) (shape.VariableDeclaration k) (listed ds ▸ none) 0 in
+        let (x, y) = none_of (o (at u) env (shape.VariableDeclaration k) [] 0 (listed ds ▸ none)) (finds o b later (listed ds) || false) a in
+        let (z, w) = none_of (finds o b later (listed ds)) false y in
+        (x, all_of Any (Declares v) AsWholeItem 0 ds ((lacks_local o t.plainly (declaring v c) env).down AList AsWholeList ds tt
+        (subst (λ s. finds o s env (listed ds) ≡ false) around_declarators (subst (λ r. finds o b r (listed ds) ≡ false) (no_scope ds) z))).1)
 
-    pub lacks_var : (ds : Trees) → All Declares AsWholeItem ds → Q u (declaration Var ds)
+    lacks_var : (ds : Trees) → o (at u) env (shape.VariableDeclaration k) [] 0 (listed ds ▸ none) ≡ false → All (Declares v) AsWholeItem ds → Q u (declaration k ds)
+    unfolding finds
+    lacks_var ds e a =
+        let b = below false (at u) (shape.VariableDeclaration k) 0 0 in
+        let later = env ++ opened (use_by c.used u) (shape.VariableDeclaration k) (listed ds ▸ none) 0 in
+        let z : finds o b later (listed ds) ≡ false = subst (λ r. finds o b r (listed ds) ≡ false) (sym (no_scope ds)) (subst (λ s. finds o s env (listed ds) ≡ false) (sym around_declarators)
+        ((lacks_local o t.plainly (declaring v c) env).up AList AsWholeList ds tt tt (of_all Any (Declares v) AsWholeItem 0 ds a))) in
+        λ j. e j || (z j || false)
+
+  var_closed : (u : Use) (ds : Trees) → opened u (shape.VariableDeclaration Var) (listed ds ▸ none) 0 ≡ []
+  var_closed u ds = hoisted_opens u (listed ds ▸ none) 0
+
+  -- a declarator
+  module _ (v : Use) where
+    around_name : below false (setting o t.plainly (declaring v c) env AsWholeItem) shape.VariableDeclarator 0 0 ≡ setting o t.plainly (declaring v c) env AsWholeItem
+    around_name = λ i. record { used = v; around = c.around; strict = c.strict; is_body = false; belongs = belongs_same If c.belongs 0 i; ordered = false }
+
+    around_value : below false (setting o t.plainly (declaring v c) env AsWholeItem) shape.VariableDeclarator 0 1 ≡ at AsValue
+    around_value = λ i. record { used = Read; around = c.around; strict = c.strict; is_body = false; belongs = belongs_same If c.belongs 0 i; ordered = false }
+
+    same_scope : (env ++ []) ++ [] ≡ env
+    same_scope = append-nil (env ++ []) ∙ append-nil env
+
+    declarator_lacks : (id d : Tree) → Declares v AsWholeItem (declarator id d) → (o (setting o t.plainly (declaring v c) env AsWholeItem) env shape.VariableDeclarator [] 0 (id ▸ (d ▸ none)) ≡ false) × (Declares v AsWholeItem id × Q AsValue d)
     unfolding finds scopes_by
-    lacks_var ds a =
-        let k = below false (at u) (shape.VariableDeclaration Var) 0 0 in
-        let z : finds o k (env ++ []) (listed ds) ≡ false = subst (λ r. finds o k r (listed ds) ≡ false) (sym (append-nil env)) (subst (λ s. finds o s env (listed ds) ≡ false) (sym around_declarators)
-        ((lacks_local o t.plainly (declaring c) env).up AList AsWholeList ds tt tt (of_all Any Declares AsWholeItem 0 ds a))) in
-        λ j. t.hoisted (at u) env (listed ds ▸ none) j || (z j || false)
+    declarator_lacks id d a =
+        let k = setting o t.plainly (declaring v c) env AsWholeItem in
+        let first = below false k shape.VariableDeclarator 0 0 in
+        let second = below false k shape.VariableDeclarator 0 1 in
+        let (x, y) = none_of (o k env shape.VariableDeclarator [] 0 (id ▸ (d ▸ none))) (finds o first (env ++ []) id || (finds o second ((env ++ []) ++ []) d || false)) a in
+        let (z, w) = none_of (finds o first (env ++ []) id) (finds o second ((env ++ []) ++ []) d || false) y in
+        let there = (none_of (finds o second ((env ++ []) ++ []) d) false w).0 in (
+          x,
+          (
+            subst (λ s. finds o s env id ≡ false) around_name (subst (λ r. finds o first r id ≡ false) (append-nil env) z),
+            subst (λ s. finds o s env d ≡ false) around_value (subst (λ r. finds o second r d ≡ false) same_scope there),
+          ),
+        )
 
-  to_every : (ds : Trees) → All Declares AsWholeItem ds → Every (Declares AsWholeItem) ds
+    lacks_declarator : (id d : Tree) → o (setting o t.plainly (declaring v c) env AsWholeItem) env shape.VariableDeclarator [] 0 (id ▸ (d ▸ none)) ≡ false → Declares v AsWholeItem id → Q AsValue d → Declares v AsWholeItem (declarator id d)
+    unfolding finds scopes_by
+    lacks_declarator id d x y z =
+        let k = setting o t.plainly (declaring v c) env AsWholeItem in
+        let first = below false k shape.VariableDeclarator 0 0 in
+        let second = below false k shape.VariableDeclarator 0 1 in
+        let name = subst (λ r. finds o first r id ≡ false) (sym (append-nil env)) (subst (λ s. finds o s env id ≡ false) (sym around_name) y) in
+        let value = subst (λ r. finds o second r d ≡ false) (sym same_scope) (subst (λ s. finds o s env d ≡ false) (sym around_value) z) in
+        λ j. x j || (name j || (value j || false))
+
+    valued_lacks : (id d e : Tree) → is_absent d ≡ is_absent e → Declares v AsWholeItem (declarator id d) → Q AsValue d × (Q AsValue e → Declares v AsWholeItem (declarator id e))
+    valued_lacks id d e same a =
+        let (x, (y, z)) = declarator_lacks id d a in
+        (z, λ q. lacks_declarator id e (t.valued (setting o t.plainly (declaring v c) env AsWholeItem) env id d e same x) y q)
+
+  or_none : (b : Bool) → (b || false) ≡ b
+  or_none true = refl
+  or_none false = refl
+
+  -- what is assigned to
+  target_lacks : (v : Use) (x : Name) (d : Tree) → Q AsTarget (identifier x) → o (setting o t.plainly (declaring v c) env AsWholeItem) env shape.VariableDeclarator [] 0 (binding x ▸ (d ▸ none)) ≡ false
+  unfolding finds
+  target_lacks v x d a = t.given (setting o t.plainly (declaring v c) env AsWholeItem) env x d (sym (or_none _) ∙ a)
+
+  headed_lacks : (x : Name) → Declares Hoisted AsWholeItem (binding x) → Declares Headed AsWholeItem (binding x)
+  unfolding finds
+  headed_lacks x a = or_none _ ∙ t.headed (setting o t.plainly (declaring Headed c) env AsWholeItem) env x (sym (or_none _) ∙ a)
+
+  target_var : (x : Name) → Q AsTarget (identifier x) → Declares Hoisted AsWholeItem (declarator (binding x) absent) → Q AsTarget (bare_var x)
+  target_var x a b =
+      let (own, (name, value)) = declarator_lacks Hoisted (binding x) absent b in
+      lacks_var Var AsTarget Headed refl (var_closed Write) (declarator (binding x) absent ▸ none) (t.hoisted (at AsTarget) env (listed (declarator (binding x) absent ▸ none) ▸ none))
+      (lacks_declarator Headed (binding x) absent (target_lacks Headed x absent a) (headed_lacks x name) value, tt)
+
+  initial_lacks : (kind : VariableDeclarationKind) (id d e : Tree) (ds : Trees) → is_absent d ≡ is_absent e → Q AsWholeItem (declaration kind (declarator id d ▸ ds)) → Q AsValue d × (Q AsValue e → Q AsWholeItem (declaration kind (declarator id e ▸ ds)))
+  initial_lacks kind id d e ds same a =
+      let used : use_of (shape.VariableDeclaration kind) c.used 0 ≡ declared_use kind = ap (λ v. use_of (shape.VariableDeclaration kind) v 0) r ∙ kind_use kind in
+      let closed : (us : Trees) → opened c.used (shape.VariableDeclaration kind) (listed us ▸ none) 0 ≡ [] = λ us. declaration_opens c.used r kind (listed us ▸ none) 0 in
+      let (x, (y, z)) = var_lacks kind AsWholeItem (declared_use kind) used closed (declarator id d ▸ ds) a in
+      let (value, again) = valued_lacks (declared_use kind) id d e same y in
+      (value, λ q. lacks_var kind AsWholeItem (declared_use kind) used closed (declarator id e ▸ ds) (t.initialised (at AsWholeItem) env kind id d e ds r x) (again q, z))
+  to_every : (ds : Trees) → All (Declares Hoisted) AsWholeItem ds → Every (Declares Hoisted AsWholeItem) ds
   to_every none a = tt
   to_every (d ▸ ds) a = (a.0, to_every ds a.1)
 
-  pub of_every : (ds : Trees) → Every (Declares AsWholeItem) ds → All Declares AsWholeItem ds
+  of_every : (ds : Trees) → Every (Declares Hoisted AsWholeItem) ds → All (Declares Hoisted) AsWholeItem ds
   of_every none a = tt
   of_every (d ▸ ds) a = (a.0, of_every ds a.1)
+
+  pub lacks_vars : (ds : Trees) → Every (Declares Hoisted AsWholeItem) ds → Q AsWholeItem (declaration Var ds)
+  lacks_vars ds a = lacks_var Var AsWholeItem Hoisted (hoisted c.used su) (var_closed c.used) ds (t.hoisted (at AsWholeItem) env (listed ds ▸ none)) (of_every ds a)
 
   pub lacks_lists : ByLists Q
   lacks_lists = record {
@@ -142,16 +244,23 @@ module _ (o : Own) (t : TellsLists o) (c : Setting) (env : Environment) (su : is
     loop_down = loop_lacks;
     loop_up = lacks_loop;
     switched = switch_lacks;
-    Declared = Declares AsWholeItem;
-    var_down = λ ds a. to_every ds (var_lacks AsWholeItem (hoisted c.used su) ds a);
-    var_up = λ ds a. lacks_var AsWholeItem (hoisted c.used su) ds (of_every ds a);
-    head_down = λ ds a. to_every ds (var_lacks AsValue refl ds a);
-    head_up = λ ds a. lacks_var AsValue refl ds (of_every ds a);
+    Declared = Declares Hoisted AsWholeItem;
+    var_down = λ ds a. to_every ds (var_lacks Var AsWholeItem Hoisted (hoisted c.used su) (var_closed c.used) ds a).1;
+    var_up = lacks_vars;
+    head_down = λ ds a. to_every ds (var_lacks Var AsValue Hoisted refl (var_closed Read) ds a).1;
+    head_up = λ ds a. lacks_var Var AsValue Hoisted refl (var_closed Read) ds (t.hoisted (at AsValue) env (listed ds ▸ none)) (of_every ds a);
+    given = λ x v a b d. lacks_declarator Hoisted (binding x) v (target_lacks Hoisted x v a) (declarator_lacks Hoisted (binding x) absent d).1.0 b;
+    valued = valued_lacks Hoisted;
+    target_up = target_var;
+    initialised = initial_lacks;
   }
 
 -- ---- the order of reads
 
-module _ (m s : ℕ) (c : Setting) (env : Environment) (su : is_statement_use c.used ≡ true) where
+module _ (m s : ℕ) (c : Setting) (env : Environment) (r : c.used ≡ Read) where
+  use_there : is_statement_use c.used ≡ true
+  use_there = ap is_statement_use r
+
   abbrev pub C : Asked → Tree → Type 0
   C = Calmly m s c env
 
@@ -209,49 +318,111 @@ module _ (m s : ℕ) (c : Setting) (env : Environment) (su : is_statement_use c.
       let (x, y) = of_first b d later v a in
       (x, λ q. to_first b e later u q y)
 
-  abbrev pub Declaring : Asked → Tree → Type 0
-  Declaring = Calmly m s (declaring c) env
+  abbrev pub Declaring : Use → Asked → Tree → Type 0
+  Declaring v = Calmly m s (declaring v c) env
 
-  module _ (u : Asked) (used : hoisted_by (use_by c.used u) ≡ Hoisted) where
-    calm_around : below false (stood u) (shape.VariableDeclaration Var) 0 0 ≡ standing m s (declaring c) env AsWholeList
-    calm_around = λ i. record { used = used i; around = c.around; strict = c.strict; is_body = false; belongs = belongs_same If c.belongs 0 i; ordered = false }
+  module _ (k : VariableDeclarationKind) (u : Asked) (v : Use) (used : use_of (shape.VariableDeclaration k) (use_by c.used u) 0 ≡ v) (closed : (ds : Trees) → opened (use_by c.used u) (shape.VariableDeclaration k) (listed ds ▸ none) 0 ≡ []) where
+    abbrev listing : Bool → Setting
+    listing b = record { used = v; around = c.around; strict = c.strict; is_body = false; belongs = c.belongs; ordered = b }
 
-    var_calm : (ds : Trees) → C u (declaration Var ds) → All Declaring AsWholeItem ds
+    no_order : (kind : VariableDeclarationKind) → ((hands_on (shape.VariableDeclaration kind) && false) || false) ≡ false
+    no_order Var = refl
+    no_order Let = refl
+    no_order Const = refl
+
+    calm_around : (b : Bool) → below b (stood u) (shape.VariableDeclaration k) 0 0 ≡ listing b
+    calm_around b = λ i. record { used = used i; around = c.around; strict = c.strict; is_body = false; belongs = belongs_same If c.belongs 0 i; ordered = b }
+
+    var_says : (ds : Trees) → pace (early m s) (stood u) env (declaration k ds) ≡ followed (ends_after false (pace (early m s) (listing false) env (listed ds))) Silent
+    unfolding pace
+    var_says ds =
+        let later = env ++ opened (use_by c.used u) (shape.VariableDeclaration k) (listed ds ▸ none) 0 in
+        (λ j. followed (ends_after ((early m s).ends (calm_around (no_order k j) j) (listed ds)) (pace (early m s) (calm_around (no_order k j) j) later (listed ds))) Silent)
+        ∙ ap (λ r. followed (ends_after false (pace (early m s) (listing false) r (listed ds))) Silent) (ap (λ b. env ++ b) (closed ds) ∙ append-nil env)
+
+    var_calm : (ds : Trees) → C u (declaration k ds) → All (Declaring v) AsWholeItem ds
+    var_calm ds a = all_of Any (Declaring v) AsWholeItem 0 ds ((calm_local m s (declaring v c) env).down AList AsWholeList ds tt (split (pace (early m s) (listing false) env (listed ds)) Silent (sym (ap is_reads (var_says ds)) ∙ a)).0).1
+
+    calm_var : (ds : Trees) → All (Declaring v) AsWholeItem ds → C u (declaration k ds)
+    calm_var ds a = ap is_reads (var_says ds) ∙ join (pace (early m s) (listing false) env (listed ds)) Silent ((calm_local m s (declaring v c) env).up AList AsWholeList ds tt tt (of_all Any (Declaring v) AsWholeItem 0 ds a)) refl
+
+  -- a declarator
+  module _ (v : Use) where
+    abbrev naming : Setting
+    naming = standing m s (declaring v c) env AsWholeItem
+
+    name_around : below false naming shape.VariableDeclarator 0 0 ≡ naming
+    name_around = λ i. record { used = v; around = c.around; strict = c.strict; is_body = false; belongs = belongs_same If c.belongs 0 i; ordered = false }
+
+    value_around : below false naming shape.VariableDeclarator 0 1 ≡ stood AsValue
+    value_around = λ i. record { used = Read; around = c.around; strict = c.strict; is_body = false; belongs = belongs_same If c.belongs 0 i; ordered = false }
+
+    declarator_says : (id d : Tree) → pace (early m s) naming env (declarator id d) ≡ followed (ends_after false (pace (early m s) naming env id)) (followed (ends_after false (pace (early m s) (stood AsValue) env d)) Silent)
     unfolding pace scopes_by
-    var_calm ds a =
-        let k = below false (stood u) (shape.VariableDeclaration Var) 0 0 in
-        let (z, w) = split (pace (early m s) k (env ++ []) (listed ds)) Silent a in
-        all_of Any Declaring AsWholeItem 0 ds ((calm_local m s (declaring c) env).down AList AsWholeList ds tt
-        (subst (λ x. is_reads (pace (early m s) x env (listed ds)) ≡ false) calm_around (subst (λ r. is_reads (pace (early m s) k r (listed ds)) ≡ false) (append-nil env) z))).1
+    declarator_says id d = λ j. followed (ends_after false (pace (early m s) (name_around j) (append-nil env j) id)) (followed (ends_after false (pace (early m s) (value_around j) ((append-nil (env ++ []) ∙ append-nil env) j) d)) Silent)
 
-    pub calm_var : (ds : Trees) → All Declaring AsWholeItem ds → C u (declaration Var ds)
-    unfolding pace scopes_by
-    calm_var ds a =
-        let k = below false (stood u) (shape.VariableDeclaration Var) 0 0 in
-        join (pace (early m s) k (env ++ []) (listed ds)) Silent
-        (subst (λ r. is_reads (pace (early m s) k r (listed ds)) ≡ false) (sym (append-nil env)) (subst (λ x. is_reads (pace (early m s) x env (listed ds)) ≡ false) (sym calm_around)
-        ((calm_local m s (declaring c) env).up AList AsWholeList ds tt tt (of_all Any Declaring AsWholeItem 0 ds a)))) refl
+    declarator_calm : (id d : Tree) → Declaring v AsWholeItem (declarator id d) → Declaring v AsWholeItem id × C AsValue d
+    declarator_calm id d a =
+        let (x, y) = split (pace (early m s) naming env id) (followed (ends_after false (pace (early m s) (stood AsValue) env d)) Silent) (sym (ap is_reads (declarator_says id d)) ∙ a) in
+        (x, (split (pace (early m s) (stood AsValue) env d) Silent y).0)
 
-  to_each : (ds : Trees) → All Declaring AsWholeItem ds → Every (Declaring AsWholeItem) ds
+    calm_declarator : (id d : Tree) → Declaring v AsWholeItem id → C AsValue d → Declaring v AsWholeItem (declarator id d)
+    calm_declarator id d x y =
+        ap is_reads (declarator_says id d) ∙ join (pace (early m s) naming env id) (followed (ends_after false (pace (early m s) (stood AsValue) env d)) Silent) x (join (pace (early m s) (stood AsValue) env d) Silent y refl)
+
+    pub valued_calm : (id d e : Tree) → Declaring v AsWholeItem (declarator id d) → C AsValue d × (C AsValue e → Declaring v AsWholeItem (declarator id e))
+    valued_calm id d e a = let (x, y) = declarator_calm id d a in (y, λ q. calm_declarator id e x q)
+
+    -- what is bound isn't read
+    binding_calm : (x : Name) → Declaring v AsWholeItem (binding x)
+    unfolding pace
+    binding_calm x = by (same_variable (by_symbol s) x)
+      where
+        by : (b : Bool) → is_reads (followed (reads_if ((((b && false) && reads v) && not (is_elsewhere m c.around)) || false)) Silent) ≡ false
+        by true = refl
+        by false = refl
+
+  var_closed_there : (u : Use) (ds : Trees) → opened u (shape.VariableDeclaration Var) (listed ds ▸ none) 0 ≡ []
+  var_closed_there u ds = hoisted_opens u (listed ds ▸ none) 0
+
+  var_target : (x : Name) → Declaring Hoisted AsWholeItem (declarator (binding x) absent) → C AsTarget (bare_var x)
+  var_target x b = calm_var Var AsTarget Headed refl (var_closed_there Write) (declarator (binding x) absent ▸ none) (calm_declarator Headed (binding x) absent (binding_calm Headed x) (declarator_calm Hoisted (binding x) absent b).1, tt)
+
+  initial_calm : (kind : VariableDeclarationKind) (id d e : Tree) (ds : Trees) → C AsWholeItem (declaration kind (declarator id d ▸ ds)) → C AsValue d × (C AsValue e → C AsWholeItem (declaration kind (declarator id e ▸ ds)))
+  initial_calm kind id d e ds a =
+      let used : use_of (shape.VariableDeclaration kind) c.used 0 ≡ declared_use kind = ap (λ v. use_of (shape.VariableDeclaration kind) v 0) r ∙ kind_use kind in
+      let closed : (us : Trees) → opened c.used (shape.VariableDeclaration kind) (listed us ▸ none) 0 ≡ [] = λ us. declaration_opens c.used r kind (listed us ▸ none) 0 in
+      let (y, z) = var_calm kind AsWholeItem (declared_use kind) used closed (declarator id d ▸ ds) a in
+      let (value, again) = valued_calm (declared_use kind) id d e y in
+      (value, λ q. calm_var kind AsWholeItem (declared_use kind) used closed (declarator id e ▸ ds) (again q, z))
+
+  to_each : (ds : Trees) → All (Declaring Hoisted) AsWholeItem ds → Every (Declaring Hoisted AsWholeItem) ds
   to_each none a = tt
   to_each (d ▸ ds) a = (a.0, to_each ds a.1)
 
-  pub of_each : (ds : Trees) → Every (Declaring AsWholeItem) ds → All Declaring AsWholeItem ds
+  of_each : (ds : Trees) → Every (Declaring Hoisted AsWholeItem) ds → All (Declaring Hoisted) AsWholeItem ds
   of_each none a = tt
   of_each (d ▸ ds) a = (a.0, of_each ds a.1)
+
+  pub calm_vars : (ds : Trees) → Every (Declaring Hoisted AsWholeItem) ds → C AsWholeItem (declaration Var ds)
+  calm_vars ds a = calm_var Var AsWholeItem Hoisted (hoisted c.used use_there) (var_closed_there c.used) ds (of_each ds a)
 
   pub calm_lists : ByLists C
   calm_lists = record {
     parts = by_parts C (calm_updated m s c env) (calm_properties m s c env) (calm_moved m s c env) (calm_local m s c env);
-    placed = λ x e. (calm_anyhow m s c env su AsWholeItem AsItem refl refl x e, calm_anyhow m s c env su AsItem AsWholeItem refl refl x e);
+    placed = λ x e. (calm_anyhow m s c env use_there AsWholeItem AsItem refl refl x e, calm_anyhow m s c env use_there AsItem AsWholeItem refl refl x e);
     loop_down = loop_calm;
     loop_up = calm_loop;
     switched = switch_calm;
-    Declared = Declaring AsWholeItem;
-    var_down = λ ds a. to_each ds (var_calm AsWholeItem (hoisted c.used su) ds a);
-    var_up = λ ds a. calm_var AsWholeItem (hoisted c.used su) ds (of_each ds a);
-    head_down = λ ds a. to_each ds (var_calm AsValue refl ds a);
-    head_up = λ ds a. calm_var AsValue refl ds (of_each ds a);
+    Declared = Declaring Hoisted AsWholeItem;
+    var_down = λ ds a. to_each ds (var_calm Var AsWholeItem Hoisted (hoisted c.used use_there) (var_closed_there c.used) ds a);
+    var_up = calm_vars;
+    head_down = λ ds a. to_each ds (var_calm Var AsValue Hoisted refl (var_closed_there Read) ds a);
+    head_up = λ ds a. calm_var Var AsValue Hoisted refl (var_closed_there Read) ds (of_each ds a);
+    given = λ x v a b d. calm_declarator Hoisted (binding x) v (declarator_calm Hoisted (binding x) absent d).0 b;
+    valued = λ id d e q a. valued_calm Hoisted id d e a;
+    target_up = λ x a b. var_target x b;
+    initialised = λ k id d e ds q a. initial_calm k id d e ds a;
   }
 
 -- ---- what a tree tells besides names
@@ -279,6 +450,13 @@ spared_lists = record {
   var_up = λ ds a j. spared_every ds a j || false;
   head_down = λ ds a. every_spared ds (none_of (any_has_eval ds) false a).0;
   head_up = λ ds a j. spared_every ds a j || false;
+  given = λ x v a b d j. b j || false;
+  valued = λ id d e q a. let (x, y) = none_of (has_eval id) (has_eval d || false) a in ((none_of (has_eval d) false y).0, λ q j. x j || (q j || false));
+  target_up = λ x a b. refl;
+  initialised = λ k id d e ds q a.
+      let (x, y) = none_of (has_eval id || (has_eval d || false)) (any_has_eval ds) (none_of (any_has_eval (declarator id d ▸ ds)) false a).0 in
+      let (z, w) = none_of (has_eval id) (has_eval d || false) x in
+      ((none_of (has_eval d) false w).0, λ q j. ((z j || (q j || false)) || y j) || false);
 }
 
 abbrev Names : Asked → Tree → Type 0
@@ -307,6 +485,13 @@ names_lists = record {
   var_up = λ ds a j. names_every 0 ds a j || false;
   head_down = λ ds a. every_names 0 ds (none_of (any_names_arguments (is_of_function shape.Listed) 0 ds) false a).0;
   head_up = λ ds a j. names_every 0 ds a j || false;
+  given = λ x v a b d j. (none_of (names_arguments (binding x)) false d).0 j || (b j || false);
+  valued = λ id d e q a. let (x, y) = none_of (names_arguments id) (names_arguments d || false) a in ((none_of (names_arguments d) false y).0, λ q j. x j || (q j || false));
+  target_up = λ x a b j. (b j || false) || false;
+  initialised = λ k id d e ds q a.
+      let (x, y) = none_of (names_arguments id || (names_arguments d || false)) (any_names_arguments (is_of_function shape.Listed) 1 ds) (none_of (any_names_arguments (is_of_function shape.Listed) 0 (declarator id d ▸ ds)) false a).0 in
+      let (z, w) = none_of (names_arguments id) (names_arguments d || false) x in
+      ((none_of (names_arguments d) false w).0, λ q j. ((z j || (q j || false)) || y j) || false);
 }
 
 module _ (b : ℕ) where
@@ -338,10 +523,22 @@ module _ (b : ℕ) where
     var_up = number_var;
     head_down = var_number;
     head_up = number_var;
+    given = λ x v a c d j. unlike b j || ((unlike b j || false) || (c j || false));
+    valued = valued_number;
+    target_up = λ x a d j. unlike b j || ((unlike b j || ((unlike b j || ((unlike b j || false) || ((unlike b j || false) || false))) || false)) || false);
+    initialised = λ k id d e ds q a.
+        let (x, y) = none_of (has_number (suc b) (declarator id d)) (any_has_number (suc b) ds) (rest_of (any_has_number (suc b) (declarator id d ▸ ds)) (none_of (has_number (suc b) (listed (declarator id d ▸ ds))) false (rest_of (has_number (suc b) (listed (declarator id d ▸ ds)) || false) a)).0) in
+        let (z, w) = valued_number id d e q x in
+        (z, λ q j. unlike b j || ((unlike b j || (w q j || y j)) || false));
   }
     where
       rest_of : (r : Bool) → (nat_eq 0 (suc b) || r) ≡ false → r ≡ false
       rest_of r a = (none_of (nat_eq 0 (suc b)) r a).1
+
+      valued_number : (id d e : Tree) → is_absent d ≡ is_absent e → has_number (suc b) (declarator id d) ≡ false → (has_number (suc b) d ≡ false) × (has_number (suc b) e ≡ false → has_number (suc b) (declarator id e) ≡ false)
+      valued_number id d e q a =
+          let (x, y) = none_of (has_number (suc b) id) (has_number (suc b) d || false) (rest_of (has_number (suc b) id || (has_number (suc b) d || false)) a) in
+          ((none_of (has_number (suc b) d) false y).0, λ q j. unlike b j || (x j || (q j || false)))
 
       var_number : (ds : Trees) → has_number (suc b) (declaration Var ds) ≡ false → Every (λ t. has_number (suc b) t ≡ false) ds
       var_number ds a = every_number ds (rest_of (any_has_number (suc b) ds) (none_of (has_number (suc b) (listed ds)) false (rest_of (has_number (suc b) (listed ds) || false) a)).0)

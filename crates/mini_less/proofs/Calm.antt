@@ -205,8 +205,8 @@ any_among s xs e = ap (is_among (by_symbol s)) e
 pub each_quiets : (g : Fact) (b s : ℕ) → Quiets (question g b s)
 each_quiets Written b s = record { silent = λ c env h e n ts. ap reads_if (no_mention _ c h); unordered = λ c h e ts. refl; unended = λ c t e. refl }
 each_quiets WrittenElsewhere b s = record { silent = λ c env h e n ts. ap reads_if (no_mention _ c h); unordered = λ c h e ts. refl; unended = λ c t e. refl }
-each_quiets Given b s = record { silent = λ c env h e n ts. ap (λ xs. reads_if (list_any (is_write (by_symbol s)) (map (write_at c.around) xs))) (bare_gives c.used h (passing_bare h e) [] ts); unordered = λ c h e ts. refl; unended = λ c t e. refl }
-each_quiets GivenElsewhere b s = record { silent = λ c env h e n ts. ap (λ xs. reads_if (list_any (λ m. is_write (by_symbol s) m && is_elsewhere b m.around) (map (write_at c.around) xs))) (bare_gives c.used h (passing_bare h e) [] ts); unordered = λ c h e ts. refl; unended = λ c t e. refl }
+each_quiets Given b s = record { silent = λ c env h e n ts j. reads_if (no_mention (is_write (by_symbol s)) c h j || list_any (is_write (by_symbol s)) (map (write_at c.around) (bare_gives c.used h (passing_bare h e) [] ts j))); unordered = λ c h e ts. refl; unended = λ c t e. refl }
+each_quiets GivenElsewhere b s = record { silent = λ c env h e n ts j. reads_if (no_mention (λ m. is_write (by_symbol s) m && is_elsewhere b m.around) c h j || list_any (λ m. is_write (by_symbol s) m && is_elsewhere b m.around) (map (write_at c.around) (bare_gives c.used h (passing_bare h e) [] ts j))); unordered = λ c h e ts. refl; unended = λ c t e. refl }
 each_quiets GivenByPattern b s = record { silent = λ c env h e n ts. ap reads_if (any_among s _ (bare_writes c.used env h (passing_bare h e) ts)); unordered = λ c h e ts. refl; unended = λ c t e. refl }
 each_quiets MentionedElsewhere b s = record { silent = λ c env h e n ts. ap reads_if (no_mention _ c h); unordered = λ c h e ts. refl; unended = λ c t e. refl }
 each_quiets BoundElsewhere b s = record { silent = λ c env h e n ts. ap reads_if (no_mention _ c h); unordered = λ c h e ts. refl; unended = λ c t e. refl }

@@ -15,7 +15,7 @@ use Rattle.mini_laws.specs.declared.names.Use.{Use}
 use Rattle.mini_laws.specs.declared.names.Use.TheVariants.{Read}
 use Rattle.mini_laws.specs.DeclaredNames.{names_of, all_names}
 use Rattle.mini_laws.specs.Foreign.{is_write, own_lexical, own_pattern_names}
-use Rattle.mini_laws.specs.Mentions.{is_among, is_elsewhere}
+use Rattle.mini_laws.specs.Mentions.{own_mentions, is_among, is_elsewhere}
 use Rattle.mini_laws.specs.Resolved.{Environment, with_symbol}
 use Rattle.mini_laws.specs.ScopeList.{by_symbol, is_eval_call, is_eval_callee, names_in}
 use Rattle.mini_laws.specs.Scopes.{opened, scopes_by, lexical_scope, at_or_empty}
@@ -55,8 +55,8 @@ given_alike s xs ys e f = ap (λ zs. reads_if (is_among (by_symbol s) zs)) (f �
 pub each_parts : (g : Fact) (b s : ℕ) → PartsAlike (question g b s)
 each_parts Written b s = record { before = λ c env h e xs n ts us x. refl; orders = λ c h e ts us. refl; ends = λ c t u x y. refl }
 each_parts WrittenElsewhere b s = record { before = λ c env h e xs n ts us x. refl; orders = λ c h e ts us. refl; ends = λ c t u x y. refl }
-each_parts Given b s = record { before = λ c env h e xs n ts us x. ap (λ ys. reads_if (list_any (is_write (by_symbol s)) (map (write_at c.around) ys))) (bare_gives c.used h (part_bare h e) xs us ∙ sym (bare_gives c.used h (part_bare h e) xs ts)); orders = λ c h e ts us. refl; ends = λ c t u x y. refl }
-each_parts GivenElsewhere b s = record { before = λ c env h e xs n ts us x. ap (λ ys. reads_if (list_any (λ m. is_write (by_symbol s) m && is_elsewhere b m.around) (map (write_at c.around) ys))) (bare_gives c.used h (part_bare h e) xs us ∙ sym (bare_gives c.used h (part_bare h e) xs ts)); orders = λ c h e ts us. refl; ends = λ c t u x y. refl }
+each_parts Given b s = record { before = λ c env h e xs n ts us x. ap (λ ys. reads_if (list_any (is_write (by_symbol s)) (own_mentions c.used c.around h xs) || list_any (is_write (by_symbol s)) (map (write_at c.around) ys))) (bare_gives c.used h (part_bare h e) xs us ∙ sym (bare_gives c.used h (part_bare h e) xs ts)); orders = λ c h e ts us. refl; ends = λ c t u x y. refl }
+each_parts GivenElsewhere b s = record { before = λ c env h e xs n ts us x. ap (λ ys. reads_if (list_any (λ m. is_write (by_symbol s) m && is_elsewhere b m.around) (own_mentions c.used c.around h xs) || list_any (λ m. is_write (by_symbol s) m && is_elsewhere b m.around) (map (write_at c.around) ys))) (bare_gives c.used h (part_bare h e) xs us ∙ sym (bare_gives c.used h (part_bare h e) xs ts)); orders = λ c h e ts us. refl; ends = λ c t u x y. refl }
 each_parts GivenByPattern b s = record { before = λ c env h e xs n ts us x. given_alike s _ _ (bare_writes c.used env h (part_bare h e) ts) (bare_writes c.used env h (part_bare h e) us); orders = λ c h e ts us. refl; ends = λ c t u x y. refl }
 each_parts MentionedElsewhere b s = record { before = λ c env h e xs n ts us x. refl; orders = λ c h e ts us. refl; ends = λ c t u x y. refl }
 each_parts BoundElsewhere b s = record { before = λ c env h e xs n ts us x. refl; orders = λ c h e ts us. refl; ends = λ c t u x y. refl }
@@ -154,8 +154,8 @@ module _ (t u rest : Tree) (a : Alike t u) (k : SameTold t u) (pattern : is_patt
   declaring_before : (g : Fact) (b s : ℕ) (c : Bool) → Before g b s c
   declaring_before Written b s c d env = refl
   declaring_before WrittenElsewhere b s c d env = refl
-  declaring_before Given b s c d env = ap (λ xs. reads_if (list_any (is_write (by_symbol s)) (map (write_at d.around) xs))) (declaring_gives c d.used)
-  declaring_before GivenElsewhere b s c d env = ap (λ xs. reads_if (list_any (λ m. is_write (by_symbol s) m && is_elsewhere b m.around) (map (write_at d.around) xs))) (declaring_gives c d.used)
+  declaring_before Given b s c d env = ap (λ xs. reads_if (list_any (is_write (by_symbol s)) (own_mentions d.used d.around (declaring_shape c) []) || list_any (is_write (by_symbol s)) (map (write_at d.around) xs))) (declaring_gives c d.used)
+  declaring_before GivenElsewhere b s c d env = ap (λ xs. reads_if (list_any (λ m. is_write (by_symbol s) m && is_elsewhere b m.around) (own_mentions d.used d.around (declaring_shape c) []) || list_any (λ m. is_write (by_symbol s) m && is_elsewhere b m.around) (map (write_at d.around) xs))) (declaring_gives c d.used)
   declaring_before GivenByPattern b s c d env = ap (λ xs. reads_if (is_among (by_symbol s) xs)) (declaring_writes c d.used env)
   declaring_before MentionedElsewhere b s c d env = refl
   declaring_before BoundElsewhere b s c d env = refl

@@ -15,7 +15,7 @@ use Rattle.mini_shrink.specs.Facts.{Fact, Written, WrittenElsewhere, Given, Give
 use Rattle.mini_shrink.proofs.Finding.{pace_is}
 use Rattle.mini_shrink.proofs.Owns.{implied}
 use Rattle.mini_less.specs.Less.{TellsPlainly}
-use Rattle.mini_less.proofs.Plainly.{mentions_plainly, gives_plainly, pattern_gives_plainly, names_plainly, no_switched, no_pattern, no_caught, no_arguments, no_params, loop_switched, loop_pattern_at, loop_caught, loop_arguments, loop_params, seen_plainly, lexical_plainly, alone, anywhere, lexical_alone}
+use Rattle.mini_less.proofs.Plainly.{mentions_plainly, sets_plainly, pattern_gives_plainly, names_plainly, no_switched, no_pattern, no_caught, no_arguments, no_params, loop_switched, loop_pattern_at, loop_caught, loop_arguments, loop_params, seen_plainly, lexical_plainly, alone, anywhere, lexical_alone}
 use Rattle.mini_rows.proofs.ArrangedValues.{is_value}
 
 -- it doesn't ask whether it stands in a list that declares the name
@@ -29,8 +29,8 @@ unordered o a c d env (node h xs n ts) = λ j. a c d env h xs n ts j || any_of (
 pub by_fact : (P : Question → Type 0) → ((o : Own) → TellsPlainly o → Unordered o → P (asks o)) → ((b k : ℕ) → P (early b k)) → (g : Fact) (b k : ℕ) → P (question g b k)
 by_fact P f r Written c k = f _ (mentions_plainly (is_write (by_symbol k)) (λ x a e f. e)) (λ c d env h xs n ts. refl)
 by_fact P f r WrittenElsewhere c k = f _ (mentions_plainly (λ m. is_write (by_symbol k) m && is_elsewhere c m.around) (λ x a e f. e)) (λ c d env h xs n ts. refl)
-by_fact P f r Given c k = f _ (gives_plainly (is_write (by_symbol k))) (λ c d env h xs n ts. refl)
-by_fact P f r GivenElsewhere c k = f _ (gives_plainly (λ m. is_write (by_symbol k) m && is_elsewhere c m.around)) (λ c d env h xs n ts. refl)
+by_fact P f r Given c k = f _ (sets_plainly (is_write (by_symbol k)) (λ x a e f. e)) (λ c d env h xs n ts. refl)
+by_fact P f r GivenElsewhere c k = f _ (sets_plainly (λ m. is_write (by_symbol k) m && is_elsewhere c m.around) (λ x a e f. e)) (λ c d env h xs n ts. refl)
 by_fact P f r MentionedElsewhere c k = f _ (mentions_plainly (λ m. same_variable (by_symbol k) m.name && is_elsewhere c m.around) (λ x a e f. e)) (λ c d env h xs n ts. refl)
 by_fact P f r BoundElsewhere c k = f _ (mentions_plainly (λ m. same_variable (by_symbol k) m.name && m.binds && is_elsewhere c m.around) (λ x a e f. e)) (λ c d env h xs n ts. refl)
 by_fact P f r IsLexical c k = f _ (lexical_plainly k) (λ c d env h xs n ts. refl)
@@ -50,8 +50,8 @@ AloneToo o = (c : Setting) (env : Environment) (t : Tree) → is_value (shape_of
 pub by_value : (P : Question → Type 0) → ((o : Own) → TellsPlainly o → AloneToo o → P (asks o)) → ((b k : ℕ) → P (early b k)) → (g : Fact) (b k : ℕ) → P (question g b k)
 by_value P f r Written c k = f _ (mentions_plainly (is_write (by_symbol k)) (λ x a e f. e)) (λ c env t e. anywhere _ (λ c b d env h xs n ts. refl) c false false env t)
 by_value P f r WrittenElsewhere c k = f _ (mentions_plainly (λ m. is_write (by_symbol k) m && is_elsewhere c m.around) (λ x a e f. e)) (λ c env t e. anywhere _ (λ c b d env h xs n ts. refl) c false false env t)
-by_value P f r Given c k = f _ (gives_plainly (is_write (by_symbol k))) (λ c env t e. anywhere _ (λ c b d env h xs n ts. refl) c false false env t)
-by_value P f r GivenElsewhere c k = f _ (gives_plainly (λ m. is_write (by_symbol k) m && is_elsewhere c m.around)) (λ c env t e. anywhere _ (λ c b d env h xs n ts. refl) c false false env t)
+by_value P f r Given c k = f _ (sets_plainly (is_write (by_symbol k)) (λ x a e f. e)) (λ c env t e. anywhere _ (λ c b d env h xs n ts. refl) c false false env t)
+by_value P f r GivenElsewhere c k = f _ (sets_plainly (λ m. is_write (by_symbol k) m && is_elsewhere c m.around) (λ x a e f. e)) (λ c env t e. anywhere _ (λ c b d env h xs n ts. refl) c false false env t)
 by_value P f r MentionedElsewhere c k = f _ (mentions_plainly (λ m. same_variable (by_symbol k) m.name && is_elsewhere c m.around) (λ x a e f. e)) (λ c env t e. anywhere _ (λ c b d env h xs n ts. refl) c false false env t)
 by_value P f r BoundElsewhere c k = f _ (mentions_plainly (λ m. same_variable (by_symbol k) m.name && m.binds && is_elsewhere c m.around) (λ x a e f. e)) (λ c env t e. anywhere _ (λ c b d env h xs n ts. refl) c false false env t)
 by_value P f r IsLexical c k = f _ (lexical_plainly k) (lexical_alone k)

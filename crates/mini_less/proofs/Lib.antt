@@ -17,7 +17,8 @@ pub mod ListHeads
 pub mod ListJoins
 pub mod ListLeft
 pub mod HoistedNames
-pub mod LeanLists
+pub mod EntersLess
+pub mod Lists
 pub mod ListRowsLess
 pub mod MoreRowsLess
 pub mod Made

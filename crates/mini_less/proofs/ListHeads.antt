@@ -48,7 +48,7 @@ module _ (Q : Asked → Tree → Type 0) (l : ByParts Q) where
   to_row p none y = (y, tt)
   to_row p (c ▸ ps) y = sequence_parts Q l (p ▸ (c ▸ ps)) y
 
-  of_row : (p : Tree) (ps : Trees) → All Q AsValue (p ▸ ps) → Q AsValue (of_parts p ps)
+  pub of_row : (p : Tree) (ps : Trees) → All Q AsValue (p ▸ ps) → Q AsValue (of_parts p ps)
   of_row p none y = y.0
   of_row p (c ▸ ps) y = a_sequence Q l (p ▸ (c ▸ ps)) y
 
@@ -59,11 +59,11 @@ joined_value : (p : Tree) (ps : Trees) (q : Tree) (qs : Trees) → is_value (sha
 joined_value p none q qs = refl
 joined_value p (c ▸ ps) q qs = refl
 
-first_of : (x y : Bool) → (x && y) ≡ true → x ≡ true
+pub first_of : (x y : Bool) → (x && y) ≡ true → x ≡ true
 first_of x y e = (and_parts x y e).0
 
 -- the second of two statements fits
-second_fits : (strict : Bool) (k : Depth) (t u : Tree) → fill strict (each (one (a_statement k))) (t ▸ (u ▸ none)) ≡ true → fits strict (one (a_statement k)) u ≡ true
+pub second_fits : (strict : Bool) (k : Depth) (t u : Tree) → fill strict (each (one (a_statement k))) (t ▸ (u ▸ none)) ≡ true → fits strict (one (a_statement k)) u ≡ true
 second_fits strict k t u e = (and_parts (fits strict (one (a_statement k)) u) true (and_parts (fits strict (one (a_statement k)) t) (fits strict (one (a_statement k)) u && true) e).1).0
 
 pub first_fits : (strict : Bool) (k : Depth) (t : Tree) (ts : Trees) → fill strict (each (one (a_statement k))) (t ▸ ts) ≡ true → fits strict (one (a_statement k)) t ≡ true
@@ -91,7 +91,7 @@ row_lexical strict q (c ▸ qs) e f = refl
 
 -- a head with another expression
 module _ (Q : Asked → Tree → Type 0) (l : ByLists Q) (strict : Bool) (k : Depth) where
-  headed_parts : (h : row.Head) (q : Tree) (qs : Trees) (e : Tree) → are_parts q qs ≡ true → is_value (shape_of e) ≡ true → fits strict (one (a_statement k)) (with_head h (of_parts q qs)) ≡ true → Q AsWholeItem (with_head h (of_parts q qs)) → Q AsValue (of_parts q qs) × (Q AsValue e → Q AsWholeItem (with_head h e))
+  pub headed_parts : (h : row.Head) (q : Tree) (qs : Trees) (e : Tree) → are_parts q qs ≡ true → is_value (shape_of e) ≡ true → fits strict (one (a_statement k)) (with_head h (of_parts q qs)) ≡ true → Q AsWholeItem (with_head h (of_parts q qs)) → Q AsValue (of_parts q qs) × (Q AsValue e → Q AsWholeItem (with_head h e))
   headed_parts row.Return q qs e v u f y = ((l.parts.down Return refl AsWholeItem (of_parts q qs ▸ none) tt y).0, λ z. l.parts.up Return refl AsWholeItem (e ▸ none) tt (z, tt))
   headed_parts row.Throw q qs e v u f y = ((l.parts.down Throw refl AsWholeItem (of_parts q qs ▸ none) tt y).0, λ z. l.parts.up Throw refl AsWholeItem (e ▸ none) tt (z, tt))
   headed_parts (row.If s t) q qs e v u f y =
@@ -102,7 +102,7 @@ module _ (Q : Asked → Tree → Type 0) (l : ByLists Q) (strict : Bool) (k : De
       let (init, rest) = l.loop_down AFor (of_parts q qs) (s ▸ (t ▸ (b ▸ none))) (row_lexical strict q qs v (first_of (fits strict (one_or_absent an_init) (of_parts q qs)) _ f)) y in
       (init, λ z. l.loop_up AFor e (s ▸ (t ▸ (b ▸ none))) (value_lexical e u) (z, rest))
 
-head_unscoped : (h : row.Head) (e : Tree) → is_unscoped (with_head h e) ≡ true
+pub head_unscoped : (h : row.Head) (e : Tree) → is_unscoped (with_head h e) ≡ true
 head_unscoped row.Return e = refl
 head_unscoped row.Throw e = refl
 head_unscoped (row.If s t) e = refl
@@ -152,7 +152,7 @@ pub both_every : (P : Tree → Type 0) (ts us : Trees) → Every P ts → Every 
 both_every P none us a b = b
 both_every P (t ▸ ts) us a b = (a.0, both_every P ts us a.1 b)
 
-var_lexical : (ds : Trees) → names_of declared.Lexical (declaration Var ds) ≡ []
+pub var_lexical : (ds : Trees) → names_of declared.Lexical (declaration Var ds) ≡ []
 unfolding names_of
 var_lexical ds = refl
 

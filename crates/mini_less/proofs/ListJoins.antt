@@ -19,16 +19,18 @@ use Rattle.mini_laws.specs.Scopes.{opened}
 use Rattle.mini_laws.specs.Shared.{names_arguments}
 use Rattle.mini_shrink.specs.Pace.{Pace, Ends, Silent, Reads, reads_if, followed, ends_after, AtMost, Setting, below, Question, pace}
 use Rattle.mini_shrink.specs.Questions.{Own, asks, early}
-use Rattle.mini_rows.specs.Lists.{declaration, Row68}
+use Rattle.mini_rows.specs.Lists.{declarator, declaration, Row68}
 use Rattle.mini_rows.proofs.ListKeptDeclarations.{all_both}
+use Rattle.mini_rows.specs.Sketches.{AsWholeItem}
 use Rattle.mini_less.specs.Families.{NeighboursLess}
 use Rattle.mini_less.specs.TellsLists.{TellsLists}
 use Rattle.mini_less.specs.Neighbours.{of_items, items_say}
 use Rattle.mini_less.proofs.Flags.{none_of, unlike}
 use Rattle.mini_less.proofs.LessRows.{Adds, evals_add, numbers_add, names_add, any_names, list_names}
-use Rattle.mini_less.proofs.Listing.{say, none_ended, asks_pass, early_passes}
+use Rattle.mini_less.proofs.Listing.{say, none_ended, asks_pass, early_passes, with_belongs}
 use Rattle.mini_less.proofs.Neighbours.{listed_is, appended}
-use Rattle.mini_less.proofs.Plainly.{is_reads, split, join, less_by}
+use Rattle.mini_less.proofs.Plainly.{is_reads, split, join, less_by, standing}
+use Rattle.mini_less.proofs.ByLists.{declaring}
 use Rattle.mini_less.proofs.ListHeads.{both_every}
 use Rattle.mini_less.proofs.ListMade.{ListMade, SaysLess, StretchLess, stretch_less, made_stretch}
 use Rattle.mini_less.proofs.TellingLists.{among_both, declaration_opens}
@@ -69,18 +71,27 @@ module _ (b s : ℕ) (c : Setting) (env : Environment) where
   abbrev q : Question
   q = early b s
 
-  abbrev declares : Trees → Bool
+  abbrev pub declares : Trees → Bool
   declares ts = is_among (by_symbol s) (all_names declared.Bound ts)
 
   declares_both : (ds es : Trees) → declares (append ds es) ≡ (declares ds || declares es)
   declares_both ds es = ap (is_among (by_symbol s)) (all_both declared.Bound ds es) ∙ among_both (by_symbol s) (all_names declared.Bound ds) (all_names declared.Bound es)
 
   -- around the declarators, where the list of statements declares the name or doesn't
-  abbrev inside : Bool → Setting
+  abbrev pub inside : Bool → Setting
   inside o = record { used = Read; around = c.around; strict = c.strict; is_body = false; belongs = (c.belongs && true) && true; ordered = o }
 
-  abbrev items : Bool → Trees → Pace
+  abbrev pub items : Bool → Trees → Pace
   items o ts = items_say q (of_items o (inside o)) env ts
+
+  -- a declarator says the same wherever it stands
+  pub declarator_anywhere : (o : Bool) (id d : Tree) → pace q (of_items o (inside o)) env (declarator id d) ≡ pace q (standing b s (declaring Read (with_belongs c)) env AsWholeItem) env (declarator id d)
+  unfolding pace
+  declarator_anywhere o id d = λ j. pace q (record { used = Read; around = c.around; strict = c.strict; is_body = false; belongs = (and_true ((c.belongs && true) && true) ∙ and_true (c.belongs && true)) j; ordered = false }) env (declarator id d)
+    where
+      and_true : (x : Bool) → (x && true) ≡ x
+      and_true true = refl
+      and_true false = refl
 
   -- a list that declares the name says something
   spoken : (ts : Trees) → declares ts ≡ true → is_silent (items true ts) ≡ false
@@ -139,7 +150,7 @@ module _ (b s : ℕ) (c : Setting) (env : Environment) where
     ends_are Const e true ts = declares_alone ts
     ends_are Const e false ts = refl
 
-    one_says : (k : VariableDeclarationKind) → is_lexical k ≡ true → (o : Bool) (ts : Trees) → ends_after (q.ends (of_items o c) (declaration k ts)) (pace q (of_items o c) env (declaration k ts)) ≡ ends_after (o && declares ts) (items o ts)
+    pub one_says : (k : VariableDeclarationKind) → is_lexical k ≡ true → (o : Bool) (ts : Trees) → ends_after (q.ends (of_items o c) (declaration k ts)) (pace q (of_items o c) env (declaration k ts)) ≡ ends_after (o && declares ts) (items o ts)
     one_says k e o ts = (λ j. ends_after (ends_are k e o ts j) (says k e o ts j)) ∙ once (o && declares ts) (ends_inside o ts) (items o ts)
 
     abbrev apart : Bool → Trees → Trees → Pace

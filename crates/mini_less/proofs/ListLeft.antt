@@ -16,7 +16,6 @@ use Rattle.mini_laws.specs.Resolved.{Environment}
 use Rattle.mini_laws.specs.ScopeList.{has_eval, any_has_eval, by_symbol}
 use Rattle.mini_laws.specs.Scopes.{scopes_by}
 use Rattle.mini_laws.specs.Shared.{is_arguments, is_of_function, names_arguments, any_names_arguments}
-use Rattle.mini_kept.specs.KeepsNames.{is_statement_use}
 use Rattle.mini_shrink.specs.Pace.{Silent, reads_if, followed, ends_after, Setting, below, pace}
 use Rattle.mini_shrink.specs.Questions.{Own, finds, early}
 use Rattle.mini_rows.specs.Lists.{binding, declaration, declarator, bare_declarators, declared_bare, left_behind, is_unscoped, Row77Unreached}
@@ -25,7 +24,7 @@ use Rattle.mini_rows.proofs.Arranging.{All}
 use Rattle.mini_less.specs.Families.{NeighboursLess}
 use Rattle.mini_less.specs.Neighbours.{of_items, items_say}
 use Rattle.mini_less.specs.TellsLists.{Every, Names, TellsLists}
-use Rattle.mini_less.proofs.ByLists.{hoisted, lacks_var, of_every, calm_var, of_each}
+use Rattle.mini_less.proofs.ByLists.{lacks_vars, calm_vars}
 use Rattle.mini_less.proofs.Finding.{Lacks, setting}
 use Rattle.mini_less.proofs.Flags.{none_of, unlike}
 use Rattle.mini_less.proofs.HoistedNames.{hoisted_sparing}
@@ -111,19 +110,17 @@ left_stretch t u = record {
   asked = λ strict f c r env x o p z.
       let k = with_belongs c in
       let there = inside o p k env in
-      let su = ap is_statement_use r in
       less_by (say o p.plainly z x c env (left_behind t)) (say o p.plainly z x c env (t ▸ none))
       (λ y. of_lacks o p.plainly z x c env (left_behind t)
-      (left_made (Lacks o p.plainly k env) (λ d. finds o (around o p k env) env d ≡ false) (λ ds a. lacks_var o p k env su AsWholeItem (hoisted k.used su) ds (of_every o p k env su ds a)) (λ x. o there (env ++ []) shape.BindingIdentifier (x ∷ []) 0 none ≡ false) (declarator_lacks o p k env) (names_of declared.Hoisted t)
+      (left_made (Lacks o p.plainly k env) (λ d. finds o (around o p k env) env d ≡ false) (lacks_vars o p k env r) (λ x. o there (env ++ []) shape.BindingIdentifier (x ∷ []) 0 none ≡ false) (declarator_lacks o p k env) (names_of declared.Hoisted t)
       (p.left (setting o p.plainly k env AsWholeItem) env t (to_lacks o p.plainly z x c env (t ▸ none) y).0 there (env ++ []) refl refl)))
       (none_ended o p.plainly z x c env (t ▸ none));
   in_order = λ strict f c r env x b s.
       let k = with_belongs c in
-      let su = ap is_statement_use r in
       let first = items_say (early b s) (of_items x c) env (t ▸ none) in
       through (items_say (early b s) (of_items x c) env (left_behind t)) (loosely b s c env (left_behind t)) first (loosely_more b s c env x (left_behind t))
       (less_by (loosely b s c env (left_behind t)) first
-      (λ y. of_calm b s c env (left_behind t) (left_made (Calmly b s k env) (λ d. is_reads (pace (early b s) (around_early k) env d) ≡ false) (λ ds a. calm_var b s k env su AsWholeItem (hoisted k.used su) ds (of_each b s k env su ds a)) (λ x. Unit {0}) (λ x q. calm_declarator b s k env x) (names_of declared.Hoisted t) (whatever (names_of declared.Hoisted t))))
+      (λ y. of_calm b s c env (left_behind t) (left_made (Calmly b s k env) (λ d. is_reads (pace (early b s) (around_early k) env d) ≡ false) (calm_vars b s k env r) (λ x. Unit {0}) (λ x q. calm_declarator b s k env x) (names_of declared.Hoisted t) (whatever (names_of declared.Hoisted t))))
       (unscoped_ended b s c env x (t ▸ none) (λ j. u j && true)));
   evals = λ strict f y. evals_left (names_of declared.Hoisted t);
   arguments = λ strict f y. arguments_left (names_of declared.Hoisted t) (hoisted_sparing strict (one (a_statement f.depth)) t (first_fits strict f.depth t none f.fit) (none_of (names_arguments t) false y).0);

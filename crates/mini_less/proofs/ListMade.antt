@@ -19,7 +19,7 @@ use Rattle.mini_laws.specs.Resolved.{Environment}
 use Rattle.mini_laws.specs.ScopeList.{has_eval, any_has_eval, is_eval_callee, by_symbol}
 use Rattle.mini_laws.specs.Shared.{names_arguments}
 use Rattle.mini_laws.specs.Value.{Variable, Declared}
-use Rattle.mini_kept.specs.KeepsNames.{is_used, is_statement_use}
+use Rattle.mini_kept.specs.KeepsNames.{is_used}
 use Rattle.mini_kept.specs.Placed.{is_statement_list, fits_place}
 use Rattle.mini_kept.proofs.Placed.{statements_slot}
 use Rattle.mini_shrink.specs.Pace.{Pace, followed, ends_after, AtMost, Setting, Question, pace}
@@ -72,7 +72,7 @@ module _ (b s : ℕ) (c : Setting) (env : Environment) (x : Bool) where
   never_ends t e = (λ j. x && (is_among (by_symbol s) (no_lexical t e j) || is_among (by_symbol s) (no_bound t e j))) ∙ and_nothing x
 
   -- an unscoped statement before others
-  one_says : (t : Tree) (ts : Trees) → is_unscoped t ≡ true → said (t ▸ ts) ≡ followed (ends_after false (loose t)) (said ts)
+  pub one_says : (t : Tree) (ts : Trees) → is_unscoped t ≡ true → said (t ▸ ts) ≡ followed (ends_after false (loose t)) (said ts)
   one_says t ts e = λ j. followed (ends_after (never_ends t e j) (unscoped_anywhere b s (of_items x c) x env t e j)) (said ts)
 
   to_calm : (ts : Trees) → are_unscoped ts ≡ true → is_reads (said ts) ≡ false → All (Calmly b s (with_belongs c) env) AsWholeItem ts
@@ -184,24 +184,28 @@ module _ (p : Position) (l : is_statement_list p ≡ true) (before after a d : T
         };
   }
 
--- where whatever holds of the parts passes on, and no lexical name is declared
-pub made_stretch : (a d : Trees) → are_unscoped a ≡ true → ListMade a d → StretchLess a d
-made_stretch a d unscoped made = record {
+-- where whatever holds of the parts passes on, and so does the order of reads
+pub made_in_order : (a d : Trees) → ListMade a d → ((strict : Bool) → Fits a strict → (c : Setting) → c.used ≡ Read → (env : Environment) (x : Bool) (b s : ℕ) → SaysLess a d (early b s) c env x) → StretchLess a d
+made_in_order a d made ordered = record {
   asked = λ strict f c r env x o t z.
       let k = with_belongs c in
       less_by (say o t.plainly z x c env d) (say o t.plainly z x c env a)
-      (λ y. of_lacks o t.plainly z x c env d (made strict f.depth f.fit (Lacks o t.plainly k env) (lacks_lists o t k env (ap is_statement_use r)) (to_lacks o t.plainly z x c env a y)))
+      (λ y. of_lacks o t.plainly z x c env d (made strict f.depth f.fit (Lacks o t.plainly k env) (lacks_lists o t k env r) (to_lacks o t.plainly z x c env a y)))
       (none_ended o t.plainly z x c env a);
-  in_order = λ strict f c r env x b s.
-      let k = with_belongs c in
-      let first = items_say (early b s) (of_items x c) env a in
-      through (items_say (early b s) (of_items x c) env d) (loosely b s c env d) first (loosely_more b s c env x d)
-      (less_by (loosely b s c env d) first (λ y. of_calm b s c env d (made strict f.depth f.fit (Calmly b s k env) (calm_lists b s k env (ap is_statement_use r)) (to_calm b s c env x a unscoped y)))
-      (unscoped_ended b s c env x a unscoped));
+  in_order = ordered;
   evals = λ strict f y. of_none has_eval any_has_eval evals_tell d (made strict f.depth f.fit (λ c t. has_eval t ≡ false) spared_lists (to_none has_eval any_has_eval evals_tell a y));
   arguments = λ strict f y. of_none names_arguments any_names names_tell d (made strict f.depth f.fit (λ c t. names_arguments t ≡ false) names_lists (to_none names_arguments any_names names_tell a y));
   numbers = λ strict f b y. of_none (has_number (suc b)) (any_has_number (suc b)) (numbers_tell (suc b)) d (made strict f.depth f.fit (λ c t. has_number (suc b) t ≡ false) (numbers_lists b) (to_none (has_number (suc b)) (any_has_number (suc b)) (numbers_tell (suc b)) a y));
 }
+
+-- where no lexical name is declared it does
+pub made_stretch : (a d : Trees) → are_unscoped a ≡ true → ListMade a d → StretchLess a d
+made_stretch a d unscoped made = made_in_order a d made (λ strict f c r env x b s.
+    let k = with_belongs c in
+    let first = items_say (early b s) (of_items x c) env a in
+    through (items_say (early b s) (of_items x c) env d) (loosely b s c env d) first (loosely_more b s c env x d)
+    (less_by (loosely b s c env d) first (λ y. of_calm b s c env d (made strict f.depth f.fit (Calmly b s k env) (calm_lists b s k env r) (to_calm b s c env x a unscoped y)))
+    (unscoped_ended b s c env x a unscoped)))
 
 pub made_list_less : (p : Position) → is_statement_list p ≡ true → (before after a d : Trees) (n w : Tree) → n ≡ listed (append before (append a after)) → w ≡ listed (append before (append d after)) → are_unscoped a ≡ true → ListMade a d → LessAt p n w
 made_list_less p l before after a d n w m v unscoped made = stretch_less p l before after a d n w m v (made_stretch a d unscoped made)

@@ -30,11 +30,11 @@ use Rattle.mini_laws.specs.Foreign.{is_write, is_body_by, own_lexical}
 use Rattle.mini_laws.specs.Value.{Declared}
 use Rattle.mini_kept.specs.KeepsNames.{Stands, is_read, is_statement_use}
 use Rattle.mini_shrink.specs.Pace.{Pace, Ends, Silent, Reads, followed, ends_after, all_followed, in_turn, Setting, below, AtMost, reads_if, Question, pace, paces}
-use Rattle.mini_shrink.specs.Questions.{Own, asks, finds, finds_each, any_of, mentions_such, gives_such, pattern_gives, names_at, switched_at, pattern_at, caught_at, arguments_at, params_at, seen_from, seen_at, lexical_at, hands_on, listed_names, early}
+use Rattle.mini_shrink.specs.Questions.{Own, asks, finds, finds_each, any_of, mentions_such, gives_such, either_of, sets_such, pattern_gives, names_at, switched_at, pattern_at, caught_at, arguments_at, params_at, seen_from, seen_at, lexical_at, hands_on, listed_names, early}
 use Rattle.mini_shrink.specs.Shrinking.{AsksLess}
 use Rattle.mini_shrink.specs.Facts.{Written, WrittenElsewhere, Given, GivenElsewhere, GivenByPattern, MentionedElsewhere, BoundElsewhere, IsLexical, IsSwitched, InPattern, UnderCatch, ByArguments, ByEval, AmongParameters, ReadEarly}
 use Rattle.mini_shrink.proofs.Finding.{pace_is}
-use Rattle.mini_shrink.proofs.Owns.{implied}
+use Rattle.mini_shrink.proofs.Owns.{implied, or_implied}
 use Rattle.mini_rows.specs.Lists.{is_unscoped_shape, is_unscoped}
 use Rattle.mini_rows.specs.Sketches.{Head, AList, If, Block, shape_by, is_statement_asked, Sketch, part, under, list, Parts, filled, all_filled, Asked, AsValue, asked_below, use_by, leaps, Free, rearranges_expression, is_rearranged, parts_of, stands_well, is_expression_head, is_expression}
 use Rattle.mini_rows.specs.Arranged.{AreLoose}
@@ -46,6 +46,7 @@ use Rattle.mini_rows.proofs.ArrangedPlain.{is_plain}
 use Rattle.mini_rows.proofs.ArrangedUses.{statement_use}
 use Rattle.mini_rows.proofs.StatementUses.{same_scopes, same_use}
 use Rattle.mini_rows.proofs.ArrangedValues.{is_value, Valued, head_valued}
+use Rattle.mini_less.proofs.Flags.{none_of}
 use Rattle.mini_less.proofs.Finding.{body_by, no_body, around_same, strict_same, belongs_same, no_body_below, not_list, expressions_find_less}
 
 -- ---- each fact
@@ -143,6 +144,22 @@ gives_anyhow p c v h xs ts e = refl
 
 pub gives_plainly : (p : Mention → Bool) → TellsPlainly (gives_such p)
 gives_plainly p = record { property = λ c env k m s b ts. refl; looped = λ c env f i j ts us e h g. absurd (true≢false (sym g ∙ ap (λ xs. list_any p (map (write_at c.around) xs)) (loop_gives c.used f (j ▸ us)))); updated = λ c env x e f. e; plain = λ c env h ts q. gives_no p c h ts; moved = λ c v b env h xs n ts e. gives_anyhow p c v h xs ts e }
+
+-- what is so of two questions is so of either
+pub either_plainly : (o r : Own) → TellsPlainly o → TellsPlainly r → TellsPlainly (either_of o r)
+either_plainly o r a b = record {
+  plain = λ c env h ts q j. a.plain c env h ts q j || b.plain c env h ts q j;
+  moved = λ c v d env h xs n ts e j. a.moved c v d env h xs n ts e j || b.moved c v d env h xs n ts e j;
+  property = λ c env k m s d ts j. a.property c env k m s d ts j || b.property c env k m s d ts j;
+  looped = λ c env f i j ts us e h. or_implied _ _ _ _ (a.looped c env f i j ts us e h) (b.looped c env f i j ts us e h);
+  updated = λ c env x e f.
+      let (written, assigned) = none_of _ _ e in
+      let (said, read) = none_of _ _ f in
+      λ j. a.updated c env x written said j || b.updated c env x assigned read j;
+}
+
+pub sets_plainly : (p : Mention → Bool) → Updates p → TellsPlainly (sets_such p)
+sets_plainly p u = either_plainly (mentions_such p) (gives_such p) (mentions_plainly p u) (gives_plainly p)
 
 pattern_no : (c : Setting) (env : Environment) (h : Head) (ts : Trees) → own_pattern_writes c.used env (shape_by h) ts ≡ []
 pattern_no c env AList ts = refl
@@ -542,8 +559,8 @@ module _ (f : Free) (ps : Parts) (u : AreLoose ps f) (q : Seat) (n w : Tree) whe
 pub arranged_asks_less : ArrangedAsksLess
 arranged_asks_less f ps u s r e q n w a b Written c k = asks_less f ps u q n w (mentions_such (is_write (by_symbol k))) (mentions_plainly (is_write (by_symbol k)) (λ x a e f. e)) (λ c b d env h xs n ts. refl) k s r e a b
 arranged_asks_less f ps u s r e q n w a b WrittenElsewhere c k = asks_less f ps u q n w _ (mentions_plainly (λ m. is_write (by_symbol k) m && is_elsewhere c m.around) (λ x a e f. e)) (λ c b d env h xs n ts. refl) k s r e a b
-arranged_asks_less f ps u s r e q n w a b Given c k = asks_less f ps u q n w _ (gives_plainly (is_write (by_symbol k))) (λ c b d env h xs n ts. refl) k s r e a b
-arranged_asks_less f ps u s r e q n w a b GivenElsewhere c k = asks_less f ps u q n w _ (gives_plainly (λ m. is_write (by_symbol k) m && is_elsewhere c m.around)) (λ c b d env h xs n ts. refl) k s r e a b
+arranged_asks_less f ps u s r e q n w a b Given c k = asks_less f ps u q n w _ (sets_plainly (is_write (by_symbol k)) (λ x a e f. e)) (λ c b d env h xs n ts. refl) k s r e a b
+arranged_asks_less f ps u s r e q n w a b GivenElsewhere c k = asks_less f ps u q n w _ (sets_plainly (λ m. is_write (by_symbol k) m && is_elsewhere c m.around) (λ x a e f. e)) (λ c b d env h xs n ts. refl) k s r e a b
 arranged_asks_less f ps u s r e q n w a b MentionedElsewhere c k = asks_less f ps u q n w _ (mentions_plainly (λ m. same_variable (by_symbol k) m.name && is_elsewhere c m.around) (λ x a e f. e)) (λ c b d env h xs n ts. refl) k s r e a b
 arranged_asks_less f ps u s r e q n w a b BoundElsewhere c k = asks_less f ps u q n w _ (mentions_plainly (λ m. same_variable (by_symbol k) m.name && m.binds && is_elsewhere c m.around) (λ x a e f. e)) (λ c b d env h xs n ts. refl) k s r e a b
 arranged_asks_less f ps u s r e q n w a b IsLexical c k = lexical_less f ps u q n w k s r e a b

@@ -1,10 +1,9 @@
 -- Rows of lists of which each asks less, beside those on neighbours without loops.
-use Rattle.std.specs.Prelude.{◌≡◌, ◌⊎◌, true}
+use Rattle.std.specs.Prelude.{◌≡◌, true}
 use Rattle.mini_model.specs.declared.place.Position.{Position}
-use Rattle.mini_model.specs.declared.place.Position.TheVariants.{StatementList, BodyList}
-use Rattle.mini_model.specs.Tree.{Tree, Trees}
+use Rattle.mini_model.specs.Tree.{Tree}
 use Rattle.mini_kept.specs.Placed.{is_statement_list}
-use Rattle.mini_rows.specs.Lists.{Row67, Row67Absent, Row67In, Row68, Row68Free, Row68Init, Row74, Row75, Row75Block, Row77Leap, Row77Unreached, StretchRow, GuardsRow, EndRow, bare_return, InList, AtEnd}
+use Rattle.mini_rows.specs.Lists.{Row67, Row67Absent, Row67In, Row68, Row68Free, Row68Init, Row74, Row75, Row75Block, Row77Leap, Row77Unreached, Each, Row69, Row70, bare_return, AtEnd, ListRow, ListContracts}
 use Rattle.mini_rows.specs.Switches.{Switches}
 use Rattle.mini_shrink.specs.Facts.{ReadsLess}
 use Rattle.mini_less.specs.Families.{LessAt, NeighboursLess}
@@ -24,14 +23,11 @@ pub record HeadRowsLess : Type 0 where
   pub row_77_leap : NeighboursLess Row77Leap
   pub row_77_unreached : NeighboursLess Row77Unreached
 
--- the rows of lists but 69 and 70, which write a declarator that gives a value for an assignment
-abbrev pub LeanNeighbourRow : Switches → Trees → Trees → Type 0
-LeanNeighbourRow o a b = StretchRow o a b ⊎ GuardsRow o a b
+-- 69 and 70, which write a declarator that gives a value for an assignment
+pub record EnterRowsLess : Type 0 where
+  pub row_69 : (k : Each) → NeighboursLess (Row69 k)
+  pub row_70 : NeighboursLess Row70
 
-abbrev pub LeanListRow : Switches → Position → Tree → Tree → Type 0
-LeanListRow o StatementList n w = InList (LeanNeighbourRow o) n w
-LeanListRow o BodyList n w = InList (LeanNeighbourRow o) n w ⊎ AtEnd (EndRow o bare_return) n w
-LeanListRow o _ n w = ⊥
-
-abbrev pub LeanListsReadLess : Type 0
-LeanListsReadLess = (o : Switches) → ReadsLess (LeanListRow o)
+-- all rows of lists, also where what they write doesn't weigh less
+abbrev pub ListsReadLess : Type 0
+ListsReadLess = (o : Switches) → ReadsLess (ListRow o) × ReadsLess (ListContracts o)

@@ -8,7 +8,7 @@ ghost use Rattle.mini_less.specs.BodyEnds.{BodyEndsLess};
 ghost use Rattle.mini_less.specs.HeldKeys.{HeldKeysReadLess};
 ghost use Rattle.mini_less.specs.Names.{NamesReadLess, CatchesReadLess};
 ghost use Rattle.mini_less.specs.Own.{SteadyReadsLess, LexicalReadsLess, PastBlocksReadLess};
-ghost use Rattle.mini_less.specs.ListFamilies.{HeadRowsLess, LeanListsReadLess};
+ghost use Rattle.mini_less.specs.ListFamilies.{HeadRowsLess, EnterRowsLess, ListsReadLess};
 ghost use Rattle.mini_less.specs.Rebuilt.{ListsAskLess, StatementsAskLess};
 
 use mini_laws::Rewrites;
@@ -174,8 +174,12 @@ pub fn head_rows_less()
     ensures { HeadRowsLess }
 {}
 
-/// All rows of lists as one relation, but 69 and 70, by which a declarator gives a value that an
-/// assignment gave.
-pub fn lean_lists_read_less()
-    ensures { LeanListsReadLess }
+/// Rows of lists on a `var` and a statement that writes its name first: 69, 70.
+pub fn enter_rows_less()
+    ensures { EnterRowsLess }
+{}
+
+/// All rows of lists.
+pub fn lists_read_less()
+    ensures { ListsReadLess }
 {}

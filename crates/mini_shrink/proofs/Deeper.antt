@@ -27,7 +27,7 @@ use Rattle.mini_kept.specs.KeepsShapes.{KeepsShapes}
 use Rattle.mini_kept.proofs.LooseScopes.{AllKeep}
 use Rattle.mini_shrink.specs.Pace.{reads_if, Setting}
 use Rattle.mini_shrink.specs.Shrinking.{SameFound, LooksUp, OwnShrinks}
-use Rattle.mini_shrink.specs.Questions.{asks, mentions_such, gives_such, pattern_gives, names_at, arguments_at, seen_from, seen_at}
+use Rattle.mini_shrink.specs.Questions.{asks, mentions_such, sets_such, pattern_gives, names_at, arguments_at, seen_from, seen_at}
 use Rattle.mini_shrink.proofs.Fitting.{AsksFewerThere}
 use Rattle.mini_shrink.proofs.Owns.{implied, or_implied, and_implied, if_implied, any_map, names_shrink, arguments_less, evals_less}
 
@@ -42,8 +42,8 @@ mentions_look_up p = record { before = λ c env env' f h xs n ts. refl }
 pub seen_looks_up : (s : ℕ) → LooksUp (asks (seen_at s))
 seen_looks_up s = record { before = λ c env env' f h xs n ts. refl }
 
-pub gives_look_up : (p : Mention → Bool) → LooksUp (asks (gives_such p))
-gives_look_up p = record { before = λ c env env' f h xs n ts. refl }
+pub sets_look_up : (p : Mention → Bool) → LooksUp (asks (sets_such p))
+sets_look_up p = record { before = λ c env env' f h xs n ts. refl }
 
 same_found : (env env' : Environment) → SameFound env env' → (ys : List Name) → map (with_symbol Read env) ys ≡ map (with_symbol Read env') ys
 same_found env env' f [] = refl
@@ -170,10 +170,10 @@ module _ (R : Position → Tree → Tree → Type 0) (shapes : KeepsShapes R) wh
   given_less g v shape.VariableDeclarator xs π _ _ k (later _ t _ _ (later _ i ts us z)) e = e
   given_less g v h xs π ts us k z e = absurd (true≢false (sym e))
 
-  pub gives_shrink : (p : Mention → Bool) → OwnShrinks R (asks (gives_such p))
-  gives_shrink p = record {
-    before = λ o c env h xs n ts us z. implied (list_any p (map (write_at c.around) (given_values c.used h xs us))) (list_any p (map (write_at c.around) (given_values c.used h xs ts)))
-        (λ e. any_map p (write_at c.around) (given_values c.used h xs ts) ∙ given_less (λ y. p (write_at c.around y)) c.used h xs (child_position h o (count ts)) ts us z.kept z.step (sym (any_map p (write_at c.around) (given_values c.used h xs us)) ∙ e));
+  pub sets_shrink : (p : Mention → Bool) → OwnShrinks R (asks (sets_such p))
+  sets_shrink p = record {
+    before = λ o c env h xs n ts us z. implied (sets_such p c env h xs n us) (sets_such p c env h xs n ts)
+        (or_implied _ _ _ _ (λ e. e) λ e. any_map p (write_at c.around) (given_values c.used h xs ts) ∙ given_less (λ y. p (write_at c.around y)) c.used h xs (child_position h o (count ts)) ts us z.kept z.step (sym (any_map p (write_at c.around) (given_values c.used h xs us)) ∙ e));
     orders = λ o c h ts us z. refl;
     ends = λ c t u z. refl;
   }

@@ -34,7 +34,7 @@ use Rattle.mini_shrink.proofs.Fitting.{Fitting, AsksFewerThere, fewer_there, nam
 use Rattle.mini_shrink.proofs.Paces.{itself, through}
 use Rattle.mini_shrink.proofs.Lifting.{step_less}
 use Rattle.mini_shrink.proofs.Owns.{lexical_shrinks, pattern_shrinks, switched_shrinks, caught_shrinks, mentions_shrink, params_shrink}
-use Rattle.mini_shrink.proofs.Deeper.{names_look_up, mentions_look_up, seen_looks_up, gives_look_up, pattern_gives_looks_up, seen_shrinks, arguments_shrink, gives_shrink, pattern_gives_shrink}
+use Rattle.mini_shrink.proofs.Deeper.{names_look_up, mentions_look_up, seen_looks_up, sets_look_up, pattern_gives_looks_up, seen_shrinks, arguments_shrink, sets_shrink, pattern_gives_shrink}
 
 -- ---- the order of reads and declarations
 
@@ -59,8 +59,8 @@ listed_same h π ts us k = refl
 pub looks_up : (f : Fact) (b s : ℕ) → LooksUp (question f b s)
 looks_up Written b s = mentions_look_up (is_write (by_symbol s))
 looks_up WrittenElsewhere b s = mentions_look_up (λ m. is_write (by_symbol s) m && is_elsewhere b m.around)
-looks_up Given b s = gives_look_up (is_write (by_symbol s))
-looks_up GivenElsewhere b s = gives_look_up (λ m. is_write (by_symbol s) m && is_elsewhere b m.around)
+looks_up Given b s = sets_look_up (is_write (by_symbol s))
+looks_up GivenElsewhere b s = sets_look_up (λ m. is_write (by_symbol s) m && is_elsewhere b m.around)
 looks_up MentionedElsewhere b s = mentions_look_up (λ m. same_variable (by_symbol s) m.name && is_elsewhere b m.around)
 looks_up BoundElsewhere b s = mentions_look_up (λ m. same_variable (by_symbol s) m.name && m.binds && is_elsewhere b m.around)
 looks_up IsLexical b s = names_look_up lexical_at s
@@ -84,8 +84,8 @@ module _ (R : Position → Tree → Tree → Type 0) where
   pub own_shrinks : KeepsShapes R → AsksFewerThere R → (f : Fact) (b s : ℕ) → OwnShrinks R (question f b s)
   own_shrinks k a Written b s = mentions_shrink R (is_write (by_symbol s))
   own_shrinks k a WrittenElsewhere b s = mentions_shrink R (λ m. is_write (by_symbol s) m && is_elsewhere b m.around)
-  own_shrinks k a Given b s = gives_shrink R k (is_write (by_symbol s))
-  own_shrinks k a GivenElsewhere b s = gives_shrink R k (λ m. is_write (by_symbol s) m && is_elsewhere b m.around)
+  own_shrinks k a Given b s = sets_shrink R k (is_write (by_symbol s))
+  own_shrinks k a GivenElsewhere b s = sets_shrink R k (λ m. is_write (by_symbol s) m && is_elsewhere b m.around)
   own_shrinks k a MentionedElsewhere b s = mentions_shrink R (λ m. same_variable (by_symbol s) m.name && is_elsewhere b m.around)
   own_shrinks k a BoundElsewhere b s = mentions_shrink R (λ m. same_variable (by_symbol s) m.name && m.binds && is_elsewhere b m.around)
   own_shrinks k a IsLexical b s = lexical_shrinks R s

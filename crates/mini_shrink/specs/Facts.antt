@@ -17,7 +17,7 @@ use Rattle.mini_kept.specs.KeepsShapes.{KeepsShapes}
 use Rattle.mini_kept.specs.Lifted.{KeepsNames}
 use Rattle.mini_kept.specs.Loosely.{undeclared}
 use Rattle.mini_shrink.specs.Pace.{AtMost, Question, pace}
-use Rattle.mini_shrink.specs.Questions.{asks, at_program, mentions_such, gives_such, pattern_gives, names_at, lexical_at, switched_at, pattern_at, caught_at, arguments_at, params_at, seen_at, early}
+use Rattle.mini_shrink.specs.Questions.{asks, at_program, mentions_such, sets_such, pattern_gives, names_at, lexical_at, switched_at, pattern_at, caught_at, arguments_at, params_at, seen_at, early}
 use Rattle.mini_shrink.specs.Shrinking.{AsksLess, AsksFewer}
 
 -- of a symbol, and of a body
@@ -25,9 +25,10 @@ pub data Fact : Type 0 where
   -- a node writes it, in any body or in another than this
   Written : Fact
   WrittenElsewhere : Fact
-  -- a `var` gives it a value, in any body or in another; or a pattern of a `var` does
+  -- a node writes it or a `var` gives it a value, in any body or in another
   Given : Fact
   GivenElsewhere : Fact
+  -- a pattern of a `var` gives it a value
   GivenByPattern : Fact
   -- another body mentions it, or declares it
   MentionedElsewhere : Fact
@@ -48,8 +49,8 @@ pub data Fact : Type 0 where
 abbrev pub question : Fact → ℕ → ℕ → Question
 question Written b s = asks (mentions_such (is_write (by_symbol s)))
 question WrittenElsewhere b s = asks (mentions_such (λ m. is_write (by_symbol s) m && is_elsewhere b m.around))
-question Given b s = asks (gives_such (is_write (by_symbol s)))
-question GivenElsewhere b s = asks (gives_such (λ m. is_write (by_symbol s) m && is_elsewhere b m.around))
+question Given b s = asks (sets_such (is_write (by_symbol s)))
+question GivenElsewhere b s = asks (sets_such (λ m. is_write (by_symbol s) m && is_elsewhere b m.around))
 question MentionedElsewhere b s = asks (mentions_such (λ m. same_variable (by_symbol s) m.name && is_elsewhere b m.around))
 question BoundElsewhere b s = asks (mentions_such (λ m. same_variable (by_symbol s) m.name && m.binds && is_elsewhere b m.around))
 question IsLexical b s = asks (names_at lexical_at s)

@@ -54,6 +54,14 @@ mentions_such p c env h xs n ts = list_any p (own_mentions c.used c.around h xs)
 abbrev pub gives_such : (Mention → Bool) → Own
 gives_such p c env h xs n ts = list_any p (map (write_at c.around) (given_values c.used h xs ts))
 
+-- either of two
+abbrev pub either_of : Own → Own → Own
+either_of o r c env h xs n ts = o c env h xs n ts || r c env h xs n ts
+
+-- a node writes it, or a `var` gives it a value
+abbrev pub sets_such : (Mention → Bool) → Own
+sets_such p = either_of (mentions_such p) (gives_such p)
+
 -- a pattern of a `var` gives a value to the innermost variable of a name
 abbrev pub pattern_gives : ℕ → Own
 pattern_gives s c env h xs n ts = is_among (by_symbol s) (own_pattern_writes c.used env h ts)

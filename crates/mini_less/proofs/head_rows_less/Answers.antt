@@ -1,4 +1,4 @@
-use Rattle.mini_less.proofs.LeanLists as law
+use Rattle.mini_less.proofs.Lists as law
 use Rattle.mini_less.proofs.head_rows_less.Goals as goal
 
 pub returns : goal.returns
