@@ -142,9 +142,11 @@ module _ (o : Own) (t : TellsLists o) (c : Setting) (env : Environment) (r : c.u
         let b = below false (at u) (shape.VariableDeclaration k) 0 0 in
         let later = env ++ opened (use_by c.used u) (shape.VariableDeclaration k) (listed ds ▸ none) 0 in
         let (x, y) = none_of (o (at u) env (shape.VariableDeclaration k) [] 0 (listed ds ▸ none)) (finds o b later (listed ds) || false) a in
-        let (z, w) = none_of (finds o b later (listed ds)) false y in
-        (x, all_of Any (Declares v) AsWholeItem 0 ds ((lacks_local o t.plainly (declaring v c) env).down AList AsWholeList ds tt
-        (subst (λ s. finds o s env (listed ds) ≡ false) around_declarators (subst (λ r. finds o b r (listed ds) ≡ false) (no_scope ds) z))).1)
+        let (z, w) = none_of (finds o b later (listed ds)) false y in (
+          x,
+          all_of Any (Declares v) AsWholeItem 0 ds ((lacks_local o t.plainly (declaring v c) env).down AList AsWholeList ds tt
+              (subst (λ s. finds o s env (listed ds) ≡ false) around_declarators (subst (λ r. finds o b r (listed ds) ≡ false) (no_scope ds) z))).1,
+        )
 
     lacks_var : (ds : Trees) → o (at u) env (shape.VariableDeclaration k) [] 0 (listed ds ▸ none) ≡ false → All (Declares v) AsWholeItem ds → Q u (declaration k ds)
     unfolding finds
@@ -226,6 +228,7 @@ module _ (o : Own) (t : TellsLists o) (c : Setting) (env : Environment) (r : c.u
       let (x, (y, z)) = var_lacks kind AsWholeItem (declared_use kind) used closed (declarator id d ▸ ds) a in
       let (value, again) = valued_lacks (declared_use kind) id d e same y in
       (value, λ q. lacks_var kind AsWholeItem (declared_use kind) used closed (declarator id e ▸ ds) (t.initialised (at AsWholeItem) env kind id d e ds r x) (again q, z))
+
   to_every : (ds : Trees) → All (Declares Hoisted) AsWholeItem ds → Every (Declares Hoisted AsWholeItem) ds
   to_every none a = tt
   to_every (d ▸ ds) a = (a.0, to_every ds a.1)
