@@ -59,12 +59,14 @@ OrGone q x c env n w = AtMost (pace q c env w) (pace q c env n) ⊎ LessOften c.
 pub record AsksLess (q : Question) (x : Variable) (p : Position) (n w : Tree) : Type 0 where
   pub by : (strict : Bool) (s : Slot) → fits_place p s ≡ true → fits strict s n ≡ true → (c : Setting) (env : Environment) → Stands p c.used n → Scoped c.used env n → OrGone q x c env n w
 
--- the end of a declaration in a node isn't seen outside, but that in the whole is
+-- What is seen around a node at a place: no end of a declaration, which is told in its scope. Of a
+-- whole program it is all that is told
 abbrev pub seen_around : Position → Pace → Pace
 seen_around Elsewhere p = p
 seen_around q p = kept_in p
 
--- so it is of what is seen around the node
+-- what is written for a node shows at most what it did around it, or a scope that declares the
+-- variable goes
 abbrev pub LessAround : Question → Variable → Position → Setting → Environment → Tree → Tree → Type 0
 LessAround q x p c env n w = AtMost (seen_around p (pace q c env w)) (seen_around p (pace q c env n)) ⊎ LessOften c.used x n w
 
