@@ -33,6 +33,7 @@ use Rattle.mini_less.specs.Arrows.{ArrowsReadLess}
 use Rattle.mini_less.specs.Families.{LessAt}
 use Rattle.mini_less.proofs.Calm.{Quiets, each_quiets}
 use Rattle.mini_less.proofs.LessRows.{reads_less_by}
+use Rattle.mini_less.proofs.Shown.{shows_all}
 
 -- ---- the value that is returned is an expression
 
@@ -262,10 +263,10 @@ arrow_less q n w r =
     let v = r.value in
     let quiet : (strict : Bool) (s : Slot) → fits strict s n ≡ true → IsQuiet v = λ strict s fit. value_quiet k ps v r.there strict s (subst (λ t. fits strict s t ≡ true) r.shape fit) in
     record {
-      asks = λ i m d. record {
+      asks = shows_all _ _ _ (λ i m d. record {
         by = λ strict slot o fit c env st sc.
             inl (same (pace (question i m d) c env w) (pace (question i m d) c env n) (ap (pace (question i m d) c env) r.written ∙ arrow_same k ps v (quiet strict slot fit) i m d c env ∙ sym (ap (pace (question i m d) c env) r.shape)));
-      };
+      });
       fewer = λ strict slot o fit. record {
         eval = λ e. ap has_eval r.shape ∙ arrow_eval k ps v (quiet strict slot fit) (sym (ap has_eval r.written) ∙ e);
         flags = record {

@@ -3,7 +3,7 @@
 use Rattle.std.specs.Prelude.{ℕ, ◌≡◌, refl, Bool, true, false, ◌&&◌}
 use Rattle.std.proofs.Common.{ap, ◌∙◌, sym, subst, true≢false}
 use Rattle.std.proofs.lemmas.Bool.{and_parts}
-use Rattle.mini_accept.specs.WellShaped.{Depth, nested, a_statement, a_case, an_init, a_loop_left, an_expression, one, one_or_absent, many, each, fill, fits}
+use Rattle.mini_accept.specs.WellShaped.{Depth, a_statement, a_loop_left, an_expression, one, each, fill, fits}
 use Rattle.mini_model.specs.declared.kind.VariableDeclarationKind.{VariableDeclarationKind}
 use Rattle.mini_model.specs.declared.kind.VariableDeclarationKind.TheVariants.{Var, Let, Const}
 use Rattle.mini_model.specs.declared.name.Name.{Name}
@@ -12,10 +12,8 @@ use Rattle.mini_model.specs.declared.shape.Shape.TheVariants as shape
 use Rattle.mini_model.specs.Paths.{append}
 use Rattle.mini_model.specs.Tree.{Tree, Trees, node, none, ◌▸◌, listed, absent, is_absent, identifier, shape_of}
 use Rattle.mini_laws.specs.DeclaredNames.{names_of}
-use Rattle.mini_laws.specs.Mentions.{is_among}
 use Rattle.mini_laws.specs.Naming.{is_lexical}
 use Rattle.mini_laws.specs.Resolved.{Environment}
-use Rattle.mini_laws.specs.ScopeList.{by_symbol}
 use Rattle.mini_laws.specs.declared.names.Use.TheVariants.{Read}
 use Rattle.mini_shrink.specs.Pace.{Pace, Ends, Silent, Reads, followed, ends_if, ends_after, AtMost, Setting, pace}
 use Rattle.mini_shrink.specs.Questions.{early}
@@ -183,7 +181,7 @@ module _ (kind : VariableDeclarationKind) (scoped : is_lexical kind ≡ true) (d
   abbrev u : Tree
   u = declarator id (of_parts q qs)
 
-  module _ (present : false ≡ is_absent (of_parts q qs)) (b n : ℕ) (c : Setting) (r : c.used ≡ Read) (env : Environment) (o : Bool) where
+  module _ (b n : ℕ) (c : Setting) (r : c.used ≡ Read) (env : Environment) (o : Bool) where
     abbrev k : Setting
     k = with_belongs c
 
@@ -235,8 +233,8 @@ module _ (kind : VariableDeclarationKind) (scoped : is_lexical kind ≡ true) (d
 -- ---- each
 
 stretch_70 : (ds : Trees) (x : Name) (v : Tree) (es : Trees) (b : Beginning) (well : begins_well b ≡ true) → StretchLess (two ds x v es b) (put ds x v es b)
-stretch_70 ds x v es (Before (Declaring Let id cs) q qs) well = made_in_order (two ds x v es (Before (Declaring Let id cs) q qs)) (put ds x v es (Before (Declaring Let id cs) q qs)) (given_made ds x v es (Before (Declaring Let id cs) q qs) well) (λ strict f c r env o b n. scoped_in_order Let refl ds x v es id cs q qs (rest_there q qs well) b n c r env o)
-stretch_70 ds x v es (Before (Declaring Const id cs) q qs) well = made_in_order (two ds x v es (Before (Declaring Const id cs) q qs)) (put ds x v es (Before (Declaring Const id cs) q qs)) (given_made ds x v es (Before (Declaring Const id cs) q qs) well) (λ strict f c r env o b n. scoped_in_order Const refl ds x v es id cs q qs (rest_there q qs well) b n c r env o)
+stretch_70 ds x v es (Before (Declaring Let id cs) q qs) well = made_in_order (two ds x v es (Before (Declaring Let id cs) q qs)) (put ds x v es (Before (Declaring Let id cs) q qs)) (given_made ds x v es (Before (Declaring Let id cs) q qs) well) (λ strict f c r env o b n. scoped_in_order Let refl ds x v es id cs q qs b n c r env o)
+stretch_70 ds x v es (Before (Declaring Const id cs) q qs) well = made_in_order (two ds x v es (Before (Declaring Const id cs) q qs)) (put ds x v es (Before (Declaring Const id cs) q qs)) (given_made ds x v es (Before (Declaring Const id cs) q qs) well) (λ strict f c r env o b n. scoped_in_order Const refl ds x v es id cs q qs b n c r env o)
 stretch_70 ds x v es (Before (Declaring Var id cs) q qs) well = made_stretch (two ds x v es (Before (Declaring Var id cs) q qs)) (put ds x v es (Before (Declaring Var id cs) q qs)) refl (given_made ds x v es (Before (Declaring Var id cs) q qs) well)
 stretch_70 ds x v es Alone well = made_stretch (two ds x v es Alone) (put ds x v es Alone) refl (given_made ds x v es Alone well)
 stretch_70 ds x v es (Init t u w) well = made_stretch (two ds x v es (Init t u w)) (put ds x v es (Init t u w)) refl (given_made ds x v es (Init t u w) well)

@@ -21,6 +21,7 @@ use Rattle.mini_rows.specs.KeyHolders.{Holder, a_binding, a_target, a_method, a_
 use Rattle.mini_rows.specs.Spellings.{key}
 use Rattle.mini_less.specs.Families.{LessAt}
 use Rattle.mini_less.proofs.Calm.{is_calm_shape, calm_bare, calm_passing, bare_scopes, bare_turn, bare_calls, bare_names, Quiets, each_quiets}
+use Rattle.mini_less.proofs.Shown.{shows_all}
 
 module _ (q : Question) (z : Quiets q) where
   abbrev pub Hushed : Tree → Type 0
@@ -134,10 +135,10 @@ module _ (h g : Shape) (s : Holds h g) (k l v : Tree) (y : IsQuietKey k) (x : Is
 
   pub holder_less : (p : Position) (n w : Tree) → n ≡ there → w ≡ put → ((b : ℕ) → has_number b l ≡ true → has_number b k ≡ true) → LessAt p n w
   holder_less p n w a b f = record {
-    asks = λ i m r. record {
+    asks = shows_all _ _ _ (λ i m r. record {
       by = λ strict slot o fit c env st sc.
           inl (same (pace (question i m r) c env w) (pace (question i m r) c env n) (ap (pace (question i m r) c env) b ∙ same_said (question i m r) (each_quiets i m r) c env ∙ sym (ap (pace (question i m r) c env) a)));
-    };
+    });
     fewer = λ strict slot o fit. record {
       eval = λ e. ap has_eval a ∙ sym same_eval ∙ sym (ap has_eval b) ∙ e;
       flags = record {

@@ -24,6 +24,7 @@ use Rattle.mini_less.proofs.Plainly.{arranged_asks_less}
 use Rattle.mini_less.proofs.Listing.{lists_ask_less}
 use Rattle.mini_less.proofs.Statements.{statements_ask_less, rebuilt_flags, rebuilt_flags_less}
 use Rattle.std.proofs.lemmas.Bool.{and_parts}
+use Rattle.mini_less.proofs.Shown.{shows_all}
 
 pub reads_less_by : (R : Position → Tree → Tree → Type 0) → ((p : Position) (n w : Tree) → R p n w → LessAt p n w) → ReadsLess R
 reads_less_by R f = record {
@@ -44,7 +45,7 @@ expression_rebuilds f h ss r e = (and_parts (is_expression r) (rebuilds f AsValu
 -- whose root is no mere part, and so is no name
 pub expression_less : (f : Free) (ps : Parts) → AreLoose ps f → (h : Head) (ss : Sketches) (g : Head) (rs : Sketches) → rearranges_expression f (under h ss) (under g rs) ≡ true → calls_no_more (under h ss) (under g rs) ≡ true → (q : Seat) (n w : Tree) → n ≡ filled ps (under h ss) → w ≡ filled ps (under g rs) → LessAt (Expr q) n w
 expression_less f ps u h ss g rs e k q n w a b = record {
-  asks = arranged_asks_less f ps u (under h ss) (under g rs) e q n w a b;
+  asks = shows_all _ _ _ (arranged_asks_less f ps u (under h ss) (under g rs) e q n w a b);
   fewer = λ strict slot o fit. record {
     eval = rebuilt_evals_less f ps u AsValue (under h ss) (under g rs) (expression_rebuilds f h ss (under g rs) e) k n w a b;
     flags = rebuilt_flags_less f ps u AsValue h ss (under g rs) (expression_rebuilds f h ss (under g rs) e) n w a b;
@@ -55,7 +56,7 @@ expression_less f ps u h ss g rs e k q n w a b = record {
 -- whose root is a part, where it isn't called, or is no name
 pub part_less : (f : Free) (ps : Parts) → AreLoose ps f → (h : Head) (ss : Sketches) (i : ℕ) → rearranges_expression f (under h ss) (part i) ≡ true → (q : Seat) (n w : Tree) → n ≡ filled ps (under h ss) → w ≡ filled ps (part i) → (Expr q ≡ Expr callee_seat → is_eval_callee w ≡ false) → LessAt (Expr q) n w
 part_less f ps u h ss i e q n w a b k = record {
-  asks = arranged_asks_less f ps u (under h ss) (part i) e q n w a b;
+  asks = shows_all _ _ _ (arranged_asks_less f ps u (under h ss) (part i) e q n w a b);
   fewer = λ strict slot o fit. record {
     eval = rebuilt_evals_less f ps u AsValue (under h ss) (part i) (expression_rebuilds f h ss (part i) e) refl n w a b;
     flags = rebuilt_flags_less f ps u AsValue h ss (part i) (expression_rebuilds f h ss (part i) e) n w a b;
@@ -65,7 +66,7 @@ part_less f ps u h ss i e q n w a b k = record {
 
 pub statement_less : (f : Free) (ps : Parts) → AreLoose ps f → (h : Head) (ss : Sketches) (g : Head) (rs : Sketches) → rebuilds f AsWhole (under h ss) (under g rs) ≡ true → calls_no_more (under h ss) (under g rs) ≡ true → (q : StmtSeat) (n w : Tree) → n ≡ filled ps (under h ss) → w ≡ filled ps (under g rs) → LessAt (Stmt q) n w
 statement_less f ps u h ss g rs e k q n w a b = record {
-  asks = statements_ask_less f ps u (under h ss) (under g rs) e q n w a b;
+  asks = shows_all _ _ _ (statements_ask_less f ps u (under h ss) (under g rs) e q n w a b);
   fewer = λ strict slot o fit. record {
     eval = rebuilt_evals_less f ps u AsWhole (under h ss) (under g rs) e k n w a b;
     flags = rebuilt_flags_less f ps u AsWhole h ss (under g rs) e n w a b;
@@ -139,7 +140,7 @@ list_less f ps u is js e y k p l before after a d i j n w m v =
     let evals = rebuilt_evals_less f ps u AsWholeList (list is) (list js) e k (listed a) (listed d) (ap listed i) (ap listed j) in
     let stretch : Trees → Trees = λ ts. append before (append ts after) in
     record {
-      asks = lists_ask_less f ps u is js e y p l before after a d i j n w m v;
+      asks = shows_all _ _ _ (lists_ask_less f ps u is js e y p l before after a d i j n w m v);
       fewer = λ strict slot o fit. record {
         eval = λ c. ap has_eval m ∙ list_evals (stretch a) ∙ over any_has_eval evals_add false before after a d (λ c. sym (list_evals a) ∙ evals (list_evals d ∙ c)) (sym (list_evals (stretch d)) ∙ sym (ap has_eval v) ∙ c);
         flags = record {

@@ -10,6 +10,7 @@ pub mod TurnsLess
 pub mod Ordered
 pub mod Listing
 pub mod TellingLists
+pub mod Shown
 pub mod LessRows
 pub mod ByLists
 pub mod ListMade

@@ -44,6 +44,7 @@ use Rattle.mini_less.proofs.Neighbours.{neighbours_ask_less}
 use Rattle.mini_less.proofs.Ordered.{unscoped_anywhere}
 use Rattle.mini_less.proofs.Plainly.{read, is_reads, is_ended, split, less_by, not_ended, Calmly}
 use Rattle.mini_less.proofs.TellingLists.{by_lists}
+use Rattle.mini_less.proofs.Shown.{shows_all}
 
 -- an unscoped statement binds no name itself
 no_bound : (t : Tree) → is_unscoped t ≡ true → names_of declared.Bound t ≡ []
@@ -169,9 +170,9 @@ module _ (p : Position) (l : is_statement_list p ≡ true) (before after a d : T
 
   pub stretch_less : LessAt p n w
   stretch_less = record {
-    asks = λ g b k. by_lists (λ q. AsksLess q (Declared k) p n w)
+    asks = shows_all _ _ _ (λ g b k. by_lists (λ q. AsksLess q (Declared k) p n w)
         (λ o t z. there (asks o) (asks_pass o t.plainly) (Declared k) (λ strict f c r env x. less.asked strict f c r env x o t z))
-        (λ b s. there (early b s) (early_passes b s) (Declared k) (λ strict f c r env x. less.in_order strict f c r env x b s)) g b k;
+        (λ b s. there (early b s) (early_passes b s) (Declared k) (λ strict f c r env x. less.in_order strict f c r env x b s)) g b k);
     fewer = λ strict s r g.
         let f = fits_there strict s r g in
         record {

@@ -32,6 +32,7 @@ use Rattle.mini_less.proofs.Finding.{Lacks, lacks_local, never, setting, setting
 use Rattle.mini_less.proofs.Flags.{spares_local, numbers_local, spares_below, below_spares, numbers_below, below_numbers, unlike}
 use Rattle.mini_less.proofs.Made.{ByParts, by_parts, Spared, spared_by_parts, spared_below, below_spared, lacks_updated, lacks_properties, lacks_moved, calm_moved, calm_updated, calm_properties, spares_properties, numbers_properties}
 use Rattle.mini_less.proofs.Plainly.{is_reads, is_ended, split, join, not_ended, less_by, Calmly, calm_local, calm_below, below_calm, standing, standing_below, none_ended, head_scope, later_scopes}
+use Rattle.mini_less.proofs.Shown.{shows_all}
 
 -- how the parts of a loop stand
 abbrev pub frame_asked : Frame → ℕ → Asked
@@ -340,7 +341,7 @@ module _ (q : StmtSeat) (n w : Tree) (f : Frame) (i j : Tree) (ts us : Trees) (a
 
   pub loop_less : LessAt (Stmt q) n w
   loop_less = record {
-    asks = λ g c k. by_fact (λ x. AsksLess x (Declared k) (Stmt q) n w) (λ o p z. less_loop (asks o) k (λ strict s fit c env. asked f i j ts us same head (made strict s fit) c env o p)) (λ m s. less_loop (early m s) k (λ strict s' fit c env. in_order f i j ts us same head (made strict s' fit) c env m s)) g c k;
+    asks = shows_all _ _ _ (λ g c k. by_fact (λ x. AsksLess x (Declared k) (Stmt q) n w) (λ o p z. less_loop (asks o) k (λ strict s fit c env. asked f i j ts us same head (made strict s fit) c env o p)) (λ m s. less_loop (early m s) k (λ strict s' fit c env. in_order f i j ts us same head (made strict s' fit) c env m s)) g c k);
     fewer = λ strict s o fit. record {
       eval = λ e. ap has_eval a ∙ frame_evals f (i ▸ ts) ∙ evals f i j ts us same head (made strict s fit) (sym (frame_evals f (j ▸ us)) ∙ sym (ap has_eval b) ∙ e);
       flags = record {

@@ -37,6 +37,7 @@ use Rattle.mini_less.proofs.Finding.{Lacks, lacks_local, lacks_anyhow, as_asked,
 use Rattle.mini_less.proofs.Flags.{none_of, leaping, spares_local, numbers_local, root_number}
 use Rattle.mini_less.proofs.Plainly.{alone, early_alone, read, is_ended, less_by, Calmly, calm_local, calm_anyhow, root_ended, standing}
 use Rattle.mini_less.proofs.Statements.{alone as anywhere}
+use Rattle.mini_less.proofs.Shown.{shows_all}
 
 -- no call, of which more is asked than of its parts: a direct eval is one of the name `eval`
 abbrev pub is_uncalled : Head → Bool
@@ -210,7 +211,7 @@ module _ (q : Seat) (n w : Tree) (h : Head) (ts : Trees) (e : is_expression_head
 
   pub made_less : (Expr q ≡ Expr callee_seat → is_eval_callee w ≡ false) → LessAt (Expr q) n w
   made_less called = record {
-    asks = λ g b k. by_value (λ y. AsksLess y (Declared k) (Expr q) n w) (asked k) (in_order k) g b k;
+    asks = shows_all _ _ _ (λ g b k. by_value (λ y. AsksLess y (Declared k) (Expr q) n w) (asked k) (in_order k) g b k);
     fewer = λ strict x o fit. record { eval = evals_made AsValue n w zero_there (made strict x fit); flags = flags_made AsValue n w zero_there (made strict x fit); callee = λ i c. absurd (true≢false (sym c ∙ called i)) };
   }
     where
@@ -239,7 +240,7 @@ module _ (q : StmtSeat) (n w : Tree) (h g : Head) (ts us : Trees) (e : is_statem
 
   pub made_statement_less : LessAt (Stmt q) n w
   made_statement_less = record {
-    asks = λ x y k. by_fact (λ z. AsksLess z (Declared k) (Stmt q) n w) (statement_asked k) (statement_in_order k) x y k;
+    asks = shows_all _ _ _ (λ x y k. by_fact (λ z. AsksLess z (Declared k) (Stmt q) n w) (statement_asked k) (statement_in_order k) x y k);
     fewer = λ strict x o fit. record { eval = evals_made AsWhole n w zero_there (made strict x fit); flags = flags_made AsWhole n w zero_there (made strict x fit); callee = λ i c. absurd (true≢false (sym c ∙ ap is_eval_callee b ∙ no_callee g us)) };
   }
     where

@@ -41,6 +41,7 @@ use Rattle.mini_less.specs.Names.{NamesReadLess, CatchesReadLess}
 use Rattle.mini_less.proofs.Beside.{Beside, facts_beside}
 use Rattle.mini_less.proofs.Calm.{each_quiets, no_mention}
 use Rattle.mini_less.proofs.LessRows.{reads_less_by}
+use Rattle.mini_less.proofs.Shown.{shows_all}
 
 -- what has the name: a handler over its body, or a function or a class expression with a number
 data Bearer : Type 0 where
@@ -360,9 +361,9 @@ module _ (sp : List ℕ) (k : ℕ) where
 
   dropped_less : (p : Position) (n w : Tree) (m : Bearer) → any_names x (inside m) ≡ false → n ≡ bearing m (binding x) → w ≡ bearing m absent → LessAt p n w
   dropped_less p n w m u e f = record {
-    asks = λ g b s. record {
+    asks = shows_all _ _ _ (λ g b s. record {
       by = λ strict slot o fit c env st sc. subst (λ t. OrGone (question g b s) (Declared s) c env t w) (sym e) (subst (OrGone (question g b s) (Declared s) c env (bearing m (binding x))) (sym f) (bearer_gone g b s m u c env));
-    };
+    });
     fewer = λ strict slot o fit. record {
       eval = λ i. ap has_eval e ∙ sym (same_eval m) ∙ sym (ap has_eval f) ∙ i;
       flags = record {

@@ -19,6 +19,7 @@ use Rattle.mini_shrink.specs.Pace.{followed, ends_after, in_turn, Setting, below
 use Rattle.mini_shrink.proofs.Owns.{or_implied}
 use Rattle.mini_shrink.proofs.Paces.{same}
 use Rattle.mini_less.specs.Families.{LessAt}
+use Rattle.mini_less.proofs.Shown.{shows_all}
 
 -- a child of which the same is said, among others
 module _ (q : Question) (t u : Tree) (said : (c : Setting) (env : Environment) → pace q c env u ≡ pace q c env t) (ends : (c : Setting) → q.ends c u ≡ q.ends c t) (after : Trees) where
@@ -76,10 +77,10 @@ module _ (t u : Tree) (k : SameTold t u) (after : Trees) where
 
 pub told_less : (p : Position) (n w t u : Tree) → n ≡ t → w ≡ u → SameTold t u → is_eval_callee u ≡ false → LessAt p n w
 told_less p n w t u a b k f = record {
-  asks = λ i m r. record {
+  asks = shows_all _ _ _ (λ i m r. record {
     by = λ strict slot o fit c env st sc.
         inl (same (pace (question i m r) c env w) (pace (question i m r) c env n) (ap (pace (question i m r) c env) b ∙ k.said i m r c env ∙ sym (ap (pace (question i m r) c env) a)));
-  };
+  });
   fewer = λ strict slot o fit. record {
     eval = λ e. ap has_eval a ∙ sym k.eval ∙ sym (ap has_eval b) ∙ e;
     flags = record {

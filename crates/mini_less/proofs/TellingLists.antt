@@ -11,7 +11,7 @@ use Rattle.mini_model.specs.Paths.{append}
 use Rattle.mini_model.specs.Tree.{Tree, Trees, none, ◌▸◌, listed, absent, is_absent}
 use Rattle.mini_laws.specs.declared.names.Declared.TheVariants as declared
 use Rattle.mini_laws.specs.declared.names.Use.{Use}
-use Rattle.mini_laws.specs.declared.names.Use.TheVariants.{Read, Write, Hoisted, Headed}
+use Rattle.mini_laws.specs.declared.names.Use.TheVariants.{Read, Hoisted, Headed}
 use Rattle.mini_laws.specs.References.{writes}
 use Rattle.mini_laws.specs.DeclaredNames.{names_of, all_names, bound_names, with_names}
 use Rattle.mini_laws.specs.declared.names.Around.{Around}

@@ -10,7 +10,7 @@ use Rattle.mini_model.specs.declared.place.Position.{Position}
 use Rattle.mini_model.specs.Position.{callee_seat}
 use Rattle.mini_laws.specs.ScopeList.{has_eval, is_eval_callee}
 use Rattle.mini_kept.specs.Placed.{is_statement_list, fits_place}
-use Rattle.mini_shrink.specs.Shrinking.{AsksLess}
+use Rattle.mini_shrink.specs.Shrinking.{ShowsLess}
 use Rattle.mini_rows.specs.Lists.{Head, Return, Throw, If, return_statement, throw_statement, bare_return, Row67, Row77, Row78, AtEnd, Row66Empty, Row66Joined, Row73, Row73Bare, Row76, Row79, InList}
 use Rattle.mini_less.specs.Flags.{FlagsLess}
 use Rattle.mini_model.specs.Rewriting.{Reaches}
@@ -68,7 +68,7 @@ pub record FewerAt (p : Position) (n w : Tree) : Type 0 where
 
 -- what a relation has to keep of one node and what is written for it
 pub record LessAt (p : Position) (n w : Tree) : Type 0 where
-  pub asks : (g : Fact) (b k : ℕ) → AsksLess (question g b k) (Declared k) p n w
+  pub asks : (g : Fact) (b k : ℕ) → ShowsLess (question g b k) (Declared k) p n w
   pub fewer : (strict : Bool) (s : Slot) → fits_place p s ≡ true → fits strict s n ≡ true → FewerAt p n w
 
 -- ---- rows on neighbours in a list, wherever it stands

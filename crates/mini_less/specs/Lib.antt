@@ -2,6 +2,7 @@ pub mod Families
 pub mod Flags
 pub mod Less
 pub mod ListExamples
+pub mod SwitchExamples
 pub mod ListFamilies
 pub mod Neighbours
 pub mod Rebuilt

@@ -14,10 +14,10 @@ use Rattle.mini_shrink.specs.Facts.{Written, Given, question}
 use Rattle.mini_shrink.specs.Pace.{Silent, Reads, pace}
 use Rattle.mini_shrink.specs.Questions.{asks, at_program, gives_such}
 
-abbrev x : Name
+abbrev pub x : Name
 x = record { spelling = codes "x"; symbol = Some (record { 0 = 0 }) }
 
-abbrev one : Tree
+abbrev pub one : Tree
 one = leaf (shape.NumericLiteral (pos 1))
 
 abbrev bare : Tree

@@ -28,8 +28,8 @@ use Rattle.mini_kept.proofs.Members.{merges}
 use Rattle.mini_kept.proofs.Placed.{Placed, placed_below}
 use Rattle.mini_kept.proofs.Stepping.{all_stand, no_steps, one_of, steps_keep}
 use Rattle.mini_shrink.specs.Pace.{Pace, AtMost, followed, ends_after, in_turn, Setting, below, Question, pace, paces}
-use Rattle.mini_shrink.specs.Shrinking.{SameFound, LooksUp, Changed, Named, OwnShrinks, OrGone, AsksLess}
-use Rattle.mini_shrink.proofs.Paces.{itself, same, both, ended, AllAtMost, turned}
+use Rattle.mini_shrink.specs.Shrinking.{SameFound, LooksUp, Changed, Named, OwnShrinks, seen_around, LessAround, ShowsLess}
+use Rattle.mini_shrink.proofs.Paces.{itself, same, both, ended_inside, around, kept_around, AllAtMost, turned}
 
 -- ---- in an environment that gives each name the same symbol
 
@@ -68,7 +68,7 @@ same_all ps qs e = subst (AllAtMost ps) e (by ps)
     by [] = tt
     by (r ∷ rs) = (itself r, by rs)
 
-module _ (R : Position → Tree → Tree → Type 0) (l : KeepsNames R) (stays : InitStays R) (x : Variable) (q : Question) (k : LooksUp q) (own : OwnShrinks R q) (asks : (p : Position) (n w : Tree) → R p n w → AsksLess q x p n w) where
+module _ (R : Position → Tree → Tree → Type 0) (l : KeepsNames R) (stays : InitStays R) (x : Variable) (q : Question) (k : LooksUp q) (own : OwnShrinks R q) (asks : (p : Position) (n w : Tree) → R p n w → ShowsLess q x p n w) where
   record AllLess (sc sc' : ℕ → List Binding) (vs : ℕ → Use) (ts us : Trees) : Type 0 where
     declared : Option SymbolId
     either : (declared ≡ symbol_for x) ⊎ (declared ≡ None)
@@ -84,16 +84,16 @@ module _ (R : Position → Tree → Tree → Type 0) (l : KeepsNames R) (stays :
   scopes_on : (sc sc' : ℕ → List Binding) → Scopes sc sc' → Scopes (λ j. sc (suc j)) (λ j. sc' (suc j))
   scopes_on sc sc' z = record { within = λ j. z.within (suc j); found = λ j. z.found (suc j) }
 
-  first_or_gone : (sc sc' : ℕ → List Binding) → Scopes sc sc' → (cs : ℕ → Setting) (env env' : Environment) → SameFound env env' → (t u : Tree) (ts : Trees) → Named t u → OrGone q x (cs 0) (env ++ sc 0) t u → AllOrGone sc sc' cs env env' (t ▸ ts) (u ▸ ts)
+  first_or_gone : (o : Position) (sc sc' : ℕ → List Binding) → Scopes sc sc' → (cs : ℕ → Setting) (env env' : Environment) → SameFound env env' → (t u : Tree) (ts : Trees) → Named t u → LessAround q x o (cs 0) (env ++ sc 0) t u → AllOrGone sc sc' cs env env' (t ▸ ts) (u ▸ ts)
   unfolding pace
-  first_or_gone sc sc' z cs env env' f t u ts m (inl e) =
+  first_or_gone o sc sc' z cs env env' f t u ts m (inl e) =
       let inner = found_both env env' (sc 0) (sc' 0) f (z.found 0) in
       inl (
         subst (λ b. AtMost (ends_after b (pace q (cs 0) (env' ++ sc' 0) u)) (ends_after (q.ends (cs 0) t) (pace q (cs 0) (env ++ sc 0) t))) (sym (own.ends (cs 0) t u m))
-            (ended (q.ends (cs 0) t) (pace q (cs 0) (env' ++ sc' 0) u) (pace q (cs 0) (env ++ sc 0) t) (subst (λ p. AtMost p (pace q (cs 0) (env ++ sc 0) t)) (found q k (cs 0) (env ++ sc 0) (env' ++ sc' 0) inner u) e)),
+            (ended_inside (q.ends (cs 0) t) (pace q (cs 0) (env' ++ sc' 0) u) (pace q (cs 0) (env ++ sc 0) t) (kept_around o (pace q (cs 0) (env' ++ sc' 0) u) (pace q (cs 0) (env ++ sc 0) t) (subst (λ p. AtMost (seen_around o p) (seen_around o (pace q (cs 0) (env ++ sc 0) t))) (found q k (cs 0) (env ++ sc 0) (env' ++ sc' 0) inner u) e))),
         same_all (paces q sc' cs 1 (env' ++ sc' 0) ts) (paces q sc cs 1 (env ++ sc 0) ts) (scopes_found q k sc sc' z.found cs 1 (env ++ sc 0) (env' ++ sc' 0) inner ts),
       )
-  first_or_gone sc sc' z cs env env' f t u ts m (inr g) = inr (record { declared = g.declared; either = g.either; less = first_less g.declared sc sc' z.within (λ j. (cs j).used) t u ts g.less })
+  first_or_gone o sc sc' z cs env env' f t u ts m (inr g) = inr (record { declared = g.declared; either = g.either; less = first_less g.declared sc sc' z.within (λ j. (cs j).used) t u ts g.less })
 
   later_or_gone : (sc sc' : ℕ → List Binding) → Scopes sc sc' → (cs : ℕ → Setting) (env env' : Environment) → SameFound env env' → (t : Tree) (ts us : Trees)
       → AllOrGone (λ j. sc (suc j)) (λ j. sc' (suc j)) (λ j. cs (suc j)) (env ++ sc 0) (env' ++ sc' 0) ts us → AllOrGone sc sc' cs env env' (t ▸ ts) (t ▸ us)
@@ -106,14 +106,14 @@ module _ (R : Position → Tree → Tree → Type 0) (l : KeepsNames R) (stays :
       )
   later_or_gone sc sc' z cs env env' f t ts us (inr g) = inr (record { declared = g.declared; either = g.either; less = later_less g.declared sc sc' z.within (λ j. (cs j).used) t ts us g.less })
 
-  node_or_gone : (p : Position) (c : Setting) (env : Environment) (h : Shape) (xs : List Name) (n : ℕ) (ts us : Trees) → Changed R p c h ts us → AllOrGone (opened c.used h ts) (opened c.used h us) (below (q.orders c h ts) c h n) env env ts us → OrGone q x c env (node h xs n ts) (node h xs n us)
+  node_or_gone : (p : Position) (c : Setting) (env : Environment) (h : Shape) (xs : List Name) (n : ℕ) (ts us : Trees) → Changed R p c h ts us → AllOrGone (opened c.used h ts) (opened c.used h us) (below (q.orders c h ts) c h n) env env ts us → LessAround q x p c env (node h xs n ts) (node h xs n us)
   unfolding pace declared_in
   node_or_gone p c env h xs n ts us z (inl e) =
       let cs = below (q.orders c h ts) c h n in
       let ps : List Pace = paces q (opened c.used h us) (below (q.orders c h us) c h n) 0 env us in
       let rs : List Pace = paces q (opened c.used h ts) cs 0 env ts in
-      inl (both (q.before c env h xs n us) (q.before c env h xs n ts) (in_turn h ps) (in_turn h rs) (own.before p c env h xs n ts us z)
-      (turned h ps rs (subst (λ o. AllAtMost (paces q (opened c.used h us) (below o c h n) 0 env us) rs) (sym (own.orders p c h ts us z)) e)))
+      inl (around p (followed (q.before c env h xs n us) (in_turn h ps)) (followed (q.before c env h xs n ts) (in_turn h rs)) (both (q.before c env h xs n us) (q.before c env h xs n ts) (in_turn h ps) (in_turn h rs) (own.before p c env h xs n ts us z)
+      (turned h ps rs (subst (λ o. AllAtMost (paces q (opened c.used h us) (below o c h n) 0 env us) rs) (sym (own.orders p c h ts us z)) e))))
   node_or_gone p c env h xs n ts us z (inr g) = inr (record { declared = g.declared; either = g.either; less = g.less })
 
   abbrev AllNamed : Trees → Trees → Type 0
@@ -131,7 +131,7 @@ module _ (R : Position → Tree → Tree → Type 0) (l : KeepsNames R) (stays :
   mutual
     unfolding Scoped
 
-    pub step_less : {p : Position} {t u : Tree} → Step R p t u → (strict : Bool) (s : Slot) → fits_place p s ≡ true → fits strict s t ≡ true → (c : Setting) (env : Environment) → Stands p c.used t → Scoped c.used env t → OrGone q x c env t u
+    pub step_less : {p : Position} {t u : Tree} → Step R p t u → (strict : Bool) (s : Slot) → fits_place p s ≡ true → fits strict s t ≡ true → (c : Setting) (env : Environment) → Stands p c.used t → Scoped c.used env t → LessAround q x p c env t u
     step_less (here p n w r) strict s o e c env st a = (asks p n w r).by strict s o e c env st a
     step_less (inside p h xs n ts us z) strict s o e c env st a =
         let π = child_position h p (count ts) in
@@ -147,11 +147,11 @@ module _ (R : Position → Tree → Tree → Type 0) (l : KeepsNames R) (stays :
     steps_less : {π : ℕ → Position} {ts us : Trees} → StepIn R π ts us → (strict : Bool) (g : Filling) → Placed π g → fill strict g ts ≡ true → (sc sc' : ℕ → List Binding) → Scopes sc sc' → (cs : ℕ → Setting) (env env' : Environment) → SameFound env env' → AllNamed ts us → AllStand π (λ j. (cs j).used) 0 ts → AllScoped sc (λ j. (cs j).used) 0 env ts → AllOrGone sc sc' cs env env' ts us
     steps_less (first π t u ts z) strict refused o e sc sc' w cs env env' f ms st a = absurd (cc e)
     steps_less (first π t u ts z) strict (these []) o e sc sc' w cs env env' f ms st a = absurd (cc e)
-    steps_less (first π t u ts z) strict (these (s ∷ ss)) o e sc sc' w cs env env' f ms st a = first_or_gone sc sc' w cs env env' f t u ts ms.0 (step_less z strict s o.0 (left (fits strict s t) (fill strict (these ss) ts) e) (cs 0) (env ++ sc 0) st.0 a.0)
-    steps_less (first π t u ts z) strict (each s) o e sc sc' w cs env env' f ms st a = first_or_gone sc sc' w cs env env' f t u ts ms.0 (step_less z strict s (o 0) (left (fits strict s t) (fill strict (each s) ts) e) (cs 0) (env ++ sc 0) st.0 a.0)
+    steps_less (first π t u ts z) strict (these (s ∷ ss)) o e sc sc' w cs env env' f ms st a = first_or_gone (π 0) sc sc' w cs env env' f t u ts ms.0 (step_less z strict s o.0 (left (fits strict s t) (fill strict (these ss) ts) e) (cs 0) (env ++ sc 0) st.0 a.0)
+    steps_less (first π t u ts z) strict (each s) o e sc sc' w cs env env' f ms st a = first_or_gone (π 0) sc sc' w cs env env' f t u ts ms.0 (step_less z strict s (o 0) (left (fits strict s t) (fill strict (each s) ts) e) (cs 0) (env ++ sc 0) st.0 a.0)
     steps_less (first π t u ts z) strict (each_or_last s r) o e sc sc' w cs env env' f ms st a =
         let (d, placed, fit) = one_of R l (π 0) strict s r (is_last ts) t (o 0).0 (o 0).1 (left (fits strict s t || (is_last ts && fits strict r t)) (fill strict (each_or_last s r) ts) e) in
-        first_or_gone sc sc' w cs env env' f t u ts ms.0 (step_less z strict d placed fit (cs 0) (env ++ sc 0) st.0 a.0)
+        first_or_gone (π 0) sc sc' w cs env env' f t u ts ms.0 (step_less z strict d placed fit (cs 0) (env ++ sc 0) st.0 a.0)
     steps_less (first π t u ts z) strict (pieces g) o e sc sc' w cs env env' f ms st a = absurd (no_steps R l g (first π t u ts z) e)
     steps_less (later π t ts us z) strict refused o e sc sc' w cs env env' f ms st a = absurd (cc e)
     steps_less (later π t ts us z) strict (these []) o e sc sc' w cs env env' f ms st a = absurd (cc e)

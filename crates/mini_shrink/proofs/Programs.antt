@@ -28,7 +28,7 @@ use Rattle.mini_kept.proofs.Using.{also}
 use Rattle.mini_kept.proofs.Whole.{any_reaches_keep}
 use Rattle.mini_shrink.specs.Pace.{AtMost, pace}
 use Rattle.mini_shrink.specs.Questions.{at_program, lexical_at, switched_at, pattern_at, caught_at, arguments_at, params_at, hands_on, listed_names, early}
-use Rattle.mini_shrink.specs.Shrinking.{LooksUp, OwnShrinks, OrGone}
+use Rattle.mini_shrink.specs.Shrinking.{LooksUp, OwnShrinks, LessAround}
 use Rattle.mini_shrink.specs.Facts.{Fact, Written, WrittenElsewhere, Given, GivenElsewhere, MentionedElsewhere, BoundElsewhere, IsLexical, IsSwitched, InPattern, GivenByPattern, UnderCatch, ByArguments, ByEval, AmongParameters, ReadEarly, question, ReadsLess, ReadsLessShrinks}
 use Rattle.mini_shrink.proofs.Fitting.{Fitting, AsksFewerThere, fewer_there, names_there, shapes_there, step_there}
 use Rattle.mini_shrink.proofs.Paces.{itself, through}
@@ -114,7 +114,7 @@ module _ (R : Position → Tree → Tree → Type 0) (l : KeepsNames R) (shapes 
       let there = shapes_there R shapes in
       by (step_less (Fitting R) (names_there R l) (init_stays (Fitting R) there) (Declared s) (question f b s) (looks_up f b s) (own_shrinks (Fitting R) there (fewer_there R reads.fewer) f b s) (λ p n w r. reads.less f b s p n w r.0) (step_there R l z false (one a_program) refl e) false (one a_program) refl e at_program [] (also (is_inner (shape_of t)) true refl) a)
     where
-      by : OrGone (question f b s) (Declared s) at_program [] t u → AtMost (pace (question f b s) at_program [] u) (pace (question f b s) at_program [] t)
+      by : LessAround (question f b s) (Declared s) Elsewhere at_program [] t u → AtMost (pace (question f b s) at_program [] u) (pace (question f b s) at_program [] t)
       by (inl m) = m
       by (inr g) = absurd (true≢false (sym (gone s t u d g) ∙ h))
 

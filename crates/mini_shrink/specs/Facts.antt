@@ -18,7 +18,7 @@ use Rattle.mini_kept.specs.Lifted.{KeepsNames}
 use Rattle.mini_kept.specs.Loosely.{undeclared}
 use Rattle.mini_shrink.specs.Pace.{AtMost, Question, pace}
 use Rattle.mini_shrink.specs.Questions.{asks, at_program, mentions_such, sets_such, pattern_gives, names_at, lexical_at, switched_at, pattern_at, caught_at, arguments_at, params_at, seen_at, early}
-use Rattle.mini_shrink.specs.Shrinking.{AsksLess, AsksFewer}
+use Rattle.mini_shrink.specs.Shrinking.{ShowsLess, AsksFewer}
 
 -- of a symbol, and of a body
 pub data Fact : Type 0 where
@@ -64,11 +64,11 @@ question AmongParameters b s = asks (names_at (params_at b) s)
 question ReadEarly b s = early b s
 
 -- What a relation of rewriting has to keep of one node: of each symbol and each body, what is
--- written for it answers at most what it did, wherever it may stand; or a scope goes that declares
--- the symbol
+-- written for it answers at most what it did as seen around it, wherever it may stand; or a scope
+-- goes that declares the symbol
 pub record ReadsLess (R : Position → Tree → Tree → Type 0) : Type 0 where
   pub fewer : AsksFewer R
-  pub less : (f : Fact) (b s : ℕ) (p : Position) (n w : Tree) → R p n w → AsksLess (question f b s) (Declared s) p n w
+  pub less : (f : Fact) (b s : ℕ) (p : Position) (n w : Tree) → R p n w → ShowsLess (question f b s) (Declared s) p n w
 
 -- then so does a program after any number of steps, of each symbol that it still declares
 abbrev pub ReadsLessShrinks : (Position → Tree → Tree → Type 0) → Type 0

@@ -54,7 +54,7 @@ kept_in p = p
 abbrev pub ends_after : Bool → Pace → Pace
 ends_after b p = followed (kept_in p) (ends_if b)
 
--- ---- in the order of evaluation: the right side of a `for..in` or `for..of` is evaluated before its head
+-- ---- in the order of evaluation: what a `for..in` or `for..of` goes over comes before its head
 
 abbrev pub all_followed : List Pace → Pace
 all_followed [] = Silent

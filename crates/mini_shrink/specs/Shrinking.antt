@@ -3,7 +3,7 @@
 use Rattle.std.specs.Prelude.{ℕ, ◌≡◌, ◌⊎◌, Bool, true, List}
 use Rattle.mini_model.specs.declared.name.Name.{Name}
 use Rattle.mini_model.specs.declared.place.Position.{Position}
-use Rattle.mini_model.specs.declared.place.Position.TheVariants.{Expr}
+use Rattle.mini_model.specs.declared.place.Position.TheVariants.{Expr, Elsewhere}
 use Rattle.mini_model.specs.declared.shape.Shape.{Shape}
 use Rattle.mini_model.specs.Tree.{Tree, Trees, count}
 use Rattle.mini_model.specs.Position.{child_position, callee_seat}
@@ -24,7 +24,7 @@ use Rattle.mini_kept.specs.KeepsNames.{Stands}
 use Rattle.mini_kept.specs.Loosely.{LessOften}
 use Rattle.mini_kept.specs.Placed.{fits_place}
 use Rattle.mini_kept.proofs.LooseScopes.{AllKeep}
-use Rattle.mini_shrink.specs.Pace.{AtMost, Setting, Question, pace}
+use Rattle.mini_shrink.specs.Pace.{Pace, AtMost, kept_in, Setting, Question, pace}
 
 -- each name is found as before
 abbrev pub SameFound : Environment → Environment → Type 0
@@ -58,6 +58,20 @@ OrGone q x c env n w = AtMost (pace q c env w) (pace q c env n) ⊎ LessOften c.
 
 pub record AsksLess (q : Question) (x : Variable) (p : Position) (n w : Tree) : Type 0 where
   pub by : (strict : Bool) (s : Slot) → fits_place p s ≡ true → fits strict s n ≡ true → (c : Setting) (env : Environment) → Stands p c.used n → Scoped c.used env n → OrGone q x c env n w
+
+-- What is seen around a node at a place: no end of a declaration, which is told in its scope. Of a
+-- whole program it is all that is told
+abbrev pub seen_around : Position → Pace → Pace
+seen_around Elsewhere p = p
+seen_around q p = kept_in p
+
+-- what is written for a node shows at most what it did around it, or a scope that declares the
+-- variable goes
+abbrev pub LessAround : Question → Variable → Position → Setting → Environment → Tree → Tree → Type 0
+LessAround q x p c env n w = AtMost (seen_around p (pace q c env w)) (seen_around p (pace q c env n)) ⊎ LessOften c.used x n w
+
+pub record ShowsLess (q : Question) (x : Variable) (p : Position) (n w : Tree) : Type 0 where
+  pub by : (strict : Bool) (s : Slot) → fits_place p s ≡ true → fits strict s n ≡ true → (c : Setting) (env : Environment) → Stands p c.used n → Scoped c.used env n → LessAround q x p c env n w
 
 -- What a node's answers rest on besides names, where it may stand: whether a direct eval stands in
 -- it, whether it names `arguments`, and which numbers it has. An expression that is called becomes
