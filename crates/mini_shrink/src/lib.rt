@@ -11,15 +11,15 @@ ghost use Rattle.mini_shrink.specs.ToldOn.{PlacesShow, ToldIsSo, ToldOn, ToldWit
 
 use mini_laws::Rewrites;
 
-/// Of each symbol and each body, any number of steps answer the questions of which Shared and
-/// Foreign are made with no more than before, where what is put there does so of what stood there;
-/// names that are no longer declared aside.
+/// Any number of steps of a relation that reads less (`ReadsLess`) leave each question of which
+/// Shared and Foreign are made with the answer that it had, or with less: for each body, and for each
+/// symbol that is still declared. The program is well shaped and scoped, with distinct symbols.
 pub fn reads_less_shrinks<R: Rewrites>()
     ensures { ReadsLessShrinks R.gives }
 {}
 
-/// So what is told of a body of a program is so of it after any number of steps: what no body
-/// writes and no answer changes, and what no other body sees.
+/// Any number of such steps leave each symbol that no body writes and no answer changes, or that no
+/// other body sees, one of which that is told of the same body.
 pub fn told_shrinks<R: Rewrites>()
     ensures { ToldShrinks R.gives }
 {}
@@ -35,7 +35,9 @@ pub fn foreign_by_scopes()
     ensures foreign { ForeignByScopes }
 {}
 
-/// What is told by that is so, and is told of the bodies of each later program.
+/// What the questions tell of a body (which symbols are steady in it, which no other body sees) is so
+/// by the definitions of Shared and Foreign, and is told of the same body after any number of lawful
+/// steps that read less.
 pub fn told_on<R: Rewrites>()
     ensures so { ToldIsSo }
     ensures on { ToldOn R.gives }
@@ -43,7 +45,9 @@ pub fn told_on<R: Rewrites>()
     ensures within { ToldWithin R.gives }
 {}
 
-/// And of what no node writes, whatever the body's own declarators give it.
+/// A symbol that no node writes and that is not foreign to a body, whatever the body's own
+/// declarators give it, is so by the definitions of Shared and Foreign, and stays so after any number
+/// of lawful steps that read less.
 pub fn exactly_told_on<R: Rewrites>()
     ensures so { ExactIsSo }
     ensures within { ExactWithin R.gives }
