@@ -1,10 +1,12 @@
-// Whole libraries and a bundle: their bytes and the processor seconds, by this program, esbuild and terser, with and without short names.
+// Whole libraries and a bundle: their bytes and the processor seconds, by this program, esbuild and
+// terser, with and without short names.
 //
 //     node bench/bundles.js [FILE..]
 //
-// Without FILE they are lodash, jquery and chart.js as Debian packages them, and lodash-es bundled by esbuild. esbuild and terser are the
-// commands of Debian's packages. The table is written in Markdown. A time is that of the whole command, the start of node and of the
-// program included. Each text is parsed again before it counts.
+// Without FILE they are lodash, jquery and chart.js as Debian packages them, and lodash-es bundled
+// by esbuild. esbuild and terser are the commands of Debian's packages. The table is written in
+// Markdown. A time is that of the whole command, the start of node and of the program included.
+// Each text is parsed again before it counts.
 "use strict";
 const { spawnSync } = require("child_process");
 const fs = require("fs");
@@ -22,7 +24,8 @@ const node = [process.execPath, "--expose-internals", MINIFY, "-q", "--strict"];
 const esbuild = (...flags) => ["esbuild", "--log-level=error", "--charset=utf8", ...flags];
 const SHORT = esbuild("--minify-identifiers", "--minify-whitespace");
 
-// Each way: its name, whether it shortens names, and its commands, of which each reads what the one before wrote.
+// Each way: its name, whether it shortens names, and its commands, of which each reads what the one
+// before wrote.
 const WAYS = [
   ["this program", false, [node]],
   ["esbuild", false, [esbuild("--minify-syntax", "--minify-whitespace")]],

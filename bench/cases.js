@@ -1,21 +1,25 @@
-// Makes the whole runs of the stored run of mini_cases: programs, and what the minifier answers to each. Every answer was worked
-// out by hand from ECMA-262 and docs/REWRITES.md; here it is only turned into JSON.
+// Makes the whole runs of the stored run of mini_cases: programs, and what the minifier answers to
+// each. Every answer was worked out by hand from ECMA-262 and docs/REWRITES.md; here it is only
+// turned into JSON.
 //
 //     node --expose-internals bench/cases.js
 //
-// reads the files of bench/rows and writes the lines under the title below into crates/mini_cases/stdin and
-// crates/mini_cases/stdout, with a checksum of those files, by which .ci/quick sees whether they are as old as the lines. Behind them
-// stand the runs of odd.js, with a checksum of odd-input.txt.
+// reads the files of bench/rows and writes the lines under the title below into
+// crates/mini_cases/stdin and crates/mini_cases/stdout, with a checksum of those files, by which
+// .ci/quick sees whether they are as old as the lines. Behind them stand the runs of odd.js, with a
+// checksum of odd-input.txt.
 //
-// A file of bench/rows has a case a line. A line that begins with `#` is the title of those that follow. A case is one of
+// A file of bench/rows has a case a line. A line that begins with `#` is the title of those that
+// follow. A case is one of
 //
 //     BEFORE => AFTER
 //     BEFORE => AFTER // { kept: 2, symbols: [0, 2], passes: 3, settled: false, bound: 1 }
 //     BEFORE // ERROR at POINTER
 //
-// BEFORE and AFTER are JavaScript, which acorn parses with early errors left aside; BEFORE ends in `;` or `}`. `kept` and
-// `symbols` are numbers in the input, in order, or how many there are where each stays at its place: without the words all of them.
-// Without `passes` there is one that changes something and one that doesn't, or the latter alone where both are the same program.
+// BEFORE and AFTER are JavaScript, which acorn parses with early errors left aside; BEFORE ends in
+// `;` or `}`. `kept` and `symbols` are numbers in the input, in order, or how many there are where
+// each stays at its place: without the words all of them. Without `passes` there is one that
+// changes something and one that doesn't, or the latter alone where both are the same program.
 "use strict";
 const { createHash } = require("crypto");
 const fs = require("fs");

@@ -1,12 +1,15 @@
-// Sends every JavaScript file below some folders through the package js/, and counts what came of it.
+// Sends every JavaScript file below some folders through the package js/, and counts what came of
+// it.
 //
 //     node --expose-internals bench/census.js [--no-adapt] [--print] [--part=K/N] [--most=BYTES] [--log=FILE] [FOLDER..]
 //
-// The folders are those of Debian's node packages unless they are given. Files of the same text count once; `--part=2/4` takes the
-// second of four parts of them, `--most` leaves out longer ones, and `--log` writes a line of JSON for each. What is told: how
-// many files and bytes the parser reads, how many are answered, refused by cause, or printed as another program; the bytes of
-// those that are answered as they were, printed without a rewrite, and minified; the passes. With `--print` nothing is rewritten: each
-// file is only printed and compared, which is quick and wants no program.
+// The folders are those of Debian's node packages unless they are given. Files of the same text
+// count once; `--part=2/4` takes the second of four parts of them, `--most` leaves out longer ones,
+// and `--log` writes a line of JSON for each. What is told: how many files and bytes the parser
+// reads, how many are answered, refused by cause, or printed as another program; the bytes of those
+// that are answered as they were, printed without a rewrite, and minified; the passes. With
+// `--print` nothing is rewritten: each file is only printed and compared, which is quick and wants
+// no program.
 "use strict";
 const crypto = require("crypto");
 const fs = require("fs");

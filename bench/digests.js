@@ -1,5 +1,5 @@
-// Makes real calls of the libraries that Debian packages, and prints a digest of what each gives: run before and after the files are
-// minified, the lines have to be equal.
+// Makes real calls of the libraries that Debian packages, and prints a digest of what each gives:
+// run before and after the files are minified, the lines have to be equal.
 //
 //     NODE_PATH=/usr/share/nodejs node --expose-internals [-r ./bench/hook.js] bench/digests.js [NAME..]
 //

@@ -1,11 +1,12 @@
-// Holds the early errors that the built program tells against those that acorn finds, in random scripts and modules with few
-// names, many declarations and many jumps. Builds nothing.
+// Holds the early errors that the built program tells against those that acorn finds, in random
+// scripts and modules with few names, many declarations and many jumps. Builds nothing.
 //
 //     node --expose-internals bench/early.js [PROGRAM [COUNT [SEED]]]
 //
-// PROGRAM is crates/mini_app/out/mini_app of this repository unless it is given: `rt run` in crates/mini_app makes it. COUNT is
-// 2,000 and SEED is 1. Where acorn finds a name that is declared twice, the program must refuse with EarlyName at one of those;
-// else, where it finds a jump without a target, with EarlyJump at one of those; else it must answer.
+// PROGRAM is crates/mini_app/out/mini_app of this repository unless it is given: `rt run` in
+// crates/mini_app makes it. COUNT is 2,000 and SEED is 1. Where acorn finds a name that is declared
+// twice, the program must refuse with EarlyName at one of those; else, where it finds a jump
+// without a target, with EarlyJump at one of those; else it must answer.
 "use strict";
 const { words, run } = require("./built.js");
 const { isOutside, parseWithErrors } = require("./estree.js");

@@ -1,10 +1,11 @@
-// What the scripts beside this one need of ESTree, written apart from the program: how code is parsed, what the program
-// writes for it, and how many nodes and names of it have a number. Run with `node --expose-internals`: the parser is the
-// acorn inside node.
+// What the scripts beside this one need of ESTree, written apart from the program: how code is
+// parsed, what the program writes for it, and how many nodes and names of it have a number. Run
+// with `node --expose-internals`: the parser is the acorn inside node.
 "use strict";
 const acorn = require("internal/deps/acorn/acorn/dist/acorn");
 
-// The fields of each type of node, its children in order. What stands first is written and holds no node.
+// The fields of each type of node, its children in order. What stands first is written and holds no
+// node.
 const FIELDS = {
   Program: ["sourceType", "body"],
   ExpressionStatement: ["expression"],
@@ -88,8 +89,8 @@ const SCOPE_CLASS_STATIC_BLOCK = 256;
 const EARLY_NAME = /has already been declared$/;
 const EARLY_JUMP = /^(Unsyntactic|Label |'return' outside)/;
 
-// A parser that lets early errors through, and takes `yield` for an expression everywhere. It notes where names are declared
-// twice and where jumps have no target.
+// A parser that lets early errors through, and takes `yield` for an expression everywhere. It notes
+// where names are declared twice and where jumps have no target.
 class LenientParser extends acorn.Parser {
   names = [];
   jumps = [];
@@ -98,8 +99,8 @@ class LenientParser extends acorn.Parser {
     return true;
   }
 
-  // Functions are like `var` directly in a static block too (ECMA-262, ClassStaticBlockStatementList, "Static Semantics:
-  // LexicallyDeclaredNames").
+  // Functions are like `var` directly in a static block too (ECMA-262,
+  // ClassStaticBlockStatementList, "Static Semantics: LexicallyDeclaredNames").
   treatFunctionsAsVarInScope(scope) {
     return super.treatFunctionsAsVarInScope(scope) || (scope.flags & SCOPE_CLASS_STATIC_BLOCK) !== 0;
   }
@@ -135,7 +136,8 @@ function parseLeniently(source, sourceType = "script") {
   return LenientParser.parse(source, options(sourceType));
 }
 
-// The same, and where acorn finds early errors: the offsets of names that are declared twice, and of jumps without a target.
+// The same, and where acorn finds early errors: the offsets of names that are declared twice, and
+// of jumps without a target.
 function parseWithErrors(source, sourceType) {
   const parser = new LenientParser(options(sourceType), source);
   return { tree: parser.parse(), names: parser.names, jumps: parser.jumps };
@@ -159,7 +161,8 @@ function fieldWritten(node, field) {
   return written(value === undefined ? (["await", "async", "generator", "optional"].includes(field) ? false : null) : value);
 }
 
-// What the program writes for a value of ESTree: every field of the type, and no other, in the order of their names.
+// What the program writes for a value of ESTree: every field of the type, and no other, in the
+// order of their names.
 function written(value) {
   if (Array.isArray(value)) return value.map(written);
   if (!isNode(value)) return value;
@@ -312,8 +315,8 @@ function functionScopes(node) {
   return { id: own, params, body };
 }
 
-// The names that the scopes declare which a node opens, by the field from which on they hold; `isBody` tells that a block is
-// a function's.
+// The names that the scopes declare which a node opens, by the field from which on they hold;
+// `isBody` tells that a block is a function's.
 function scopes(node, isBody) {
   if (isOf(FUNCTIONS, node)) return functionScopes(node);
   if (isOf(CLASSES, node)) return { superClass: bound(node.id) };

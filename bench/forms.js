@@ -1,9 +1,11 @@
-// Programs of every form that is read: one at least of each type of node, most of which have something to rewrite, and longer ones.
-// bench/memory.py refuses memory to each, and bench/damage.py damages them.
+// Programs of every form that is read: one at least of each type of node, most of which have
+// something to rewrite, and longer ones. bench/memory.py refuses memory to each, and
+// bench/damage.py damages them.
 //
 //     node --expose-internals bench/forms.js
 //
-// writes a line each: its name, a tab, and ESTree as JSON. It throws where a type of ESTree is in none of them.
+// writes a line each: its name, a tab, and ESTree as JSON. It throws where a type of ESTree is in
+// none of them.
 "use strict";
 const { FIELDS, each, parse, text } = require("./estree.js");
 

@@ -1,5 +1,5 @@
-// Random scripts in which there is much to rewrite: negations, conditionals and `if`s over calls of the outside, in functions,
-// classes, loops and patterns.
+// Random scripts in which there is much to rewrite: negations, conditionals and `if`s over calls of
+// the outside, in functions, classes, loops and patterns.
 "use strict";
 const { chances } = require("./pieces.js");
 

@@ -2,12 +2,13 @@
 //
 //     node --expose-internals bench/growth.js [PROGRAM [BYTES [SHAPE]]]
 //
-// PROGRAM is crates/mini_app/out/mini_app of this repository unless it is given. Each shape is made so large that its JSON has about
-// BYTES (1,000,000), and half as large, in sizes that double from a sixteenth on, so that one which takes too long (LIMIT seconds)
-// stops early. With SHAPE only the shapes whose name has that word. A line a shape: the bytes, the seconds of processor at half
-// of them and at all, and the ratio of the two, of which at most RATIO is wanted where they are more than LEAST. Then the median
-// of the seconds a MB, and the shapes that take more than TIMES as many. What is above its bound, ends by a signal or stops early
-// is marked, and the status is 1.
+// PROGRAM is crates/mini_app/out/mini_app of this repository unless it is given. Each shape is made
+// so large that its JSON has about BYTES (1,000,000), and half as large, in sizes that double from
+// a sixteenth on, so that one which takes too long (LIMIT seconds) stops early. With SHAPE only the
+// shapes whose name has that word. A line a shape: the bytes, the seconds of processor at half of
+// them and at all, and the ratio of the two, of which at most RATIO is wanted where they are more
+// than LEAST. Then the median of the seconds a MB, and the shapes that take more than TIMES as
+// many. What is above its bound, ends by a signal or stops early is marked, and the status is 1.
 "use strict";
 const { spawnSync } = require("child_process");
 const fs = require("fs");

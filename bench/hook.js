@@ -1,9 +1,10 @@
-// Minifies what is loaded: with `node --expose-internals -r ./bench/hook.js`, each file below the folders of Debian's packages goes
-// through the package js/ when it is required.
+// Minifies what is loaded: with `node --expose-internals -r ./bench/hook.js`, each file below the
+// folders of Debian's packages goes through the package js/ when it is required.
 //
-// MINIFY says how: `ours`, or `ours+names`, where esbuild shortens names afterwards. MINIFY_BELOW has other folders, separated by
-// colons. What was minified lies in the folder MINIFY_CACHE, if that is given, for the next run. At the end a line on standard error says
-// how many files were minified, and which were left as they are, and why.
+// MINIFY says how: `ours`, or `ours+names`, where esbuild shortens names afterwards. MINIFY_BELOW
+// has other folders, separated by colons. What was minified lies in the folder MINIFY_CACHE, if
+// that is given, for the next run. At the end a line on standard error says how many files were
+// minified, and which were left as they are, and why.
 "use strict";
 const { execFileSync } = require("child_process");
 const crypto = require("crypto");
@@ -22,7 +23,8 @@ const left = [];
 const SHORTER = ["--minify-identifiers", "--minify-whitespace", "--log-level=error", "--charset=utf8"];
 const shorterNames = (code) => execFileSync("esbuild", SHORTER, { input: code, maxBuffer: 1 << 28 }).toString();
 
-// What a step makes of a text, or that text where it makes nothing: from the folder of an earlier run, if it is there.
+// What a step makes of a text, or that text where it makes nothing: from the folder of an earlier
+// run, if it is there.
 function cached(step, text, make) {
   if (MINIFY_CACHE === undefined) return make(text) ?? text;
   const place = path.join(MINIFY_CACHE, crypto.createHash("sha1").update(`${step}\0${text}`).digest("hex"));

@@ -1,20 +1,22 @@
-// Node as a judge: runs scripts before and after the built program has rewritten them, against an outside that records what is
-// asked of it, and compares. Builds nothing.
+// Node as a judge: runs scripts before and after the built program has rewritten them, against an
+// outside that records what is asked of it, and compares. Builds nothing.
 //
 //     node --expose-internals bench/judge.js [PROGRAM [COUNT [SEED]]]
 //
-// PROGRAM is crates/mini_app/out/mini_app of this repository unless it is given: `rt run` in crates/mini_app makes it. COUNT
-// scripts (200) are generated (generate.js), and as many pieces of installed code are taken that something is rewritten in
-// (pieces.js). Each is run six times, with an outside that answers otherwise each time: three times one that has every name, and
-// three times one that lacks some of them.
+// PROGRAM is crates/mini_app/out/mini_app of this repository unless it is given: `rt run` in
+// crates/mini_app makes it. COUNT scripts (200) are generated (generate.js), and as many pieces of
+// installed code are taken that something is rewritten in (pieces.js). Each is run six times, with
+// an outside that answers otherwise each time: three times one that has every name, and three times
+// one that lacks some of them.
 //
-// Every name that a script doesn't declare is the outside's: writing one, calling, and what is done to the objects that it hands
-// out, is an event with its operands. It calls the functions that it is handed, and those that a script
-// declares. A run ends by itself, by a throw, or after EVENTS events. The events must be the same in order, and how it ends.
-// A name that the outside lacks is absent: node throws a ReferenceError where it is read, and where strict code writes it; sloppy
-// code that writes it adds it to the global object, and each event shows what was added so.
-// The outside answers by what was asked before, so that two runs part no sooner than their events do. The text of a function is
-// the same for all, since it is of the source alone.
+// Every name that a script doesn't declare is the outside's: writing one, calling, and what is done
+// to the objects that it hands out, is an event with its operands. It calls the functions that it
+// is handed, and those that a script declares. A run ends by itself, by a throw, or after EVENTS
+// events. The events must be the same in order, and how it ends. A name that the outside lacks is
+// absent: node throws a ReferenceError where it is read, and where strict code writes it; sloppy
+// code that writes it adds it to the global object, and each event shows what was added so. The
+// outside answers by what was asked before, so that two runs part no sooner than their events do.
+// The text of a function is the same for all, since it is of the source alone.
 "use strict";
 const vm = require("vm");
 const { isNativeError } = require("util").types;
@@ -172,8 +174,9 @@ class Outside {
     return names.sort().map((name) => `${name}=${this.told(this.context[name])}`);
   }
 
-  // The names of the outside, as the object of a `with`. That one is read is no event, since no accessor stands on the global
-  // object (docs/MODEL.md); what it holds is another object after each event, so that it is seen where a read moves past one.
+  // The names of the outside, as the object of a `with`. That one is read is no event, since no
+  // accessor stands on the global object (docs/MODEL.md); what it holds is another object after
+  // each event, so that it is seen where a read moves past one.
   names() {
     const values = new Map();
     return new Proxy(Object.create(null), {
@@ -197,7 +200,8 @@ class Outside {
 // The names of the functions that a script declares at its top, which are called behind it.
 const declaredFunctions = (tree) => tree.body.filter((part) => part.type === "FunctionDeclaration").map((part) => part.id.name);
 
-// A function expression that stands alone is handed out, also in what is minified: it may be joined to others there.
+// A function expression that stands alone is handed out, also in what is minified: it may be joined
+// to others there.
 function handedOut(tree) {
   const body = tree.body.map((part) => {
     const isFunction = part.type === "ExpressionStatement" && /Function/.test(part.expression.type);
@@ -269,7 +273,8 @@ function judge(script, onlyChanged) {
   return true;
 }
 
-// Whether a piece is a script by itself: not, where it has a private name, `super` or a `return` of what it was cut from.
+// Whether a piece is a script by itself: not, where it has a private name, `super` or a `return` of
+// what it was cut from.
 function isScript(tree) {
   try {
     return tree.sourceType === "script" && !isOutside(tree) && !isUnread(tree) && parse(print(tree)) !== null;

@@ -1,4 +1,5 @@
-// Runs moment's own tests, which Debian's node-moment has in min/tests.js, on a small QUnit, and says how many pass.
+// Runs moment's own tests, which Debian's node-moment has in min/tests.js, on a small QUnit, and
+// says how many pass.
 //
 //     NODE_PATH=/usr/share/nodejs node --expose-internals [-r ./bench/hook.js] bench/moment.js
 "use strict";

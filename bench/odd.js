@@ -1,8 +1,10 @@
-// Runs of the whole program over memory, as lines of the stored run of mini_cases: those that odd-input.txt tells, the first example
-// with each call of the source and of the sink failing in turn, and programs that nest deep. `bench/cases.js` writes them.
+// Runs of the whole program over memory, as lines of the stored run of mini_cases: those that
+// odd-input.txt tells, the first example with each call of the source and of the sink failing in
+// turn, and programs that nest deep. `bench/cases.js` writes them.
 //
-// A line is `run LIMIT ROOM READS WRITES NOTES INPUT`: how many bytes a call moves, for how many the sink has room, and the numbers
-// of the calls that fail. Its answer is `STATUS LEFT WRITTEN TOLD`, the last three in bytes, and what was written or told. A line
+// A line is `run LIMIT ROOM READS WRITES NOTES INPUT`: how many bytes a call moves, for how many
+// the sink has room, and the numbers of the calls that fail. Its answer is
+// `STATUS LEFT WRITTEN TOLD`, the last three in bytes, and what was written or told. A line
 // `plain INPUT`, where no call fails and the bytes aren't kept, has the four numbers alone.
 "use strict";
 const fs = require("fs");
@@ -60,7 +62,8 @@ function runsOfFile() {
   return runs;
 }
 
-// The k-th call fails, for each k up to the first that isn't made; `ended` tells how a run ends where it fails behind so many bytes.
+// The k-th call fails, for each k up to the first that isn't made; `ended` tells how a run ends
+// where it fails behind so many bytes.
 function eachCall(title, input, calls, answer, failing) {
   return Array.from({ length: calls + 1 }, (_, at) => {
     const { setting, ended } = failing(at);
@@ -105,7 +108,8 @@ function deepRuns() {
   ];
 }
 
-// Guards one after another, alternately of q and r, from this one on, and what stands behind the last.
+// Guards one after another, alternately of q and r, from this one on, and what stands behind the
+// last.
 const side = (at) => (at % 2 === 0 ? "q" : "r");
 const guards = (count) => Array.from({ length: count }, (_, at) => `if (p) return ${side(at)};`).join(" ");
 const conditionals = (from) => Array.from({ length: CHAIN }, (_, at) => `p ? ${side(from + at)} : `).join("");

@@ -1,4 +1,5 @@
-// What the minifier answers to a program that becomes another one, of which only the two programs were worked out by hand.
+// What the minifier answers to a program that becomes another one, of which only the two programs
+// were worked out by hand.
 "use strict";
 const { countNumbers, countSymbols, parseLeniently, text, written } = require("./estree.js");
 
@@ -12,8 +13,8 @@ const estree = (source) => parseLeniently(source, typeOf(source));
 // What a line says of an answer: `{ kept: 2, symbols: [0, 2] }`.
 const saidOptions = (said) => Function(`return (${said});`)();
 
-// The parts of an answer, as text. `said` tells what is not as usual: `kept` and `symbols` are numbers in the input, in order, or
-// how many there are where each stays at its place.
+// The parts of an answer, as text. `said` tells what is not as usual: `kept` and `symbols` are
+// numbers in the input, in order, or how many there are where each stays at its place.
 function outcomeOf(source, after, said) {
   const [before, program] = [estree(source), text(written(estree(after)))];
   const stays = text(written(before)) === program;

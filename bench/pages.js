@@ -1,15 +1,17 @@
-// Runs each example of docs/REWRITES.md and docs/rewrites/*.md by the built program, so that no page shows what isn't so.
+// Runs each example of docs/REWRITES.md and docs/rewrites/*.md by the built program, so that no
+// page shows what isn't so.
 //
 //     node --expose-internals bench/pages.js [PROGRAM [PAGE..]]
 //
-// PROGRAM is crates/mini_app/out/mini_app of this repository unless it is given; all pages are read unless some are. An example is
-// a whole program of JavaScript in a code span:
+// PROGRAM is crates/mini_app/out/mini_app of this repository unless it is given; all pages are read
+// unless some are. An example is a whole program of JavaScript in a code span:
 //
 //     `BEFORE` → `AFTER`           the program writes AFTER for BEFORE
 //     `BEFORE` stays               it writes BEFORE
 //
-// with WORD in a code span behind it, as in "`BEFORE` → `AFTER` with `--no-sequences`", it is given that word. A row of the index,
-// "| [12](..) | `BEFORE` | `AFTER` | ..", is one as well. The status is 1 where one differs, or where a page has none.
+// with WORD in a code span behind it, as in "`BEFORE` → `AFTER` with `--no-sequences`", it is given
+// that word. A row of the index, "| [12](..) | `BEFORE` | `AFTER` | ..", is one as well. The status
+// is 1 where one differs, or where a page has none.
 "use strict";
 const { spawnSync } = require("child_process");
 const fs = require("fs");
@@ -30,7 +32,8 @@ const BECOMES = new RegExp(`${span}\\s+→\\s+${again(3)}(?:\\s+with\\s+\`(--[a-
 const STAYS = new RegExp(`${span}\\s+stays(?:\\s+with\\s+\`(--[a-z-]+)\`)?`, "gs");
 const ROW = new RegExp(`^\\| *\\[[0-9]+\\]\\S* *\\| *${span} *\\| *${again(3)} *\\|`, "gm");
 
-// The code of a span: a line's end is a blank, and one blank at each end is none of it where both have one.
+// The code of a span: a line's end is a blank, and one blank at each end is none of it where both
+// have one.
 const code = (inside) => inside.replace(/\s*\n\s*/g, " ").replace(/^ (.*) $/s, "$1");
 const cell = (inside) => code(inside).replaceAll("\\|", "|");
 
@@ -55,7 +58,8 @@ const shown = (value) => {
   }
 };
 
-// How it comes out: the JSON of the program that is answered, in the order of its fields, or what is said instead.
+// How it comes out: the JSON of the program that is answered, in the order of its fields, or what
+// is said instead.
 function answer(before, word) {
   const ended = spawnSync(program, word ? [word] : [], { input: text(estree(before)), maxBuffer: 1 << 28 });
   if (ended.status !== 0) return { refused: ended.stderr.toString().trim() || `status ${ended.status}` };

@@ -1,14 +1,17 @@
-// Weighs what this program, esbuild, terser and uglify-js make of real JavaScript: of what Debian packages and node itself have
-// installed here, and nothing is copied into the repository.
+// Weighs what this program, esbuild, terser and uglify-js make of real JavaScript: of what Debian
+// packages and node itself have installed here, and nothing is copied into the repository.
 //
 //     node --expose-internals bench/peers.js [PROGRAM [COUNT [SEED]]]
 //
-// PROGRAM is crates/mini_app/out/mini_app of this repository unless it is given. COUNT pieces (250), chosen by SEED (1), are
-// scripts: statements from the top of files and functions from anywhere in them. Each peer is Debian's package of its name; one
-// that isn't installed is left out. PEERS names another root than / to look in, and NODE_PATH its usr/share/nodejs. Names are left
-// as they are by all, and so is what a piece declares at its top; a function that stands alone in a piece is handed to a call. A line a tool: how many pieces there are, their weight, the bytes
-// of their text and those of it by gzip, and the seconds that it took. All are printed by one printer, esbuild's without its
-// rewrites, so that the bytes tell rewrites alone. A piece on which one tool fails is left out of all.
+// PROGRAM is crates/mini_app/out/mini_app of this repository unless it is given. COUNT pieces
+// (250), chosen by SEED (1), are scripts: statements from the top of files and functions from
+// anywhere in them. Each peer is Debian's package of its name; one that isn't installed is left
+// out. PEERS names another root than / to look in, and NODE_PATH its usr/share/nodejs. Names are
+// left as they are by all, and so is what a piece declares at its top; a function that stands alone
+// in a piece is handed to a call. A line a tool: how many pieces there are, their weight, the bytes
+// of their text and those of it by gzip, and the seconds that it took. All are printed by one
+// printer, esbuild's without its rewrites, so that the bytes tell rewrites alone. A piece on which
+// one tool fails is left out of all.
 "use strict";
 const { spawnSync } = require("child_process");
 const fs = require("fs");
@@ -68,7 +71,8 @@ function measured(text) {
   return { weight: weigh(parseLeniently(text)), bytes: small.length, zipped: zlib.gzipSync(small).length };
 }
 
-// A function that stands alone in a piece is handed to a call, since some tools drop an expression that does nothing.
+// A function that stands alone in a piece is handed to a call, since some tools drop an expression
+// that does nothing.
 function handedOut(input) {
   const given = (statement) => {
     if (statement.type !== "ExpressionStatement" || !/Function|Class/.test(statement.expression.type)) return statement;

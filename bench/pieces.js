@@ -1,5 +1,6 @@
-// Pieces of the JavaScript that Debian packages and node itself have installed here, each as a program of its own: statements
-// from the top of files, and functions from anywhere in them. Nothing is copied into the repository.
+// Pieces of the JavaScript that Debian packages and node itself have installed here, each as a
+// program of its own: statements from the top of files, and functions from anywhere in them.
+// Nothing is copied into the repository.
 "use strict";
 const fs = require("fs");
 const path = require("path");
@@ -92,7 +93,8 @@ function chosen(list, count, seed) {
 // So many of the pieces, each with the name of its package.
 const chosenPieces = (count, seed) => chosen(allPieces(), count, seed);
 
-// The texts of whole files of at least and at most so many units, in an order that a seed chooses, each with the name of its package.
+// The texts of whole files of at least and at most so many units, in an order that a seed chooses,
+// each with the name of its package.
 function chosenFiles(least, most, seed) {
   const found = new Map();
   for (const [from, text] of sources()) if (text?.length >= least && text.length <= most) found.set(text, from);

@@ -1,4 +1,5 @@
-// JavaScript for ESTree, with parentheses round every part, so that nothing hangs on how operators bind.
+// JavaScript for ESTree, with parentheses round every part, so that nothing hangs on how operators
+// bind.
 "use strict";
 
 const list = (parts) => parts.join(", ");

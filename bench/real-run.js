@@ -1,16 +1,18 @@
-// Runs the built program on real JavaScript: what Debian packages and node itself have installed here. Builds nothing, and
-// copies nothing into the repository.
+// Runs the built program on real JavaScript: what Debian packages and node itself have installed
+// here. Builds nothing, and copies nothing into the repository.
 //
 //     node --expose-internals bench/real-run.js [PROGRAM [COUNT [SEED]]]
 //
-// PROGRAM is crates/mini_app/out/mini_app of this repository unless it is given: `rt run` in crates/mini_app makes it. COUNT
-// pieces (2,000), chosen by SEED (1), are statements from the top of files and functions from anywhere in them. Each is a
-// program of its own. Where nothing in it is outside the table, the program must end with status 0, and its answer is held
-// against what the scripts here count: that each number and symbol of the answer is one of the input, and none twice, the program first; that each function and class stays; that the
-// program written has each field of its types and no other, and is lighter by as much as it must; and that it comes back as it
-// is, in one pass, when it is given again. Else it must be refused. A line tells of each package, the last of all: how many
-// pieces were answered, refused, or were no JSON that is read; how many changed; the most passes; and the bytes of ESTree and
-// the weight before and after.
+// PROGRAM is crates/mini_app/out/mini_app of this repository unless it is given: `rt run` in
+// crates/mini_app makes it. COUNT pieces (2,000), chosen by SEED (1), are statements from the top
+// of files and functions from anywhere in them. Each is a program of its own. Where nothing in it
+// is outside the table, the program must end with status 0, and its answer is held against what the
+// scripts here count: that each number and symbol of the answer is one of the input, and none
+// twice, the program first; that each function and class stays; that the program written has each
+// field of its types and no other, and is lighter by as much as it must; and that it comes back as
+// it is, in one pass, when it is given again. Else it must be refused. A line tells of each
+// package, the last of all: how many pieces were answered, refused, or were no JSON that is read;
+// how many changed; the most passes; and the bytes of ESTree and the weight before and after.
 "use strict";
 const { words, run } = require("./built.js");
 const { FUNCTIONS, countNumbers, countSymbols, each, isOf, isOutside, isUnread, nesting, text, written } = require("./estree.js");
@@ -23,7 +25,8 @@ const { program, count, seed } = words(2000);
 
 // Some of the first numbers, each once.
 const areAmong = (list, count) => new Set(list).size === list.length && list.every((n) => n >= 0 && n < count);
-// How many functions, static blocks and classes there are. A rewrite drops one only where it never runs, so a difference is one to look at.
+// How many functions, static blocks and classes there are. A rewrite drops one only where it never
+// runs, so a difference is one to look at.
 const countCarried = (program) => {
   let found = 0;
   each(program, (node) => (found += isOf([...FUNCTIONS, "StaticBlock", "ClassDeclaration", "ClassExpression"], node) ? 1 : 0));
@@ -35,7 +38,8 @@ const isInOrder = (list) => list.every((n, at) => n === at);
 function* faultsOf(input, answer) {
   const after = answer.program;
   if (answer.kept[0] !== 0) yield "kept doesn't begin with the program";
-  // A key that loses its brackets takes a number along, and a name that nothing mentions its symbol.
+  // A key that loses its brackets takes a number along, and a name that nothing mentions its
+  // symbol.
   if (!areAmong(answer.kept, countNumbers(input)) || answer.kept.length !== countNumbers(after)) yield "kept";
   if (countCarried(after) !== countCarried(input)) yield "a function or class was lost";
   if (!areAmong(answer.symbols, countSymbols(input)) || answer.symbols.length !== countSymbols(after)) yield "symbols";

@@ -1,5 +1,6 @@
-// Writes a script of ESTree JSON as acorn gives it, with positions: functions, classes, loops, patterns and templates, over and
-// over, in at most SIZE bytes (16,777,216). A little of each copy is rewritten.
+// Writes a script of ESTree JSON as acorn gives it, with positions: functions, classes, loops,
+// patterns and templates, over and over, in at most SIZE bytes (16,777,216). A little of each copy
+// is rewritten.
 //
 //     node --expose-internals bench/real.js [SIZE] > real.json
 "use strict";

@@ -1,14 +1,17 @@
-// Looks for input that takes the built program long: random compositions of the shapes of bench/growth.js. Builds nothing.
+// Looks for input that takes the built program long: random compositions of the shapes of
+// bench/growth.js. Builds nothing.
 //
 //     node --expose-internals bench/search.js [PROGRAM [MINUTES [SEED [BYTES]]]]
 //
-// PROGRAM is crates/mini_app/out/mini_app of this repository unless it is given. Each composition takes two to four shapes, puts
-// their statements one behind another, by turns, or one into another, some inside loops, branches, blocks, closures, `try` or
-// `switch`, and makes them so large that the JSON has about BYTES (200,000). Compositions are numbered from SEED (1) on, and the
-// number is the seed of each. After MINUTES (60): how many were answered, how many the parser or the program refused (names that
-// are declared twice, JSON that nests too deep), the median of the seconds a MB of those that were answered, and the ten worst, as
-// times of the median, with their numbers and shapes. The status is 1 where one takes more than TIMES times the median, or ends in
-// another way than by an answer or a refusal.
+// PROGRAM is crates/mini_app/out/mini_app of this repository unless it is given. Each composition
+// takes two to four shapes, puts their statements one behind another, by turns, or one into
+// another, some inside loops, branches, blocks, closures, `try` or `switch`, and makes them so
+// large that the JSON has about BYTES (200,000). Compositions are numbered from SEED (1) on, and
+// the number is the seed of each. After MINUTES (60): how many were answered, how many the parser
+// or the program refused (names that are declared twice, JSON that nests too deep), the median of
+// the seconds a MB of those that were answered, and the ten worst, as times of the median, with
+// their numbers and shapes. The status is 1 where one takes more than TIMES times the median, or
+// ends in another way than by an answer or a refusal.
 "use strict";
 const acorn = require("internal/deps/acorn/acorn/dist/acorn");
 const { words } = require("./built.js");
@@ -31,7 +34,8 @@ function chance(seed) {
   };
 }
 
-// The statements of a shape's code, those of its function where it is one alone, each name of which begins with `v` made another.
+// The statements of a shape's code, those of its function where it is one alone, each name of which
+// begins with `v` made another.
 function statementsOf(name, units, mark) {
   const code = SHAPES[name](units).replace(/\b([vF])(?=\d|\b)/g, `$1${mark}`);
   const { body } = acorn.parse(code, { ecmaVersion: 2022, sourceType: "script", allowReturnOutsideFunction: true });
@@ -74,7 +78,8 @@ function composed(names, units, pick) {
 
 const jsonOf = (names, units, seed) => text(parse(composed(names, units, chance(seed))));
 
-// The composition of a number: its shapes and its JSON, or nothing where the shapes don't go together (a name twice, say).
+// The composition of a number: its shapes and its JSON, or nothing where the shapes don't go
+// together (a name twice, say).
 function composition(number, bytes) {
   const pick = chance(number * 2 + 1);
   const all = Object.keys(SHAPES);

@@ -1,11 +1,13 @@
-// Runs the whole runs that are stored (crates/mini_cases/stdin, lines `answer PASSES PROGRAM`) by the built program, and compares what
-// it answers with what is stored (crates/mini_cases/stdout). It takes under a minute, where the build with checks of mini_cases takes
-// many, so that stale lines are found before the gate. Builds nothing.
+// Runs the whole runs that are stored (crates/mini_cases/stdin, lines `answer PASSES PROGRAM`) by
+// the built program, and compares what it answers with what is stored (crates/mini_cases/stdout).
+// It takes under a minute, where the build with checks of mini_cases takes many, so that stale
+// lines are found before the gate. Builds nothing.
 //
 //     node --expose-internals bench/stored.js [PROGRAM]
 //
-// PROGRAM is crates/mini_app/out/mini_app of this repository unless it is given. The text of each line that differs is told, with
-// what came and what is stored. The status is 1 where one differs, or where an answer says that what was known of bodies didn't stay so.
+// PROGRAM is crates/mini_app/out/mini_app of this repository unless it is given. The text of each
+// line that differs is told, with what came and what is stored. The status is 1 where one differs,
+// or where an answer says that what was known of bodies didn't stay so.
 "use strict";
 const { spawnSync } = require("child_process");
 const fs = require("fs");

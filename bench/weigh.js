@@ -1,4 +1,5 @@
-// What a program of ESTree weighs, written apart from the program, by the rules of crates/mini_model/specs/Weight.antt.
+// What a program of ESTree weighs, written apart from the program, by the rules of
+// crates/mini_model/specs/Weight.antt.
 "use strict";
 const { FIELDS, scopes } = require("./estree.js");
 
@@ -458,7 +459,8 @@ class Weigher {
 // What a program weighs.
 const weigh = (program) => new Weigher().weight(program, ELSEWHERE);
 
-// What an expression weighs as the test of an `if`, and a statement in a list, as a body and as a consequent.
+// What an expression weighs as the test of an `if`, and a statement in a list, as a body and as a
+// consequent.
 const weighTest = (expression) => new Weigher().weight(expression, WHOLE);
 const weighStatement = (statement) => ["list", "body", "consequent"].map((seat) => new Weigher().weight(statement, stmt(seat)));
 

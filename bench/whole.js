@@ -1,13 +1,17 @@
-// Whole files of real JavaScript, minified by this program, esbuild, terser and uglify-js in one run, each as a process of its own:
-// the seconds of processor a MB of JavaScript, the most memory, and the bytes of what each makes, by themselves and by gzip. Builds nothing.
+// Whole files of real JavaScript, minified by this program, esbuild, terser and uglify-js in one
+// run, each as a process of its own: the seconds of processor a MB of JavaScript, the most memory,
+// and the bytes of what each makes, by themselves and by gzip. Builds nothing.
 //
 //     node --expose-internals bench/whole.js [PROGRAM [COUNT [SEED]]]
 //
-// PROGRAM is crates/mini_app/out/mini_app of this repository unless it is given. COUNT files (20), chosen by SEED (1), are scripts of
-// LEAST to MOST bytes of those that Debian's packages have installed here; PEERS names another root than / to look for the peers in,
-// and NODE_PATH its usr/share/nodejs. What this program reads and writes is ESTree JSON: parsing and printing aren't in its figures, and
-// what plain JSON takes is a row of its own, if crates/mini_cases/out/mini_cases is there. Names are left as they are by all, and
-// all is printed by one printer, as in bench/peers.js. A file on which one tool fails, or takes LIMIT seconds, is left out of all.
+// PROGRAM is crates/mini_app/out/mini_app of this repository unless it is given. COUNT files (20),
+// chosen by SEED (1), are scripts of LEAST to MOST bytes of those that Debian's packages have
+// installed here; PEERS names another root than / to look for the peers in, and NODE_PATH its
+// usr/share/nodejs. What this program reads and writes is ESTree JSON: parsing and printing aren't
+// in its figures, and what plain JSON takes is a row of its own, if
+// crates/mini_cases/out/mini_cases is there. Names are left as they are by all, and all is printed
+// by one printer, as in bench/peers.js. A file on which one tool fails, or takes LIMIT seconds, is
+// left out of all.
 "use strict";
 const { spawnSync } = require("child_process");
 const fs = require("fs");

@@ -12,14 +12,16 @@ ghost use Rattle.mini_shrink.specs.ToldOn.{PlacesShow, ToldIsSo, ToldOn, ToldWit
 use mini_laws::Rewrites;
 
 /// Any number of steps of a relation that reads less (`ReadsLess`) leave each question of which
-/// Shared and Foreign are made with the answer that it had, or with less: for each body, and for each
-/// symbol that is still declared. The program is well shaped and scoped, with distinct symbols.
+/// Shared and Foreign are made with the answer that it had, or with less: for each body, and for
+/// each symbol that is still declared. The program is well shaped and scoped, with distinct
+/// symbols.
 pub fn reads_less_shrinks<R: Rewrites>()
     ensures { ReadsLessShrinks R.gives }
 {}
 
-/// Any number of such steps leave each symbol that no body writes and no answer changes, or that no
-/// other body sees, one of which that is told of the same body.
+/// Facts of a body survive any number of steps of a relation that reads less: where the questions
+/// say that no body writes a symbol and no answer changes it, or that no other body sees it, they
+/// say so of the later program, too.
 pub fn told_shrinks<R: Rewrites>()
     ensures { ToldShrinks R.gives }
 {}
@@ -35,9 +37,9 @@ pub fn foreign_by_scopes()
     ensures foreign { ForeignByScopes }
 {}
 
-/// What the questions tell of a body (which symbols are steady in it, which no other body sees) is so
-/// by the definitions of Shared and Foreign, and is told of the same body after any number of lawful
-/// steps that read less.
+/// What the questions tell of a body (which symbols are steady in it, which no other body sees) is
+/// so by the definitions of Shared and Foreign, and is told of the same body after any number of
+/// lawful steps that read less.
 pub fn told_on<R: Rewrites>()
     ensures so { ToldIsSo }
     ensures on { ToldOn R.gives }
@@ -46,8 +48,8 @@ pub fn told_on<R: Rewrites>()
 {}
 
 /// A symbol that no node writes and that is not foreign to a body, whatever the body's own
-/// declarators give it, is so by the definitions of Shared and Foreign, and stays so after any number
-/// of lawful steps that read less.
+/// declarators give it, is so by the definitions of Shared and Foreign, and stays so after any
+/// number of lawful steps that read less.
 pub fn exactly_told_on<R: Rewrites>()
     ensures so { ExactIsSo }
     ensures within { ExactWithin R.gives }
