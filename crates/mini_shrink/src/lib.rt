@@ -31,7 +31,9 @@ pub fn programs_are_regular()
     ensures { ProgramsAreRegular }
 {}
 
-/// What is foreign by all names and all moments of a program is so by what shrinks.
+/// A body that reads a symbol early, by all moments of the program, does so by the ends that scopes
+/// tell; and a symbol that is foreign to a body by its definition is so by the questions, which
+/// shrink.
 pub fn foreign_by_scopes()
     ensures early { EarlyByScopes }
     ensures foreign { ForeignByScopes }
