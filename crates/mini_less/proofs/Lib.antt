@@ -56,4 +56,7 @@ pub mod DeclaredKeysLess
 pub mod ArrowsLess
 pub mod Beside
 pub mod NamesLess
+pub mod ByQuestion
+pub mod LessTold
+pub mod DeclarationsLess
 pub mod BodyEndsLess

@@ -10,5 +10,6 @@ pub mod Own
 pub mod HeldKeys
 pub mod Arrows
 pub mod Names
+pub mod Declarations
 pub mod BodyEnds
 pub mod TellsLists

@@ -5,6 +5,7 @@
 ghost use Rattle.mini_less.specs.Families.{ConstantsReadLess, SequencesReadLess, TemplatesReadLess, BooleansReadLess, NegationsReadLess, ChoicesReadLess, WritesReadLess, KeysReadLess, FoldingsReadLess, DeMorganReadsLess, WholeFamiliesReadLess, IfRowsLess, BodyRowsLess, BodyRowsOfThisLess, FirstRowsReadLess, OperandsReadLess, SpellingsReadLess, ReadsLessJoins, ReadsLessNarrows, ListRowsLess, MoreRowsLess, TurnsReadLess, TurnsShrink};
 ghost use Rattle.mini_less.specs.Arrows.{ArrowsReadLess};
 ghost use Rattle.mini_less.specs.BodyEnds.{BodyEndsLess};
+ghost use Rattle.mini_less.specs.Declarations.{DeclarationsReadLess};
 ghost use Rattle.mini_less.specs.HeldKeys.{HeldKeysReadLess};
 ghost use Rattle.mini_less.specs.Names.{NamesReadLess, CatchesReadLess};
 ghost use Rattle.mini_less.specs.Own.{SteadyReadsLess, LexicalReadsLess, PastBlocksReadLess};
@@ -155,6 +156,11 @@ pub fn arrows_read_less()
 /// The row that drops the name of a function or class expression that nothing mentions: 62.
 pub fn names_read_less()
     ensures { NamesReadLess }
+{}
+
+/// The row of a `let` without the value `undefined`: 61.
+pub fn declarations_read_less()
+    ensures { DeclarationsReadLess }
 {}
 
 /// The row that drops what a `catch` catches where nothing mentions it: 63.
