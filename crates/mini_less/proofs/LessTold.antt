@@ -279,6 +279,19 @@ module _ (q : Question) (t u : Tree) (ends : (c : Setting) → q.ends c u ≡ q.
   )
   child_less sc cs i env (b ▸ before) f = (itself _, child_less sc cs (suc i) (env ++ sc i) before f)
 
+  -- so the node tells at most that, if it does itself
+  pub node_less : (c : Setting) (env : Environment) (h : Shape) (xs : List Name) (n : ℕ) (before : Trees) → AtMost (q.before c env h xs n (append before (u ▸ after))) (q.before c env h xs n (append before (t ▸ after))) → q.orders c h (append before (u ▸ after)) ≡ q.orders c h (append before (t ▸ after))
+      → ((i : ℕ) → opened c.used h (append before (u ▸ after)) i ≡ opened c.used h (append before (t ▸ after)) i) → ((e : Environment) → AtMost (pace q (below (q.orders c h (append before (t ▸ after))) c h n (behind 0 before)) e u) (pace q (below (q.orders c h (append before (t ▸ after))) c h n (behind 0 before)) e t))
+      → AtMost (pace q c env (node h xs n (append before (u ▸ after)))) (pace q c env (node h xs n (append before (t ▸ after))))
+  unfolding pace
+  node_less c env h xs n before root orders opens child =
+      let old = append before (t ▸ after) in
+      let new = append before (u ▸ after) in
+      let cs = below (q.orders c h old) c h n in
+      subst (λ p. AtMost p (pace q c env (node h xs n old))) (sym (λ j. followed (q.before c env h xs n new) (in_turn h (paces q (λ i. opens i j) (below (orders j) c h n) 0 env new))))
+      (both (q.before c env h xs n new) (q.before c env h xs n old) (in_turn h (paces q (opened c.used h old) cs 0 env new)) (in_turn h (paces q (opened c.used h old) cs 0 env old)) root
+      (turned h (paces q (opened c.used h old) cs 0 env new) (paces q (opened c.used h old) cs 0 env old) (child_less (opened c.used h old) cs 0 env before child)))
+
 -- ---- what trees tell
 
 pub record LessTold (V : Use → Type 0) (t u : Tree) : Type 0 where
@@ -338,18 +351,12 @@ module _ (V W : Use → Type 0) (t u : Tree) (k : LessTold V t u) (before after 
   each = one_likewise t u k.likewise before after
 
   pub over_less : (h : Shape) (xs : List Name) (n : ℕ) → ((v : Use) → W v → V (use_of h v (behind 0 before))) → LessTold W (node h xs n old) (node h xs n new)
-  unfolding pace
-  over_less h xs n uses = record { likewise = node_likewise h xs n old new each; said = said }
-    where
-      said : (g : Fact) (b s : ℕ) (c : Setting) → W c.used → (env : Environment) → AtMost (pace (question g b s) c env (node h xs n new)) (pace (question g b s) c env (node h xs n old))
-      said g b s c w env =
-          let q = question g b s in
-          let cs = below (q.orders c h old) c h n in
-          subst (λ p. AtMost p (pace q c env (node h xs n old))) (sym (λ j. followed (q.before c env h xs n new) (in_turn h (paces q (λ i. opens_same old new each c.used h i j) (below (orders_same g b s c h old new each j) c h n) 0 env new))))
-          (both (q.before c env h xs n new) (q.before c env h xs n old) (in_turn h (paces q (opened c.used h old) cs 0 env new)) (in_turn h (paces q (opened c.used h old) cs 0 env old))
-          (before_less g b s c env h xs n old new each)
-          (turned h (paces q (opened c.used h old) cs 0 env new) (paces q (opened c.used h old) cs 0 env old)
-          (child_less q t u (λ c. ends_same g b s c t u k.likewise.kept) after (opened c.used h old) cs 0 env before (k.said g b s (cs (behind 0 before)) (uses c.used w)))))
+  over_less h xs n uses = record {
+    likewise = node_likewise h xs n old new each;
+    said = λ g b s c w env.
+        let q = question g b s in
+        node_less q t u (λ c. ends_same g b s c t u k.likewise.kept) after c env h xs n before (before_less g b s c env h xs n old new each) (orders_same g b s c h old new each) (opens_same old new each c.used h) (k.said g b s (below (q.orders c h old) c h n (behind 0 before)) (uses c.used w));
+  }
 
 -- so what is written for a node asks less
 pub less_told : (V : Use → Type 0) (p : Position) (n w : Tree) → ((strict : Bool) (s : Slot) → fits_place p s ≡ true → fits strict s n ≡ true → LessTold V n w) → ((v : Use) → Stands p v n → V v) → LessAt p n w

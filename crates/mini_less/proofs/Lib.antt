@@ -59,4 +59,5 @@ pub mod NamesLess
 pub mod ByQuestion
 pub mod LessTold
 pub mod DeclarationsLess
+pub mod LoopGuardsLess
 pub mod BodyEndsLess

@@ -11,5 +11,6 @@ pub mod HeldKeys
 pub mod Arrows
 pub mod Names
 pub mod Declarations
+pub mod LoopGuards
 pub mod BodyEnds
 pub mod TellsLists
