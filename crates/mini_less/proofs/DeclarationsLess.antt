@@ -41,7 +41,7 @@ use Rattle.mini_less.proofs.LessTold.{Likewise, LessTold, Anyhow, over_less, les
 
 -- ---- a declarator
 
-abbrev IsRead : Use → Type 0
+abbrev pub IsRead : Use → Type 0
 IsRead v = v ≡ Read
 
 -- what is absent says nothing
@@ -50,10 +50,10 @@ unfolding pace
 absent_silent g b s c env = ap (λ p. followed p Silent) ((each_quiets g b s).silent c env shape.Absent refl 0 none)
 
 module _ (x : Name) where
-  abbrev valued : Tree → Tree
+  abbrev pub valued : Tree → Tree
   valued v = declarator (binding x) v
 
-  abbrev parts : Tree → Trees
+  abbrev pub parts : Tree → Trees
   parts v = binding x ▸ (v ▸ none)
 
   no_lexical : (b : Bool) (v : Tree) → own_lexical b shape.VariableDeclarator (parts v) ≡ []
@@ -61,7 +61,7 @@ module _ (x : Name) where
   no_lexical false v = refl
 
   -- of a lexical name it tells nothing itself
-  root_silent : (g : Fact) (b s : ℕ) (c : Setting) → c.used ≡ Read → (env : Environment) (v : Tree) → (question g b s).before c env shape.VariableDeclarator [] 0 (parts v) ≡ Silent
+  pub root_silent : (g : Fact) (b s : ℕ) (c : Setting) → c.used ≡ Read → (env : Environment) (v : Tree) → (question g b s).before c env shape.VariableDeclarator [] 0 (parts v) ≡ Silent
   unfolding scopes_by
   root_silent Given b s c r env v = ap (λ w. reads_if (list_any (is_write (by_symbol s)) (map (write_at c.around) (given_values w shape.VariableDeclarator [] (parts v))))) r
   root_silent GivenElsewhere b s c r env v = ap (λ w. reads_if (list_any (λ m. is_write (by_symbol s) m && is_elsewhere b m.around) (map (write_at c.around) (given_values w shape.VariableDeclarator [] (parts v))))) r
@@ -79,15 +79,15 @@ module _ (x : Name) where
   root_silent AmongParameters b s c r env v = refl
   root_silent ReadEarly b s c r env v = refl
 
-  abbrev at : Setting → ℕ → Setting
+  abbrev pub at : Setting → ℕ → Setting
   at c = below false c shape.VariableDeclarator 0
 
-  abbrev Says : Question → Type 0
+  abbrev pub Says : Question → Type 0
   Says q =
       (c : Setting) (env : Environment) (v : Tree) → q.before c env shape.VariableDeclarator [] 0 (parts v) ≡ Silent
       → pace q c env (valued v) ≡ followed (ends_after false (pace q (at c 0) env (binding x))) (followed (ends_after false (pace q (at c 1) env v)) Silent)
 
-  valued_says : (g : Fact) (b s : ℕ) → Says (question g b s)
+  pub valued_says : (g : Fact) (b s : ℕ) → Says (question g b s)
   unfolding pace scopes_by
   valued_says = by_question Says
       (λ o c env v e j. followed (e j) (followed (ends_after false (pace (asks o) (at c 0) (append-nil env j) (binding x))) (followed (ends_after false (pace (asks o) (at c 1) ((append-nil (env ++ []) ∙ append-nil env) j) v)) Silent)))

@@ -255,7 +255,7 @@ before_less ReadEarly b s c env h xs n ts us k = itself _
 orders_same : (g : Fact) (b s : ℕ) (c : Setting) (h : Shape) (ts us : Trees) → AllLikewise ts us → (question g b s).orders c h us ≡ (question g b s).orders c h ts
 orders_same g b s c h ts us k = by_question (λ q. q.orders c h us ≡ q.orders c h ts) (λ o. refl) (λ m r. ap (λ ys. (hands_on h && c.ordered) || is_among (by_symbol r) ys) (listed_same h ts us k)) g b s
 
-ends_same : (g : Fact) (b s : ℕ) (c : Setting) (t u : Tree) → Kept t u → (question g b s).ends c u ≡ (question g b s).ends c t
+pub ends_same : (g : Fact) (b s : ℕ) (c : Setting) (t u : Tree) → Kept t u → (question g b s).ends c u ≡ (question g b s).ends c t
 ends_same g b s c t u k = by_question (λ q. q.ends c u ≡ q.ends c t) (λ o. refl) (λ m r j. c.ordered && (is_among (by_symbol r) (k.names declared.Lexical j) || is_among (by_symbol r) (k.names declared.Bound j))) g b s
 
 -- ---- a node over a child

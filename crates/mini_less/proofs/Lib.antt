@@ -60,4 +60,6 @@ pub mod ByQuestion
 pub mod LessTold
 pub mod DeclarationsLess
 pub mod LoopGuardsLess
+pub mod StretchTold
+pub mod LetsLess
 pub mod BodyEndsLess
