@@ -62,4 +62,5 @@ pub mod DeclarationsLess
 pub mod LoopGuardsLess
 pub mod StretchTold
 pub mod LetsLess
+pub mod FadedLess
 pub mod BodyEndsLess

@@ -186,7 +186,7 @@ both_quiet false Ends e f = refl
 both_quiet false Silent e f = refl
 both_quiet false Reads e f = absurd (true≢false f)
 
-quiet_after : (p r : Pace) → is_reads p ≡ false → is_reads r ≡ false → is_reads (followed p r) ≡ false
+pub quiet_after : (p r : Pace) → is_reads p ≡ false → is_reads r ≡ false → is_reads (followed p r) ≡ false
 quiet_after Ends r e f = refl
 quiet_after Silent r e f = f
 quiet_after Reads r e f = absurd (true≢false e)

@@ -58,11 +58,11 @@ map_names : (P R : Name → Type 0) → ((x : Name) → P x → R x) → (xs : L
 map_names P R f [] a = tt
 map_names P R f (x ∷ xs) a = (f x a.0, map_names P R f xs a.1)
 
-elsewhere_within : (c : ℕ) (a b : Around) → Within a b → is_elsewhere c a ≡ true → is_elsewhere c b ≡ true
+pub elsewhere_within : (c : ℕ) (a b : Around) → Within a b → is_elsewhere c a ≡ true → is_elsewhere c b ≡ true
 elsewhere_within c a b (inl q) e = ap (is_elsewhere c) q ∙ e
 elsewhere_within c a b (inr q) e = ap (λ z. z || not (nat_eq b.number c)) q
 
-both_true : (x y z : Bool) → (y ≡ true → z ≡ true) → (x && y) ≡ true → (x && z) ≡ true
+pub both_true : (x y z : Bool) → (y ≡ true → z ≡ true) → (x && y) ≡ true → (x && z) ≡ true
 both_true true y z f e = f e
 both_true false y z f e = e
 

@@ -12,5 +12,6 @@ pub mod Arrows
 pub mod Names
 pub mod Declarations
 pub mod LoopGuards
+pub mod Lets
 pub mod BodyEnds
 pub mod TellsLists

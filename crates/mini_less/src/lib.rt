@@ -6,6 +6,7 @@ ghost use Rattle.mini_less.specs.Families.{ConstantsReadLess, SequencesReadLess,
 ghost use Rattle.mini_less.specs.Arrows.{ArrowsReadLess};
 ghost use Rattle.mini_less.specs.BodyEnds.{BodyEndsLess};
 ghost use Rattle.mini_less.specs.Declarations.{DeclarationsReadLess};
+ghost use Rattle.mini_less.specs.Lets.{LetsReadLess};
 ghost use Rattle.mini_less.specs.LoopGuards.{LoopGuardsReadLess};
 ghost use Rattle.mini_less.specs.HeldKeys.{HeldKeysReadLess};
 ghost use Rattle.mini_less.specs.Names.{NamesReadLess, CatchesReadLess};
@@ -167,6 +168,11 @@ pub fn declarations_read_less()
 /// The row of a guard in the body of a loop that goes on with the next turn: 75.
 pub fn loop_guards_read_less()
     ensures { LoopGuardsReadLess }
+{}
+
+/// Rows of a `let` and an assignment after it, and of a lexical declaration that never runs: 70, 77.
+pub fn lets_read_less()
+    ensures { LetsReadLess }
 {}
 
 /// The row that drops what a `catch` catches where nothing mentions it: 63.
