@@ -4,19 +4,23 @@ use Rattle.mini_shrink.specs.Facts.{Fact, Written, WrittenElsewhere, Given, Give
 use Rattle.mini_shrink.specs.Pace.{Question}
 use Rattle.mini_shrink.specs.Questions.{Own, asks, early}
 
+-- of one symbol
+pub by_question_of : (s : ℕ) (P : Question → Type 0) → ((o : Own) → P (asks o)) → ((b : ℕ) → P (early b s)) → (g : Fact) (b : ℕ) → P (question g b s)
+by_question_of s P f r Written b = f _
+by_question_of s P f r WrittenElsewhere b = f _
+by_question_of s P f r Given b = f _
+by_question_of s P f r GivenElsewhere b = f _
+by_question_of s P f r GivenByPattern b = f _
+by_question_of s P f r MentionedElsewhere b = f _
+by_question_of s P f r BoundElsewhere b = f _
+by_question_of s P f r IsLexical b = f _
+by_question_of s P f r IsSwitched b = f _
+by_question_of s P f r InPattern b = f _
+by_question_of s P f r UnderCatch b = f _
+by_question_of s P f r ByArguments b = f _
+by_question_of s P f r ByEval b = f _
+by_question_of s P f r AmongParameters b = f _
+by_question_of s P f r ReadEarly b = r b
+
 pub by_question : (P : Question → Type 0) → ((o : Own) → P (asks o)) → ((b s : ℕ) → P (early b s)) → (g : Fact) (b s : ℕ) → P (question g b s)
-by_question P f r Written b s = f _
-by_question P f r WrittenElsewhere b s = f _
-by_question P f r Given b s = f _
-by_question P f r GivenElsewhere b s = f _
-by_question P f r GivenByPattern b s = f _
-by_question P f r MentionedElsewhere b s = f _
-by_question P f r BoundElsewhere b s = f _
-by_question P f r IsLexical b s = f _
-by_question P f r IsSwitched b s = f _
-by_question P f r InPattern b s = f _
-by_question P f r UnderCatch b s = f _
-by_question P f r ByArguments b s = f _
-by_question P f r ByEval b s = f _
-by_question P f r AmongParameters b s = f _
-by_question P f r ReadEarly b s = r b s
+by_question P f r g b s = by_question_of s P f (λ b. r b s) g b

@@ -63,4 +63,6 @@ pub mod LoopGuardsLess
 pub mod StretchTold
 pub mod LetsLess
 pub mod FadedLess
+pub mod Drops
+pub mod DroppedLess
 pub mod BodyEndsLess
