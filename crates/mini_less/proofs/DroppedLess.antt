@@ -6,6 +6,7 @@ use Rattle.std.proofs.lemmas.List.{append-nil}
 use Rattle.mini_model.specs.declared.kind.VariableDeclarationKind.{VariableDeclarationKind}
 use Rattle.mini_model.specs.declared.kind.VariableDeclarationKind.TheVariants.{Var, Let, Const}
 use Rattle.mini_model.specs.declared.name.Name.{Name}
+use Rattle.mini_model.specs.declared.shape.Shape.{Shape}
 use Rattle.mini_model.specs.declared.shape.Shape.TheVariants as shape
 use Rattle.mini_model.specs.Paths.{append}
 use Rattle.mini_model.specs.Tree.{Tree, Trees, none, ◌▸◌, listed, empty_statement, expression_statement}
@@ -20,13 +21,13 @@ use Rattle.mini_laws.specs.ScopeList.{has_eval, any_has_eval, by_symbol}
 use Rattle.mini_laws.specs.Scopes.{opened}
 use Rattle.mini_laws.specs.Shared.{names_arguments}
 use Rattle.mini_shrink.specs.Facts.{Fact, Written, WrittenElsewhere, Given, GivenElsewhere, GivenByPattern, MentionedElsewhere, BoundElsewhere, IsLexical, IsSwitched, InPattern, UnderCatch, ByArguments, ByEval, AmongParameters, ReadEarly, question}
-use Rattle.mini_shrink.specs.Pace.{Pace, Ends, Silent, Reads, AtMost, followed, ends_after, Setting, Question, pace, reads_if}
+use Rattle.mini_shrink.specs.Pace.{Pace, Ends, Silent, Reads, AtMost, followed, ends_after, Setting, below, Question, pace, reads_if}
 use Rattle.mini_shrink.specs.Questions.{Own, asks, early}
 use Rattle.mini_shrink.proofs.Owns.{implied}
 use Rattle.mini_shrink.proofs.Paces.{itself, same, both, ended}
 use Rattle.mini_rows.specs.Lists.{binding, declarator, declaration}
 use Rattle.mini_rows.specs.Sketches.{Empty, Asked, AsWholeItem}
-use Rattle.mini_rows.specs.Unused.{resolved, names, any_names, declared_one, declared_among, declared_left}
+use Rattle.mini_rows.specs.Unused.{resolved, names, any_names, declared_one, declared_among, declared_left, head_left}
 use Rattle.mini_rows.proofs.ListKeptDeclarations.{all_both}
 use Rattle.mini_rows.proofs.DeclaredKept.{none_in}
 use Rattle.mini_less.specs.Neighbours.{of_items, items_say}
@@ -34,6 +35,7 @@ use Rattle.mini_less.specs.TellsLists.{TellsLists}
 use Rattle.mini_less.proofs.ByLists.{ByLists, lacks_lists, calm_lists, spared_lists, names_lists, numbers_lists, valued_calm}
 use Rattle.mini_less.proofs.ByQuestion.{by_question, by_question_of}
 use Rattle.mini_less.proofs.Calm.{unseen}
+use Rattle.mini_less.proofs.DeclarationsLess.{absent_silent}
 use Rattle.mini_less.proofs.Drops.{DropsLess}
 use Rattle.mini_less.proofs.EachFact.{Unordered}
 use Rattle.mini_less.proofs.EntersLess.{reads_most, first_calm}
@@ -69,6 +71,24 @@ says_nothing : (p : Pace) → AtMost Silent (followed (ends_after false p) Silen
 says_nothing Ends = tt
 says_nothing Silent = tt
 says_nothing Reads = tt
+
+silent_least : (p : Pace) → is_ended p ≡ false → AtMost Silent p
+silent_least Silent e = tt
+silent_least Reads e = tt
+silent_least Ends e = absurd (true≢false e)
+
+unended_both : (p r : Pace) → is_ended p ≡ false → is_ended r ≡ false → is_ended (followed p r) ≡ false
+unended_both Silent r e f = f
+unended_both Reads r e f = refl
+unended_both Ends r e f = absurd (true≢false e)
+
+reads_unended : (b : Bool) → is_ended (reads_if b) ≡ false
+reads_unended true = refl
+reads_unended false = refl
+
+-- no node says itself that a declaration ends
+root_unended : (g : Fact) (b s : ℕ) (c : Setting) (env : Environment) (h : Shape) (xs : List Name) (n : ℕ) (ts : Trees) → is_ended ((question g b s).before c env h xs n ts) ≡ false
+root_unended g b s c env h xs n ts = by_question (λ q. is_ended (q.before c env h xs n ts) ≡ false) (λ o. reads_unended (o c env h xs n ts)) (λ b s. reads_unended _) g b s
 
 -- without what is between
 between_less : (p r s : Pace) → AtMost (followed p s) (followed p (followed (ends_after false r) s))
@@ -250,7 +270,7 @@ module _ (sp : List ℕ) (k : ℕ) (K : VariableDeclarationKind) (first : Trees)
       orders_same : (g : Fact) (b : ℕ) → (question g b s).orders c (shape.VariableDeclaration K) (listed es ▸ none) ≡ (question g b s).orders c (shape.VariableDeclaration K) (listed ts ▸ none)
       orders_same g b = by_question_of s (λ q. q.orders c (shape.VariableDeclaration K) (listed es ▸ none) ≡ q.orders c (shape.VariableDeclaration K) (listed ts ▸ none)) (λ o. refl) (λ b. refl) g b
 
-      fewer_less : (g : Fact) (b : ℕ) → AtMost (pace (question g b s) c env (declaration K es)) (pace (question g b s) c env (declaration K ts))
+      pub fewer_less : (g : Fact) (b : ℕ) → AtMost (pace (question g b s) c env (declaration K es)) (pace (question g b s) c env (declaration K ts))
       fewer_less g b =
           node_less (question g b s) (listed ts) (listed es) (list_ends g b) none c env (shape.VariableDeclaration K) [] 0 none (root_less g b) (orders_same g b)
           (λ i. declaration_opens c.used r K (listed es ▸ none) i ∙ sym (declaration_opens c.used r K (listed ts ▸ none) i)) (list_less g b _)
@@ -319,3 +339,30 @@ module _ (sp : List ℕ) (k : ℕ) (K : VariableDeclarationKind) (first : Trees)
     arguments = fewer_told names_arguments any_arguments (λ t us. refl) refl names_add (joins.names_told K) refl;
     numbers = λ n. fewer_told (has_number (suc n)) (any_has_number (suc n)) (λ t us. refl) refl (numbers_add (suc n)) (joins.numbers_told n K) (λ j. unlike n j || false);
   }
+
+  -- ---- in the head of a `for`
+
+  no_listed : (g : Fact) (b s : ℕ) (c : Setting) → (question g b s).ends c (listed none) ≡ false
+  unfolding names_of
+  no_listed g b s c = by_question_of s (λ q. q.ends c (listed none) ≡ false) (λ o. refl) (λ b. no_ends c.ordered) g b
+
+  module _ (s : ℕ) (other : nat_eq s k ≡ false) (g : Fact) (b : ℕ) (c : Setting) (r : c.used ≡ Read) (env : Environment) where
+    -- the last declarator ends no declaration of another symbol
+    alone_unended : none ≡ es → is_ended (pace (question g b s) c env (declaration K ts)) ≡ false
+    unfolding pace
+    alone_unended e =
+        let q = question g b s in
+        let d = below (q.orders c (shape.VariableDeclaration K) (listed ts ▸ none)) c (shape.VariableDeclaration K) 0 0 in
+        let l = pace q d (env ++ opened c.used (shape.VariableDeclaration K) (listed ts ▸ none) 0) (listed ts) in
+        unended_both (q.before c env (shape.VariableDeclaration K) [] 0 (listed ts ▸ none)) (followed (ends_after (q.ends d (listed ts)) l) Silent) (root_unended g b s c env (shape.VariableDeclaration K) [] 0 (listed ts ▸ none))
+        (ap (λ z. is_ended (followed (ends_after z l) Silent)) (sym (list_ends s other g b d) ∙ sym (ap (λ us. q.ends d (listed us)) e) ∙ no_listed g b s d) ∙ never_ends l)
+
+    pub head_less : AtMost (pace (question g b s) c env (head_left K es)) (pace (question g b s) c env (declaration K ts))
+    head_less = left es refl
+      where
+        old : Pace
+        old = pace (question g b s) c env (declaration K ts)
+
+        left : (us : Trees) → us ≡ es → AtMost (pace (question g b s) c env (head_left K us)) old
+        left none e = subst (λ p. AtMost p old) (sym (absent_silent g b s c env)) (silent_least old (alone_unended e))
+        left (u ▸ us) e = subst (λ zs. AtMost (pace (question g b s) c env (declaration K zs)) old) (sym e) (fewer_less s other c r env g b)
