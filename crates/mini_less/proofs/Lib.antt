@@ -57,3 +57,4 @@ pub mod ArrowsLess
 pub mod Beside
 pub mod NamesLess
 pub mod BodyEndsLess
+pub mod PutMade
