@@ -142,7 +142,7 @@ module _ (ds : Trees) (x : Name) (v : Tree) (es : Trees) (b : Beginning) where
 
 -- ---- 70, before a declaration of lexical names
 
-reads_most : (p r : Pace) → is_reads r ≡ true → AtMost p r
+pub reads_most : (p r : Pace) → is_reads r ≡ true → AtMost p r
 reads_most Ends r e = tt
 reads_most Silent Reads e = tt
 reads_most Reads Reads e = tt
@@ -151,7 +151,7 @@ reads_most Silent Silent e = absurd (true≢false (sym e))
 reads_most Reads Ends e = absurd (true≢false (sym e))
 reads_most Reads Silent e = absurd (true≢false (sym e))
 
-calm_ends : (e : Bool) (p : Pace) → is_reads p ≡ false → ends_after e p ≡ ends_if e
+pub calm_ends : (e : Bool) (p : Pace) → is_reads p ≡ false → ends_after e p ≡ ends_if e
 calm_ends e Ends a = refl
 calm_ends e Silent a = refl
 calm_ends e Reads a = absurd (true≢false a)

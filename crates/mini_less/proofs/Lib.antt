@@ -58,3 +58,5 @@ pub mod Beside
 pub mod NamesLess
 pub mod BodyEndsLess
 pub mod PutMade
+pub mod Drops
+pub mod HeadsOnce
