@@ -197,7 +197,7 @@ module _ (o : Own) (t : TellsLists o) (c : Setting) (env : Environment) (r : c.u
         let value = subst (λ r. finds o second r d ≡ false) (sym same_scope) (subst (λ s. finds o s env d ≡ false) (sym around_value) z) in
         λ j. x j || (name j || (value j || false))
 
-    valued_lacks : (id d e : Tree) → is_absent d ≡ is_absent e → Declares v AsWholeItem (declarator id d) → Q AsValue d × (Q AsValue e → Declares v AsWholeItem (declarator id e))
+    pub valued_lacks : (id d e : Tree) → is_absent d ≡ is_absent e → Declares v AsWholeItem (declarator id d) → Q AsValue d × (Q AsValue e → Declares v AsWholeItem (declarator id e))
     valued_lacks id d e same a =
         let (x, (y, z)) = declarator_lacks id d a in
         (z, λ q. lacks_declarator id e (t.valued (setting o t.plainly (declaring v c) env AsWholeItem) env id d e same x) y q)

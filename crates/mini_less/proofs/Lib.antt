@@ -60,3 +60,5 @@ pub mod BodyEndsLess
 pub mod PutMade
 pub mod Drops
 pub mod HeadsOnce
+pub mod OnceInOrder
+pub mod Once
