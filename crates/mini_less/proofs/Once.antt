@@ -241,3 +241,63 @@ module _ (sp : List ℕ) (k : ℕ) (K : VariableDeclarationKind) (first : Trees)
           by (e ▸ es) own a f =
               lacks_var o t (with_belongs c) env u K AsWholeItem (declared_use K) (used c u) (closed c u) (e ▸ es)
               (told_off _ (fewer (record (with_belongs c) { ordered = false }) u env K ds (e ▸ es) f (off_told _ own))) a
+
+-- ---- each fact
+
+-- the declarator ends no declaration of another symbol
+abbrev pub Unended : List ℕ → ℕ → Tree → Question → Type 0
+Unended sp k init q = (c : Setting) → q.ends c (declarator (binding (resolved sp k)) init) ≡ false
+
+pub each_unended : (sp : List ℕ) (k : ℕ) (init : Tree) (g : Fact) (b s : ℕ) → nat_eq s k ≡ false → Unended sp k init (question g b s)
+unfolding names_of
+each_unended sp k init ReadEarly b s e c = (λ j. c.ordered && (false || (e j || false))) ∙ and_nothing c.ordered
+each_unended sp k init IsLexical b s e c = refl
+each_unended sp k init ByEval b s e c = refl
+each_unended sp k init Written b s e c = refl
+each_unended sp k init WrittenElsewhere b s e c = refl
+each_unended sp k init Given b s e c = refl
+each_unended sp k init GivenElsewhere b s e c = refl
+each_unended sp k init GivenByPattern b s e c = refl
+each_unended sp k init MentionedElsewhere b s e c = refl
+each_unended sp k init BoundElsewhere b s e c = refl
+each_unended sp k init IsSwitched b s e c = refl
+each_unended sp k init InPattern b s e c = refl
+each_unended sp k init UnderCatch b s e c = refl
+each_unended sp k init ByArguments b s e c = refl
+each_unended sp k init AmongParameters b s e c = refl
+
+-- so the symbol is another
+pub another : (sp : List ℕ) (k : ℕ) (init : Tree) (b s : ℕ) → (c : Setting) → Unended sp k init (early b s) → nat_eq s k ≡ false
+unfolding names_of
+another sp k init b s c f = by (nat_eq s k) (f (record c { ordered = true }))
+  where
+    by : (d : Bool) → (true && (false || (d || false))) ≡ false → d ≡ false
+    by true e = e
+    by false e = refl
+
+module _ (sp : List ℕ) (k : ℕ) (first : Trees) (init head put : Tree) (heads : HeadLess init head put) where
+  abbrev Less : VariableDeclarationKind → Question → Type 0
+  Less K q = (c : Setting) → c.used ≡ Read → (env : Environment) (o : Bool) → SaysLess (declaration K (append first (declarator (binding (resolved sp k)) init ▸ none)) ▸ (head ▸ none)) (declared_left K first ▸ (put ▸ none)) q c env o
+
+  order_less : (K : VariableDeclarationKind) → (is_lexical K ≡ true → all_names declared.Lexical first ≡ []) → (b s : ℕ) → Unended sp k init (early b s) → Less K (early b s)
+  order_less Var plain b s e c u env o = var_order sp k first init head put heads b s (another sp k init b s c e) c u env o
+  order_less Let plain b s e c u env o = lexical_order sp k first init head put heads b s (another sp k init b s c e) c u env o Let refl (plain refl)
+  order_less Const plain b s e c u env o = lexical_order sp k first init head put heads b s (another sp k init b s c e) c u env o Const refl (plain refl)
+
+  facts_less : (K : VariableDeclarationKind) → (is_lexical K ≡ true → all_names declared.Lexical first ≡ []) → (g : Fact) (b s : ℕ) → nat_eq s k ≡ false → Less K (question g b s)
+  facts_less K plain g b s e =
+      by_lists (λ q. FewerDeclared q → Unended sp k init q → Less K q) (λ o t z f n c u env y. asked_less sp k K first init head put heads o t z f c u env y) (λ b s f n. order_less K plain b s n) g b s (each_fewer g b s) (each_unended sp k init g b s e)
+
+  unnamed_left : (K : VariableDeclarationKind) (ts : Trees) → any_names (resolved sp k) ts ≡ false → names (resolved sp k) put ≡ false → any_names (resolved sp k) (declared_left K ts ▸ (put ▸ none)) ≡ false
+  unnamed_left K none e f = ap (λ b. b || false) f
+  unnamed_left K (t ▸ ts) e f = (λ j. (e j || false) || any_names (resolved sp k) (put ▸ none)) ∙ ap (λ b. b || false) f
+
+  pub once_drops : (K : VariableDeclarationKind) → (is_lexical K ≡ true → all_names declared.Lexical first ≡ []) → any_names (resolved sp k) first ≡ false → names (resolved sp k) put ≡ false
+      → DropsLess (resolved sp k) k (declaration K (append first (declarator (binding (resolved sp k)) init ▸ none)) ▸ (head ▸ none)) (declared_left K first ▸ (put ▸ none))
+  once_drops K plain e f = record {
+    less = facts_less K plain;
+    unnamed = unnamed_left K first e f;
+    evals = head_off has_eval any_has_eval evals_flagged K first (binding (resolved sp k)) init head put heads.evals;
+    arguments = head_off names_arguments any_arguments names_flagged K first (binding (resolved sp k)) init head put heads.arguments;
+    numbers = λ b. head_off (has_number (suc b)) (any_has_number (suc b)) (numbers_flagged b) K first (binding (resolved sp k)) init head put (heads.numbers b);
+  }
