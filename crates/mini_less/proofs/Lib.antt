@@ -62,3 +62,4 @@ pub mod Drops
 pub mod HeadsOnce
 pub mod OnceInOrder
 pub mod Once
+pub mod Losing
