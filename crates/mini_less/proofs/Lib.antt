@@ -63,3 +63,4 @@ pub mod HeadsOnce
 pub mod OnceInOrder
 pub mod Once
 pub mod Losing
+pub mod LosingNodes

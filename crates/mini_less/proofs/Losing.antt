@@ -75,7 +75,7 @@ module _ (sp : List ℕ) (k : ℕ) where
       by true = unlike_it s e (spelled_among ps zs)
       by false = refl
 
-  caught_lost : (s : ℕ) → nat_eq s k ≡ false → (ps xs ys : List Name) → Loses xs ys → is_among (by_symbol s) (spelled_among ps ys) ≡ is_among (by_symbol s) (spelled_among ps xs)
+  pub caught_lost : (s : ℕ) → nat_eq s k ≡ false → (ps xs ys : List Name) → Loses xs ys → is_among (by_symbol s) (spelled_among ps ys) ≡ is_among (by_symbol s) (spelled_among ps xs)
   caught_lost s e ps xs ys (inl f) = ap (λ zs. is_among (by_symbol s) (spelled_among ps zs)) f
   caught_lost s e ps xs ys (inr l) =
       let A : List Name → Bool = λ zs. is_among (by_symbol s) (spelled_among ps zs) in
@@ -83,7 +83,7 @@ module _ (sp : List ℕ) (k : ℕ) where
       ap A l.gone ∙ two l.first l.last ∙ ap (λ b. A l.first || b) (sym (spelled_it s e ps l.last)) ∙ sym (two l.first (x ∷ l.last)) ∙ sym (ap A l.there)
 
   -- among others
-  append_assoc : (xs ys zs : List Name) → (xs ++ ys) ++ zs ≡ xs ++ (ys ++ zs)
+  pub append_assoc : (xs ys zs : List Name) → (xs ++ ys) ++ zs ≡ xs ++ (ys ++ zs)
   append_assoc [] ys zs = refl
   append_assoc (y ∷ xs) ys zs = ap (λ l. y ∷ l) (append_assoc xs ys zs)
 
