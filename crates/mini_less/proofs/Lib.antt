@@ -66,3 +66,10 @@ pub mod FadedLess
 pub mod Drops
 pub mod DroppedLess
 pub mod BodyEndsLess
+pub mod PutMade
+pub mod Drops
+pub mod HeadsOnce
+pub mod OnceInOrder
+pub mod Once
+pub mod Losing
+pub mod LosingNodes
