@@ -9,7 +9,7 @@ use Rattle.mini_model.specs.declared.name.Name.{Name}
 use Rattle.mini_model.specs.declared.shape.Shape.{Shape}
 use Rattle.mini_model.specs.declared.shape.Shape.TheVariants as shape
 use Rattle.mini_model.specs.Paths.{append}
-use Rattle.mini_model.specs.Tree.{Tree, Trees, none, ◌▸◌, listed, empty_statement, expression_statement}
+use Rattle.mini_model.specs.Tree.{Tree, Trees, none, ◌▸◌, listed, absent, empty_statement, expression_statement}
 use Rattle.mini_laws.specs.declared.names.Declared.TheVariants as declared
 use Rattle.mini_laws.specs.declared.names.Use.TheVariants.{Read}
 use Rattle.mini_laws.specs.DeclaredNames.{names_of, all_names}
@@ -322,13 +322,25 @@ module _ (sp : List ℕ) (k : ℕ) (K : VariableDeclarationKind) (first : Trees)
     left_told none e = empty
     left_told (u ▸ us) e = told (u ▸ us) ∙ λ j. e j || false
 
+    others_told : f (declaration K ts) ≡ false → g es ≡ false
+    others_told e =
+        let all = (none_of (g ts) false (sym (told ts) ∙ e)).0 in
+        let (a, b) = none_of (g first) (g (dy ▸ last)) (sym (adds first (dy ▸ last)) ∙ all) in
+        let c = (none_of (f dy) (g last) (sym (one dy last) ∙ b)).1 in
+        adds first last ∙ λ j. a j || c j
+
     fewer_told : g (declaration K ts ▸ none) ≡ false → g (declared_left K es ▸ none) ≡ false
     fewer_told e =
         let whole = (none_of (f (declaration K ts)) (g none) (sym (one (declaration K ts) none) ∙ e)).0 in
-        let all = (none_of (g ts) false (sym (told ts) ∙ whole)).0 in
-        let (a, b) = none_of (g first) (g (dy ▸ last)) (sym (adds first (dy ▸ last)) ∙ all) in
-        let c = (none_of (f dy) (g last) (sym (one dy last) ∙ b)).1 in
-        one (declared_left K es) none ∙ λ j. left_told es (adds first last ∙ λ j. a j || c j) j || nothing j
+        one (declared_left K es) none ∙ λ j. left_told es (others_told whole) j || nothing j
+
+    -- and in the head of a `for`
+    pub head_told : f absent ≡ false → f (declaration K ts) ≡ false → f (head_left K es) ≡ false
+    head_told gone e = left es (others_told e)
+      where
+        left : (us : Trees) → g us ≡ false → f (head_left K us) ≡ false
+        left none e = gone
+        left (u ▸ us) e = told (u ▸ us) ∙ λ j. e j || false
 
   pub idle_drops : any_names y first ≡ false → any_names y last ≡ false → DropsLess y k (declared_among K y first init last ▸ none) (declared_left K es ▸ none)
   unfolding has_eval has_number names_arguments

@@ -63,8 +63,8 @@ pub mod LoopGuardsLess
 pub mod StretchTold
 pub mod LetsLess
 pub mod FadedLess
-pub mod Drops
 pub mod DroppedLess
+pub mod ForHeadLess
 pub mod BodyEndsLess
 pub mod PutMade
 pub mod Drops
