@@ -57,3 +57,6 @@ pub mod ArrowsLess
 pub mod Beside
 pub mod NamesLess
 pub mod BodyEndsLess
+pub mod UnscopedMade
+pub mod SwitchTold
+pub mod OneCaseLess

@@ -11,4 +11,5 @@ pub mod HeldKeys
 pub mod Arrows
 pub mod Names
 pub mod BodyEnds
+pub mod SwitchRows
 pub mod TellsLists
