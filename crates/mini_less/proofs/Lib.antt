@@ -60,3 +60,4 @@ pub mod BodyEndsLess
 pub mod UnscopedMade
 pub mod SwitchTold
 pub mod OneCaseLess
+pub mod DeadCasesLess

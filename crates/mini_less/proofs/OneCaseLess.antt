@@ -52,10 +52,10 @@ pub record ByOneCase (Q : Asked → Tree → Type 0) : Type 1 where
 
 -- ---- what is found
 
-silent_if : (b : Bool) → b ≡ false → reads_if b ≡ Silent
+pub silent_if : (b : Bool) → b ≡ false → reads_if b ≡ Silent
 silent_if b e = ap reads_if e
 
-of_silent : (b : Bool) → reads_if b ≡ Silent → b ≡ false
+pub of_silent : (b : Bool) → reads_if b ≡ Silent → b ≡ false
 of_silent true e = absurd (cc e)
 of_silent false e = refl
 
@@ -104,7 +104,7 @@ first_calm b Ends r e = refl
 first_calm b Silent r e = refl
 first_calm b Reads r e = e
 
-alone_reads : (b : Bool) (p : Pace) → is_reads (followed (ends_after b p) Silent) ≡ is_reads p
+pub alone_reads : (b : Bool) (p : Pace) → is_reads (followed (ends_after b p) Silent) ≡ is_reads p
 alone_reads true Ends = refl
 alone_reads true Silent = refl
 alone_reads true Reads = refl
