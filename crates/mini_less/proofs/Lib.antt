@@ -61,3 +61,4 @@ pub mod UnscopedMade
 pub mod SwitchTold
 pub mod OneCaseLess
 pub mod DeadCasesLess
+pub mod BranchesLess

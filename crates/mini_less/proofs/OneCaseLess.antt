@@ -295,7 +295,7 @@ module _ (q : StmtSeat) (n w d t : Tree) (b : Bool) (ss : Trees) (v : is_value (
       let (over, held) = l.only d t (ended b ss) value v (subst (Q AsWhole) e a) in
       made Q l over (shortened Q l b ss held))
 
-row_80 : (q : StmtSeat) (n w : Tree) → OneCaseRow n w → LessAt (Stmt q) n w
+pub row_80 : (q : StmtSeat) (n w : Tree) → OneCaseRow n w → LessAt (Stmt q) n w
 row_80 q n w (inl r) =
     one_case_less q n w r.discriminant (plain r.test) r.is_ended r.statements (plain_value r.test) r.shape (ap is_unscoped r.written) (ap is_eval_callee r.written) (λ Q l x y.
     subst (Q AsWhole) (sym r.written) (as_if Q l r.discriminant r.test r.statements x y))

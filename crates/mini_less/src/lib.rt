@@ -7,6 +7,7 @@ ghost use Rattle.mini_less.specs.Arrows.{ArrowsReadLess};
 ghost use Rattle.mini_less.specs.BodyEnds.{BodyEndsLess};
 ghost use Rattle.mini_less.specs.HeldKeys.{HeldKeysReadLess};
 ghost use Rattle.mini_less.specs.Names.{NamesReadLess, CatchesReadLess};
+ghost use Rattle.mini_less.specs.SwitchRows.{BranchesReadLess, SwitchRowsLess};
 ghost use Rattle.mini_less.specs.Own.{SteadyReadsLess, LexicalReadsLess, PastBlocksReadLess};
 ghost use Rattle.mini_less.specs.ListFamilies.{HeadRowsLess, EnterRowsLess, ListsReadLess};
 ghost use Rattle.mini_less.specs.Rebuilt.{ListsAskLess, StatementsAskLess};
@@ -160,6 +161,16 @@ pub fn names_read_less()
 /// The row that drops what a `catch` catches where nothing mentions it: 63.
 pub fn catches_read_less()
     ensures { CatchesReadLess }
+{}
+
+/// Rows of a `switch` of one case, and of one over a value that is known: 80 and 81.
+pub fn switch_rows_less()
+    ensures { SwitchRowsLess }
+{}
+
+/// All rows of branches: 60, 78 and 79 in branches and in bodies of loops, 80, 81, and 82 to 84.
+pub fn branches_read_less()
+    ensures { BranchesReadLess }
 {}
 
 /// Rows on the jump that ends a block which is the body of a loop: 78.
