@@ -62,3 +62,5 @@ pub mod SwitchTold
 pub mod OneCaseLess
 pub mod DeadCasesLess
 pub mod BranchesLess
+pub mod LoopsMade
+pub mod GuardTold
