@@ -4,7 +4,7 @@ use Rattle.mini_model.specs.declared.place.Position.{Position}
 use Rattle.mini_model.specs.declared.place.Position.TheVariants.{Stmt}
 use Rattle.mini_model.specs.declared.seat.StmtSeat.{StmtSeat}
 use Rattle.mini_model.specs.Tree.{Tree}
-use Rattle.mini_rows.specs.Branches.{BodyRow, SwitchRow, StatementRow, BranchRow, BranchContracts}
+use Rattle.mini_rows.specs.Branches.{BodyRow, StatementRow, BranchRow, BranchContracts}
 use Rattle.mini_less.specs.Families.{LessAt}
 use Rattle.mini_less.specs.SwitchRows.{SwitchRowsLess, BranchesReadLess}
 use Rattle.mini_less.proofs.BodiesLess.{body_rows_less}

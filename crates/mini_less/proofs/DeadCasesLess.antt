@@ -1,10 +1,10 @@
 -- A `switch` over a value that is known shows less with the one case that runs, or with what the
 -- cases leave behind of their `var`s.
-use Rattle.std.specs.Prelude.{ℕ, suc, ◌≡◌, refl, nat_eq, Bool, true, false, ◌||◌, ◌&&◌, List, [], ◌∷◌, ◌++◌}
+use Rattle.std.specs.Prelude.{ℕ, suc, ◌≡◌, refl, nat_eq, Bool, true, false, ◌||◌, List, [], ◌∷◌, ◌++◌}
 use Rattle.std.proofs.Common.{ap, ◌∙◌, sym, subst, inl, inr}
 use Rattle.std.proofs.lemmas.Bool.{and_parts}
 use Rattle.std.proofs.lemmas.List.{append-nil}
-use Rattle.mini_accept.specs.WellShaped.{an_expression, one, one_or_absent, each, fill, fits}
+use Rattle.mini_accept.specs.WellShaped.{an_expression, one_or_absent, each, fill, fits}
 use Rattle.mini_model.specs.declared.kind.VariableDeclarationKind.TheVariants.{Var}
 use Rattle.mini_model.specs.declared.name.Name.{Name}
 use Rattle.mini_model.specs.declared.place.Position.TheVariants.{Stmt}
@@ -19,8 +19,8 @@ use Rattle.mini_laws.specs.Mentions.{is_among}
 use Rattle.mini_laws.specs.Resolved.{Environment}
 use Rattle.mini_laws.specs.ScopeList.{by_symbol, has_eval, any_has_eval, is_eval_callee}
 use Rattle.mini_laws.specs.Scopes.{opened, scopes_by, lexical_scope}
-use Rattle.mini_laws.specs.Shared.{names_arguments, any_names_arguments, is_of_function}
-use Rattle.mini_shrink.specs.Pace.{Pace, Silent, followed, ends_after, all_followed, Setting, below, pace, paces}
+use Rattle.mini_laws.specs.Shared.{names_arguments}
+use Rattle.mini_shrink.specs.Pace.{Silent, followed, ends_after, Setting, below, pace}
 use Rattle.mini_shrink.specs.Questions.{Own, asks, early, finds, finds_each, any_of}
 use Rattle.mini_kept.proofs.Rows.{statement}
 use Rattle.mini_rows.specs.Cases.{switch_case}
@@ -40,13 +40,12 @@ use Rattle.mini_less.proofs.ByLists.{value_lexical}
 use Rattle.mini_less.proofs.Finding.{Lacks, lacks_below, below_lacks, setting, setting_below}
 use Rattle.mini_less.proofs.Flags.{none_of, unlike}
 use Rattle.mini_less.proofs.HoistedNames.{NoArguments, hoisted_sparing}
-use Rattle.mini_less.proofs.LessRows.{any_names}
 use Rattle.mini_less.proofs.ListLeft.{left_lacks, left_calm, evals_left, arguments_left, numbers_left}
-use Rattle.mini_less.proofs.ListMade.{to_none, evals_tell, names_tell, numbers_tell}
+use Rattle.mini_less.proofs.ListMade.{to_none, evals_tell, numbers_tell}
 use Rattle.mini_less.proofs.Made.{ByParts, Spared, spared_by_parts}
 use Rattle.mini_less.proofs.Nodes.{value_of}
-use Rattle.mini_less.proofs.OneCaseLess.{silent_if, of_silent, value_calm, first_calm, alone_reads, switch_number}
-use Rattle.mini_less.proofs.Plainly.{is_reads, split, join, Calmly, calm_below, below_calm, standing, standing_below, early_alone}
+use Rattle.mini_less.proofs.OneCaseLess.{of_silent, first_calm, alone_reads, switch_number}
+use Rattle.mini_less.proofs.Plainly.{is_reads, split, join, Calmly, calm_below, below_calm, standing, standing_below}
 use Rattle.mini_less.proofs.SwitchTold.{SwitchTold, switch_told}
 use Rattle.mini_less.proofs.UnscopedMade.{Properties, unscoped_less, lacks_parts, calm_parts, names_parts, numbers_parts}
 
@@ -192,7 +191,7 @@ module _ (m s : ℕ) (told : SwitchTold (early m s)) (c : Setting) (env : Enviro
       let order : is_among (by_symbol s) (names_of declared.Lexical cases) ≡ false = ap (is_among (by_symbol s)) e in
       let around : (env ++ []) ++ lexical_scope (names_of declared.Lexical cases) ≡ env = no_scope (names_of declared.Lexical cases) e (env ++ []) ∙ append-nil env in
       (λ j. followed (ends_after (q.ends (below (order j) (stood AsWhole) shape.SwitchStatement 0 0) d) (pace q (below (order j) (stood AsWhole) shape.SwitchStatement 0 0) (append-nil env j) d))
-          (followed (ends_after (q.ends (below (order j) (stood AsWhole) shape.SwitchStatement 0 1) cases) (pace q (below (order j) (stood AsWhole) shape.SwitchStatement 0 1) (around j) cases)) Silent))
+      (followed (ends_after (q.ends (below (order j) (stood AsWhole) shape.SwitchStatement 0 1) cases) (pace q (below (order j) (stood AsWhole) shape.SwitchStatement 0 1) (around j) cases)) Silent))
       ∙ (λ j. followed (ends_after false (pace q (standing_below m s c env If AsWhole false refl 0 j) env d)) (followed (ends_after false (pace q (standing_below m s c env If AsWhole false refl 0 j) env cases)) Silent))
 
   cases_calm : ByCases C

@@ -64,3 +64,4 @@ pub mod DeadCasesLess
 pub mod BranchesLess
 pub mod LoopsMade
 pub mod GuardTold
+pub mod LexicalLess

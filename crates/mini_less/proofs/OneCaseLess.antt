@@ -18,7 +18,7 @@ use Rattle.mini_laws.specs.ScopeList.{by_symbol, has_eval, any_has_eval, is_eval
 use Rattle.mini_laws.specs.Scopes.{opened, scopes_by, lexical_scope}
 use Rattle.mini_laws.specs.Shared.{names_arguments, any_names_arguments, is_of_function}
 use Rattle.mini_laws.specs.Value.{VariableSet}
-use Rattle.mini_shrink.specs.Pace.{Pace, Ends, Silent, Reads, followed, ends_after, all_followed, Setting, below, Question, pace, paces, reads_if}
+use Rattle.mini_shrink.specs.Pace.{Pace, Ends, Silent, Reads, followed, ends_after, Setting, below, pace, reads_if}
 use Rattle.mini_shrink.specs.Questions.{Own, asks, early, finds, finds_each, any_of}
 use Rattle.mini_shrink.proofs.Finding.{pace_is}
 use Rattle.mini_rows.specs.Cases.{switch_case, one_case, bare_break, ended, OneCaseRow}

@@ -11,7 +11,6 @@ use Rattle.mini_rows.specs.DeadCases.{DeadCaseRow}
 use Rattle.mini_rows.specs.Lexical.{Row80Lexical, Row84Lexical}
 use Rattle.mini_rows.specs.Steady.{LexicalRows}
 use Rattle.mini_less.specs.Families.{LessAt}
-use Rattle.mini_less.specs.Own.{OwnReadLess}
 
 -- 80 and 81
 pub record SwitchRowsLess : Type 0 where
@@ -30,7 +29,3 @@ BranchesReadLess = ReadsLess BranchContracts
 -- rows of lexical names, whatever is known of the body
 abbrev pub LexicalNamesReadLess : Type 0
 LexicalNamesReadLess = (V : Assured) → ReadsLess (LexicalRows V)
-
--- what these rows write in the own code of a body of any kind
-abbrev pub OwnLexicalReadLess : Type 0
-OwnLexicalReadLess = OwnReadLess LexicalRows
