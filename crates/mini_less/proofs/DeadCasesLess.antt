@@ -42,12 +42,11 @@ use Rattle.mini_less.proofs.Flags.{none_of, unlike}
 use Rattle.mini_less.proofs.HoistedNames.{NoArguments, hoisted_sparing}
 use Rattle.mini_less.proofs.ListLeft.{left_lacks, left_calm, evals_left, arguments_left, numbers_left}
 use Rattle.mini_less.proofs.ListMade.{to_none, evals_tell, numbers_tell}
-use Rattle.mini_less.proofs.Made.{ByParts, Spared, spared_by_parts}
+use Rattle.mini_less.proofs.Made.{ByParts, Spared, spared_by_parts, FactProperties, unscoped_less, lacks_parts, calm_parts, names_parts, numbers_parts}
 use Rattle.mini_less.proofs.Nodes.{value_of}
 use Rattle.mini_less.proofs.OneCaseLess.{of_silent, first_calm, alone_reads, switch_number}
 use Rattle.mini_less.proofs.Plainly.{is_reads, split, join, Calmly, calm_below, below_calm, standing, standing_below}
 use Rattle.mini_less.proofs.SwitchTold.{SwitchTold, switch_told}
-use Rattle.mini_less.proofs.UnscopedMade.{Properties, unscoped_less, lacks_parts, calm_parts, names_parts, numbers_parts}
 
 -- what passes between a `switch` in which nothing is scoped and its cases
 pub record ByCases (Q : Asked → Tree → Type 0) : Type 1 where
@@ -289,7 +288,7 @@ cases_names = record {
   onward = λ strict cs ds k f a. spared_cases ds (k.forward Sparing (λ u y. left_sparing (names_of declared.Hoisted u) y.1) (sparing_cases strict cs f a));
 }
 
-cases_properties : Properties SwitchTold ByCases
+cases_properties : FactProperties SwitchTold ByCases
 cases_properties = record {
   told = switch_told;
   lacks = λ o t told c env. cases_lacks o t told c env;

@@ -44,13 +44,12 @@ use Rattle.mini_less.proofs.GuardTold.{GuardTold, guard_told}
 use Rattle.mini_less.proofs.Headed.{and_nothing}
 use Rattle.mini_less.proofs.LessRows.{reads_less_by}
 use Rattle.mini_less.proofs.ListMade.{no_bound}
-use Rattle.mini_less.proofs.LoopsMade.{loop_made_less}
-use Rattle.mini_less.proofs.Made.{ByParts, Spared, spared_by_parts}
+use Rattle.mini_less.proofs.LoopsLess.{loop_made_less}
+use Rattle.mini_less.proofs.Made.{ByParts, Spared, spared_by_parts, FactProperties, lacks_parts, calm_parts, names_parts, numbers_parts}
 use Rattle.mini_less.proofs.OneCaseLess.{silent_if, of_silent, alone_reads, row_80_lexical}
 use Rattle.mini_less.proofs.Ordered.{unscoped_anywhere}
 use Rattle.mini_less.proofs.OwnLess.{own_less}
 use Rattle.mini_less.proofs.Plainly.{is_reads, split, join, Calmly, standing}
-use Rattle.mini_less.proofs.UnscopedMade.{Properties, lacks_parts, calm_parts, names_parts, numbers_parts}
 
 -- what passes from a block that begins by leaving a loop to the test by which it does, where no
 -- name of the block stands in the test, and to the block without it
@@ -209,7 +208,7 @@ guards_numbers b = record {
       (test, λ j. unlike b j || ((unlike b j || (run j || others j)) || false));
 }
 
-guard_properties : Properties GuardTold ByGuards
+guard_properties : FactProperties GuardTold ByGuards
 guard_properties = record {
   told = guard_told;
   lacks = λ o t told c env. guards_lack o t told c env;

@@ -57,11 +57,9 @@ pub mod ArrowsLess
 pub mod Beside
 pub mod NamesLess
 pub mod BodyEndsLess
-pub mod UnscopedMade
 pub mod SwitchTold
 pub mod OneCaseLess
 pub mod DeadCasesLess
 pub mod BranchesLess
-pub mod LoopsMade
 pub mod GuardTold
 pub mod LexicalLess

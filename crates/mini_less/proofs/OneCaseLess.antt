@@ -37,12 +37,11 @@ use Rattle.mini_less.proofs.Flags.{none_of, unlike}
 use Rattle.mini_less.proofs.Headed.{and_nothing}
 use Rattle.mini_less.proofs.IfsLess.{an_if, nothing, says}
 use Rattle.mini_less.proofs.ListHeads.{first_of, list_plain}
-use Rattle.mini_less.proofs.Made.{ByParts, Spared, spared_by_parts}
+use Rattle.mini_less.proofs.Made.{ByParts, Spared, spared_by_parts, FactProperties, unscoped_less, lacks_parts, calm_parts, names_parts, numbers_parts}
 use Rattle.mini_less.proofs.Nodes as held
 use Rattle.mini_less.proofs.Nodes.{a_binary, value_of}
 use Rattle.mini_less.proofs.Plainly.{is_reads, split, Calmly, standing, standing_below, early_alone}
 use Rattle.mini_less.proofs.SwitchTold.{SwitchTold, switch_told, case_names}
-use Rattle.mini_less.proofs.UnscopedMade.{Properties, unscoped_less, lacks_parts, calm_parts, names_parts, numbers_parts}
 
 -- what passes from a `switch` of one case to what it goes over and to a block of the statements
 pub record ByOneCase (Q : Asked → Tree → Type 0) : Type 1 where
@@ -229,7 +228,7 @@ one_case_numbers b = record {
     without none a = refl
     without (t ▸ ss) a = let (x, y) = none_of (has_number (suc b) t) (any_has_number (suc b) (append ss (bare_break ▸ none))) a in λ j. x j || without ss y j
 
-one_case_properties : Properties SwitchTold ByOneCase
+one_case_properties : FactProperties SwitchTold ByOneCase
 one_case_properties = record {
   told = switch_told;
   lacks = λ o t told c env. one_case_lacks o t told c env;
