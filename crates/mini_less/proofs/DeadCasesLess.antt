@@ -58,7 +58,7 @@ pub record ByCases (Q : Asked → Tree → Type 0) : Type 1 where
   pub case_up : (t : Tree) (ss : Trees) → Q AsItem t → Q AsItem (listed ss) → Q AsItem (switch_case t ss)
   pub over_down : (d cases : Tree) → is_value (shape_of d) ≡ true → names_of declared.Lexical cases ≡ [] → Q AsWhole (switch d cases) → Q AsValue d × Q AsItem cases
   pub over_up : (d cases : Tree) → is_value (shape_of d) ≡ true → names_of declared.Lexical cases ≡ [] → Q AsValue d → Q AsItem cases → Q AsWhole (switch d cases)
-  -- one list of cases for another
+  -- cases that are made of others
   pub onward : (strict : Bool) (cs ds : Choices) → CasesKept cs ds → AllFit strict cs → EachQ (Q AsItem) cs → EachQ (Q AsItem) ds
 
 to_each : (Q : Asked → Tree → Type 0) (c : Asked) (ts : Trees) → All Q c ts → AllQ (Q c) ts
@@ -77,7 +77,7 @@ parted Q l = record {
   case_up = l.case_up;
 }
 
--- in no scope
+-- a scope without names adds nothing
 no_scope : (xs : List Name) → xs ≡ [] → (env : Environment) → env ++ lexical_scope xs ≡ env
 unfolding with_names
 no_scope xs e env = ap (λ ys. env ++ lexical_scope ys) e ∙ append-nil env
@@ -245,11 +245,11 @@ cases_numbers b = record {
         let (x, y) = none_of (has_number (suc b) t) (has_number (suc b) u || false) (none_of (nat_eq 0 (suc b)) (has_number (suc b) t || (has_number (suc b) u || false)) a).1 in
         (x, (none_of (has_number (suc b) u) false y).0)
 
--- it names no `arguments`, and hoists no such name
+-- a tree names no `arguments`, and hoists no such name
 abbrev Sparing : Tree → Type 0
 Sparing t = (names_arguments t ≡ false) × Names NoArguments (names_of declared.Hoisted t)
 
--- what is left of it hoists its names
+-- `var x, y;` hoists its names
 var_hoists : (x : Name) (xs : List Name) → names_of declared.Hoisted (var (x ∷ xs)) ≡ x ∷ xs
 var_hoists x xs = sym (append-nil (names_of declared.Hoisted (var (x ∷ xs)))) ∙ left_gives (names_of declared.Hoisted) (names_if true) refl (names_are declared.Hoisted Var) (x ∷ xs)
 
@@ -298,13 +298,13 @@ cases_properties = record {
   numbers = cases_numbers;
 }
 
--- ---- the rows
+-- ---- 81
 
 list_names : (cs : Choices) → all_names declared.Lexical (cases_of cs) ≡ [] → names_of declared.Lexical (listed (cases_of cs)) ≡ []
 unfolding names_of
 list_names cs e = e
 
--- other cases, made of those that are there
+-- a `switch` gets other cases, which are made of those that are there
 cases_less : (q : StmtSeat) (n w d : Tree) (cs ds : Choices) → n ≡ switch_over d cs → w ≡ switch_over d ds → CasesKept cs ds → LessAt (Stmt q) n w
 cases_less q n w d cs ds e f k =
     unscoped_less SwitchTold ByCases cases_properties q n w (ap is_unscoped e) (ap is_unscoped f) (ap (has_number 0) e ∙ switch_number d (listed (cases_of cs))) (ap is_eval_callee f) (λ strict x fit Q l a.

@@ -25,9 +25,10 @@ use Rattle.mini_rows.proofs.LexicalKept.{with_pass}
 use Rattle.mini_less.proofs.Beside.{Beside, fact_beside}
 
 pub record GuardTold (q : Question) : Type 0 where
-  -- a scope of names around a tree in which none of them stands
+  -- a tree says the same in a scope of names none of which stands in it
   pub beside : (P : Name → Bool) (t : Tree) → ((y : Name) → P y ≡ true → names y t ≡ false) → (ys : List Name) → all_pass P ys ≡ true → (c : Setting) (env : Environment) → pace q c (env ++ lexical_scope ys) t ≡ pace q c env t
-  -- a block whose first statement becomes one that holds no more
+  -- where a block tells nothing itself, it doesn't with another first statement that has no direct
+  -- eval where the first has none
   pub block : (c : Setting) (env : Environment) (t u : Tree) (ts : Trees) → names_of declared.Lexical (listed (u ▸ ts)) ≡ names_of declared.Lexical (listed (t ▸ ts)) → (has_eval t ≡ false → has_eval u ≡ false) → q.before c env shape.BlockStatement [] 0 (listed (t ▸ ts) ▸ none) ≡ Silent → q.before c env shape.BlockStatement [] 0 (listed (u ▸ ts) ▸ none) ≡ Silent
 
 -- ---- a scope that goes
@@ -66,7 +67,7 @@ no_lexical false ts = refl
 none_told : (s : ℕ) (xs : List Name) → xs ≡ [] → reads_if (is_among (by_symbol s) xs) ≡ Silent
 none_told s xs e = ap (λ ys. reads_if (is_among (by_symbol s) ys)) e
 
--- where no direct eval comes to stand in it
+-- where no direct eval comes to stand in the block, no more names are seen by one
 seen_less : (t u r n : Bool) → (t ≡ false → u ≡ false) → reads_if ((((t || r) || false) && n) || false) ≡ Silent → reads_if ((((u || r) || false) && n) || false) ≡ Silent
 seen_less true u r true f e = absurd (cc e)
 seen_less true true r false f e = e

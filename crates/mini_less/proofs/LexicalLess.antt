@@ -218,7 +218,7 @@ guard_properties = record {
   numbers = guards_numbers;
 }
 
--- ---- the rows
+-- ---- 84
 
 row_84_lexical : (V : VariableSet) (q : StmtSeat) (n w : Tree) → Row84Lexical V n w → LessAt (Stmt q) n w
 row_84_lexical V q n w r =
@@ -245,6 +245,7 @@ row_less V p n w r = absurd r
 pub lexical_names_read_less : LexicalNamesReadLess
 lexical_names_read_less V = reads_less_by (LexicalRows V) (row_less V.unshared)
 
--- they keep names and shapes
+-- rows of lexical names keep names and shapes, so what they write in the own code of a body reads
+-- less
 pub lexical_reads_less : LexicalReadsLess
 lexical_reads_less = own_less LexicalRows (λ V. (lexical_own V).names) (λ V. (lexical_own V).shapes) lexical_names_read_less

@@ -357,6 +357,6 @@ module _ (Told : Question → Type 0) (Kind : (Asked → Tree → Type 0) → Ty
     };
   }
 
--- by parts alone
+-- a loop of which what holds by parts passes on
 pub loop_less : (q : StmtSeat) (n w : Tree) (f : Frame) (i j : Tree) (ts us : Trees) → n ≡ loop_node f i ts → w ≡ loop_node f j us → headed f j ≡ headed f i → HeadStays f i ts j us → ((strict : Bool) (x : Slot) → fits strict x n ≡ true → LoopMadeBy ByParts f i ts j us) → LessAt (Stmt q) n w
 loop_less = loop_made_less (λ q. Unit {0}) ByParts plain_properties

@@ -1,4 +1,6 @@
--- What is made of an expression or a statement of which nothing is called that wasn't: whatever holds of trees by their parts holds of it, too. So it asks less.
+-- What is made of an expression or a statement of which nothing is called that wasn't: whatever
+-- holds of trees by their parts holds of it, too. So it asks less. A statement shows less also by
+-- properties that rest on more than parts.
 use Rattle.std.specs.Prelude.{ℕ, zero, suc, ◌≡◌, refl, Bool, true, false, ◌||◌, []}
 use Rattle.std.proofs.Common.{ap, ◌∙◌, sym, subst, inl, true≢false}
 use Rattle.mini_model.specs.declared.kind.PropertyKind.{PropertyKind}
@@ -48,7 +50,8 @@ abbrev pub is_uncalled : Head → Bool
 is_uncalled (Call false) = false
 is_uncalled h = true
 
--- what holds of a name that is updated where it does of one that is assigned to and of one that is read
+-- what holds of a name that is updated where it does of one that is assigned to and of one that is
+-- read
 abbrev pub Updated : (Asked → Tree → Type 0) → Type 0
 Updated Q = (x : Name) → Q AsTarget (identifier x) → Q AsValue (identifier x) → Q AsUpdated (identifier x)
 
@@ -63,7 +66,8 @@ Properties Q = (k : PropertyKind) (m : Bool) → SameProperty Q k m Init false �
 abbrev pub Moved : (Asked → Tree → Type 0) → Type 0
 Moved Q = (t : Tree) → is_unscoped t ≡ true → (Q AsBranch t → Q AsItem t) × (Q AsItem t → Q AsBranch t)
 
--- what holds of such a node where it does of what is below, of a call where something more does of what is called, and of a name that is updated
+-- what holds of such a node where it does of what is below, of a call where something more does of
+-- what is called, and of a name that is updated
 pub record ByParts (Q : Asked → Tree → Type 0) : Type 1 where
   pub updated : Updated Q
   pub properties : Properties Q
@@ -248,7 +252,7 @@ pub record FactProperties (Told : Question → Type 0) (Kind : (Asked → Tree �
   pub names : Kind (λ d t. names_arguments t ≡ false)
   pub numbers : (b : ℕ) → Kind (λ d t. has_number (suc b) t ≡ false)
 
--- ends aside
+-- ends aside, what says a read only where another does says at most what that does
 pub kept_less : (p r : Pace) → (is_reads r ≡ false → is_reads p ≡ false) → AtMost (kept_in p) (kept_in r)
 kept_less Ends Ends f = tt
 kept_less Ends Silent f = tt
@@ -289,7 +293,7 @@ module _ (Told : Question → Type 0) (Kind : (Asked → Tree → Type 0) → Ty
     };
   }
 
--- by parts alone
+-- the kind of those that hold by parts
 pub plain_properties : FactProperties (λ q. Unit {0}) ByParts
 plain_properties = record {
   told = λ g b s. tt;

@@ -47,6 +47,7 @@ use Rattle.mini_less.proofs.SwitchTold.{SwitchTold, switch_told, case_names}
 pub record ByOneCase (Q : Asked → Tree → Type 0) : Type 1 where
   pub parts : ByParts Q
   pub only : (d t : Tree) (ss : Trees) → is_value (shape_of d) ≡ true → is_value (shape_of t) ≡ true → Q AsWhole (one_case d t ss) → Q AsValue d × Q AsBranch (block ss)
+  -- a block without the `break;` that ends it
   pub shorter : (ss : Trees) → Q AsBranch (block (append ss (bare_break ▸ none))) → Q AsBranch (block ss)
 
 -- ---- what is found
@@ -97,7 +98,7 @@ module _ (o : Own) (t : TellsLists o) (told : SwitchTold (asks o)) (c : Setting)
 
 -- ---- the order of reads
 
--- nothing is read in the first of two, nor in one that stands alone
+-- where two say no read, the first says none
 pub first_calm : (b : Bool) (p r : Pace) → is_reads (followed (ends_after b p) r) ≡ false → is_reads p ≡ false
 first_calm b Ends r e = refl
 first_calm b Silent r e = refl
@@ -238,7 +239,7 @@ one_case_properties = record {
   numbers = one_case_numbers;
 }
 
--- ---- the rows
+-- ---- 80
 
 module _ (Q : Asked → Tree → Type 0) (l : ByOneCase Q) where
   -- a test that writes a value out holds nothing
@@ -258,20 +259,20 @@ module _ (Q : Asked → Tree → Type 0) (l : ByOneCase Q) where
   as_if : (d : Tree) (f : PlainForm) (ss : Trees) → Q AsValue d → Q AsBranch (block ss) → Q AsWhole (if_alone (binary StrictEquality d (plain f)) (block ss))
   as_if d f ss x y = an_if Q l.parts AsWhole (binary StrictEquality d (plain f)) (block ss) absent (a_binary Q l.parts StrictEquality d (plain f) x (plain_holds f)) y (nothing Q l.parts AsBranch)
 
-  -- before a block
+  -- `{ d; { ss } }`
   as_block : (d : Tree) (ss : Trees) → Q AsValue d → Q AsBranch (block ss) → Q AsWhole (block (expression_statement d ▸ (block ss ▸ none)))
   as_block d ss x y =
       l.parts.up Block refl AsWhole (listed (expression_statement d ▸ (block ss ▸ none)) ▸ none) (list_plain (expression_statement d ▸ (block ss ▸ none)) refl)
       (l.parts.up AList refl AsItems (expression_statement d ▸ (block ss ▸ none)) tt (says Q l.parts AsItem d x, ((l.parts.moved (block ss) refl).0 y, tt)), tt)
 
-  -- before the statements
+  -- `{ d; ss }`
   as_list : (d : Tree) (ss : Trees) → are_unscoped ss ≡ true → Q AsValue d → Q AsBranch (block ss) → Q AsWhole (block (expression_statement d ▸ ss))
   as_list d ss u x y =
       let items = (l.parts.down AList refl AsItems ss tt (l.parts.down Block refl AsBranch (listed ss ▸ none) (list_plain ss u) y).0) in
       l.parts.up Block refl AsWhole (listed (expression_statement d ▸ ss) ▸ none) (list_plain (expression_statement d ▸ ss) u)
       (l.parts.up AList refl AsItems (expression_statement d ▸ ss) tt (says Q l.parts AsItem d x, of_all Any Q AsItem 1 ss (all_of Any Q AsItem 0 ss items)), tt)
 
--- a value is written out
+-- what writes a value out is an expression
 plain_value : (f : PlainForm) → is_value (shape_of (plain f)) ≡ true
 plain_value (a_number n) = refl
 plain_value (a_text s) = refl
@@ -305,7 +306,8 @@ row_80 q n w (inr (inr r)) =
     one_case_less q n w r.discriminant absent r.is_ended r.statements refl r.shape (ap is_unscoped r.written) (ap is_eval_callee r.written) (λ Q l x y.
     subst (Q AsWhole) (sym r.written) (as_block Q l r.discriminant r.statements x y))
 
--- and of names that no event shows
+-- 80 with names that are declared: `switch (a) { case 1: let x = b(); c(x); }` becomes
+-- `if (a === 1) { let x = b(); c(x); }`
 pub row_80_lexical : (V : VariableSet) (q : StmtSeat) (n w : Tree) → Row80Lexical V n w → LessAt (Stmt q) n w
 row_80_lexical V q n w r =
     one_case_less q n w r.discriminant (plain r.test) r.is_ended r.statements (plain_value r.test) r.shape (ap is_unscoped r.written) (ap is_eval_callee r.written) (λ Q l x y.

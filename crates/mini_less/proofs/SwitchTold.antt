@@ -21,12 +21,12 @@ use Rattle.mini_less.proofs.Plainly.{unseen}
 use Rattle.mini_less.proofs.BodyEndsLess.{breaks, list_told, list_names, block_told}
 
 pub record SwitchTold (q : Question) : Type 0 where
-  -- a block of the statements of the one case
+  -- where a `switch` of one case tells nothing itself, a block of the case's statements doesn't
   pub only : (c k : Setting) (env later : Environment) (d t : Tree) (ss : Trees) → names_of declared.Lexical t ≡ [] → q.before c env shape.SwitchStatement [] 0 (d ▸ listed (switch_case t ss ▸ none) ▸ none) ≡ Silent → q.before k later shape.BlockStatement [] 0 (listed ss ▸ none) ≡ Silent
-  -- a `switch` in which nothing is scoped, and a case
+  -- a `switch` in which nothing is scoped tells nothing itself, nor does a case
   pub loose : (c : Setting) (env : Environment) (d cases : Tree) → names_of declared.Lexical d ≡ [] → names_of declared.Lexical cases ≡ [] → q.before c env shape.SwitchStatement [] 0 (d ▸ cases ▸ none) ≡ Silent
   pub case : (c : Setting) (env : Environment) (ts : Trees) → q.before c env shape.SwitchCase [] 0 ts ≡ Silent
-  -- a block without the `break;` that ends it
+  -- a block says the same without the `break;` that ends it
   pub ended : (c : Setting) (env : Environment) (ss : Trees) → pace q c env (block ss) ≡ pace q c env (block (append ss (bare_break ▸ none)))
 
 -- the names of the one case are those of its statements
@@ -41,7 +41,7 @@ no_lexical false ts = (refl, (refl, refl))
 none_told : (s : ℕ) (xs : _) → xs ≡ [] → reads_if (is_among (by_symbol s) xs) ≡ Silent
 none_told s xs e = ap (λ ys. reads_if (is_among (by_symbol s) ys)) e
 
--- where a direct eval stands in the block it stands in the cases
+-- a direct eval that stands in the block stands in the cases
 seen_less : (t s n : Bool) → reads_if (((((t || (s || false)) || false) || false) && n) || false) ≡ Silent → reads_if (((s || false) && n) || false) ≡ Silent
 seen_less true true n e = e
 seen_less true false n e = refl
@@ -52,7 +52,7 @@ unseen_first : (a b : Bool) → ((a && false) || b) ≡ b
 unseen_first true b = refl
 unseen_first false b = refl
 
--- in no scope of names
+-- a scope without names declares no name
 nowhere : (s : ℕ) (b : Bool) → (b && is_among (by_symbol s) (names_in (lexical_scope []))) ≡ false
 unfolding with_names
 nowhere s true = refl
