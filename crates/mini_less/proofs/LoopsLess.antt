@@ -66,7 +66,7 @@ unfolding finds
 later_finds o sc z cs k e none = refl
 later_finds o sc z cs k e (t ▸ ts) = λ j. finds o (cs (suc k)) (e ++ z k j) t ∷ (ap (λ r. finds_each o sc cs (suc (suc k)) (e ++ r) ts) (z k) ∙ later_finds o sc z cs (suc k) (e ++ []) ts) j
 
-pub head_finds : (o : Own) (sc : ℕ → List Binding) → ((j : ℕ) → sc (suc j) ≡ []) → (cs : ℕ → Setting) (e : Environment) (i : Tree) (ts : Trees) → finds_each o sc cs 0 e (i ▸ ts) ≡ finds_each o (λ j. []) cs 0 (e ++ sc 0) (i ▸ ts)
+head_finds : (o : Own) (sc : ℕ → List Binding) → ((j : ℕ) → sc (suc j) ≡ []) → (cs : ℕ → Setting) (e : Environment) (i : Tree) (ts : Trees) → finds_each o sc cs 0 e (i ▸ ts) ≡ finds_each o (λ j. []) cs 0 (e ++ sc 0) (i ▸ ts)
 unfolding finds
 head_finds o sc z cs e i ts = λ j. finds o (cs 0) (sym (append-nil (e ++ sc 0)) j) i ∷ (later_finds o sc z cs 0 (e ++ sc 0) ts ∙ ap (λ r. finds_each o (λ j. []) cs 1 r ts) (sym (append-nil (e ++ sc 0)))) j
 
@@ -80,7 +80,7 @@ module _ (q : Question) where
   unfolding pace
   head_paces sc z cs e i ts = λ j. ends_after (q.ends (cs 0) i) (pace q (cs 0) (sym (append-nil (e ++ sc 0)) j) i) ∷ (later_paces sc z cs 0 (e ++ sc 0) ts ∙ ap (λ r. paces q (λ j. []) cs 1 r ts) (sym (append-nil (e ++ sc 0)))) j
 
-pub either_or : (x y z w : Bool) → (x ≡ true → z ≡ true) → (y ≡ true → w ≡ true) → (x || y) ≡ true → (z || w) ≡ true
+either_or : (x y z w : Bool) → (x ≡ true → z ≡ true) → (y ≡ true → w ≡ true) → (x || y) ≡ true → (z || w) ≡ true
 either_or true y z w f g e = ap (λ b. b || w) (f refl)
 either_or false y true w f g e = refl
 either_or false y false w f g e = g e
@@ -92,7 +92,7 @@ cut Silent r = refl
 cut Reads r = refl
 
 -- around the parts
-abbrev pub in_head : Environment → Frame → Tree → Environment
+abbrev in_head : Environment → Frame → Tree → Environment
 in_head env f i = env ++ lexical_scope (headed f i)
 
 module _ (o : Own) (p : TellsPlainly o) (c : Setting) (env : Environment) where
@@ -159,7 +159,7 @@ module _ (m s : ℕ) (c : Setting) (env : Environment) where
   to_turn AnOf i none a = a
   to_turn AnOf i (r ▸ ts) a = swap (pace (early m s) (below false c shape.ForOfStatement 0 1) ((env ++ []) ++ []) r) (pace (early m s) (below false c shape.ForOfStatement 0 0) (env ++ []) i) (all_followed (paces (early m s) (λ k. []) (below false c shape.ForOfStatement 0) 2 ((env ++ []) ++ []) ts)) a
 
-  pub turn_ended : (f : Frame) (i : Tree) (ts : Trees) → is_ended (in_turn (frame_shape f) (plainly_said f i ts)) ≡ false
+  turn_ended : (f : Frame) (i : Tree) (ts : Trees) → is_ended (in_turn (frame_shape f) (plainly_said f i ts)) ≡ false
   unfolding pace
   turn_ended AFor i ts = none_ended m s c env (λ k. []) (below false c shape.ForStatement 0) (λ k. refl) 0 env (i ▸ ts)
   turn_ended AWhile i ts = none_ended m s c env (λ k. []) (below false c shape.WhileStatement 0) (λ k. refl) 0 env (i ▸ ts)
@@ -176,7 +176,7 @@ module _ (m s : ℕ) (c : Setting) (env : Environment) where
       in_both h i r ts = not_ended m s c env (pace (early m s) (below false c h 0 1) ((env ++ []) ++ []) r) (followed (ends_after false (pace (early m s) (below false c h 0 0) (env ++ []) i)) (all_followed (paces (early m s) (λ k. []) (below false c h 0) 2 ((env ++ []) ++ []) ts))) (not_ended m s c env (pace (early m s) (below false c h 0 0) (env ++ []) i) (all_followed (paces (early m s) (λ k. []) (below false c h 0) 2 ((env ++ []) ++ []) ts)) (none_ended m s c env (λ k. []) (below false c h 0) (λ k. refl) 2 ((env ++ []) ++ []) ts))
 
   -- nothing is seen behind the head that declares the name
-  abbrev pub said_in : Frame → Tree → Trees → Pace
+  abbrev said_in : Frame → Tree → Trees → Pace
   said_in f i ts = in_turn (frame_shape f) (paces (early m s) (λ k. []) (below true c (frame_shape f) 0) 0 env (i ▸ ts))
 
   cut_off : (b : Bool) → b ≡ true → (p x y : Pace) → followed (ends_after b p) x ≡ followed (ends_after b p) y
@@ -195,7 +195,7 @@ module _ (m s : ℕ) (c : Setting) (env : Environment) where
   declares_so : (i : Tree) → is_among (by_symbol s) (names_of declared.Lexical i) ≡ true → declares_it i ≡ true
   declares_so i z = ap (λ b. b || is_among (by_symbol s) (names_of declared.Bound i)) z
 
-  pub head_says : (f : Frame) (i : Tree) (ts : Trees) → is_among (by_symbol s) (headed f i) ≡ true → said_in f i ts ≡ said_in f i (before_head f ts)
+  head_says : (f : Frame) (i : Tree) (ts : Trees) → is_among (by_symbol s) (headed f i) ≡ true → said_in f i ts ≡ said_in f i (before_head f ts)
   unfolding pace
   head_says AFor i ts z = cut_off (declares_it i) (declares_so i z) (head_pace shape.ForStatement i) (all_followed (paces (early m s) (λ k. []) (below true c shape.ForStatement 0) 1 (env ++ []) ts)) Silent
   head_says AWhile i ts z = absurd (true≢false (sym z))
