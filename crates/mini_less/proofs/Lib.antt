@@ -56,6 +56,15 @@ pub mod DeclaredKeysLess
 pub mod ArrowsLess
 pub mod Beside
 pub mod NamesLess
+pub mod ByQuestion
+pub mod LessTold
+pub mod DeclarationsLess
+pub mod LoopGuardsLess
+pub mod StretchTold
+pub mod LetsLess
+pub mod FadedLess
+pub mod Drops
+pub mod DroppedLess
 pub mod BodyEndsLess
 pub mod SwitchTold
 pub mod OneCaseLess

@@ -118,7 +118,7 @@ abbrev pub ListMade : Trees → Trees → Type 1
 ListMade a d = (strict : Bool) (k : Depth) → fill strict (each (one (a_statement k))) a ≡ true → (Q : Asked → Tree → Type 0) → ByLists Q → All Q AsWholeItem a → All Q AsWholeItem d
 
 -- a statement in a list reads
-as_read : (p : Position) → is_statement_list p ≡ true → (v : Use) → is_used p v ≡ true → v ≡ Read
+pub as_read : (p : Position) → is_statement_list p ≡ true → (v : Use) → is_used p v ≡ true → v ≡ Read
 as_read StatementList e v k = read v k
 as_read BodyList e v k = read v k
 as_read p e v k = absurd (cc e)

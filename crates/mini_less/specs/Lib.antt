@@ -10,6 +10,9 @@ pub mod Own
 pub mod HeldKeys
 pub mod Arrows
 pub mod Names
+pub mod Declarations
+pub mod LoopGuards
+pub mod Lets
 pub mod BodyEnds
 pub mod SwitchRows
 pub mod TellsLists

@@ -5,6 +5,9 @@
 ghost use Rattle.mini_less.specs.Families.{ConstantsReadLess, SequencesReadLess, TemplatesReadLess, BooleansReadLess, NegationsReadLess, ChoicesReadLess, WritesReadLess, KeysReadLess, FoldingsReadLess, DeMorganReadsLess, WholeFamiliesReadLess, IfRowsLess, BodyRowsLess, BodyRowsOfThisLess, FirstRowsReadLess, OperandsReadLess, SpellingsReadLess, ReadsLessJoins, ReadsLessNarrows, ListRowsLess, MoreRowsLess, TurnsReadLess, TurnsShrink};
 ghost use Rattle.mini_less.specs.Arrows.{ArrowsReadLess};
 ghost use Rattle.mini_less.specs.BodyEnds.{BodyEndsLess};
+ghost use Rattle.mini_less.specs.Declarations.{DeclarationsReadLess};
+ghost use Rattle.mini_less.specs.Lets.{LetsReadLess};
+ghost use Rattle.mini_less.specs.LoopGuards.{LoopGuardsReadLess};
 ghost use Rattle.mini_less.specs.HeldKeys.{HeldKeysReadLess};
 ghost use Rattle.mini_less.specs.Names.{NamesReadLess, CatchesReadLess};
 ghost use Rattle.mini_less.specs.SwitchRows.{BranchesReadLess, LexicalNamesReadLess, LexicalRowsLess, SwitchRowsLess};
@@ -156,6 +159,21 @@ pub fn arrows_read_less()
 /// The row that drops the name of a function or class expression that nothing mentions: 62.
 pub fn names_read_less()
     ensures { NamesReadLess }
+{}
+
+/// The row of a `let` without the value `undefined`: 61.
+pub fn declarations_read_less()
+    ensures { DeclarationsReadLess }
+{}
+
+/// The row of a guard in the body of a loop that goes on with the next turn: 75.
+pub fn loop_guards_read_less()
+    ensures { LoopGuardsReadLess }
+{}
+
+/// Rows of a `let` and an assignment after it, and of a lexical declaration that never runs: 70, 77.
+pub fn lets_read_less()
+    ensures { LetsReadLess }
 {}
 
 /// The row that drops what a `catch` catches where nothing mentions it: 63.
