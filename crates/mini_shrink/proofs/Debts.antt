@@ -64,7 +64,7 @@ is_hoisted an_arrow_body = true
 is_hoisted an_exported_declaration = true
 is_hoisted c = false
 
-abbrev is_body : Class → Bool
+abbrev pub is_body : Class → Bool
 is_body a_function_body = true
 is_body an_arrow_body = true
 is_body c = false
@@ -230,7 +230,7 @@ parts h = 0
 abbrev owes_nothing : Class → Bool
 owes_nothing c = not (is_binder c) && (not (is_lexical c) && (not (is_hoisted c) && not (is_body c)))
 
--- an inner expression is over what owes nothing
+-- an inner expression is over what owes nothing, and no list is one of bodies
 abbrev pub holds_nothing : Class → Bool
 holds_nothing (an_inner c) = owes_nothing c && holds_nothing c
 holds_nothing c = true
@@ -238,20 +238,20 @@ holds_nothing c = true
 abbrev pub holds_nothing_slot : Slot → Bool
 holds_nothing_slot (one c) = holds_nothing c
 holds_nothing_slot (one_or_absent c) = holds_nothing c
-holds_nothing_slot (many c) = holds_nothing c
-holds_nothing_slot (many_or_holes c) = holds_nothing c
-holds_nothing_slot (many_and_rest c rest) = holds_nothing c && holds_nothing rest
-holds_nothing_slot (many_or_holes_and_rest c rest) = holds_nothing c && holds_nothing rest
+holds_nothing_slot (many c) = holds_nothing c && not (is_body c)
+holds_nothing_slot (many_or_holes c) = holds_nothing c && not (is_body c)
+holds_nothing_slot (many_and_rest c rest) = (holds_nothing c && not (is_body c)) && (holds_nothing rest && not (is_body rest))
+holds_nothing_slot (many_or_holes_and_rest c rest) = (holds_nothing c && not (is_body c)) && (holds_nothing rest && not (is_body rest))
 holds_nothing_slot (quasis g) = true
 
 -- a node owes no more than its class may
-abbrev owes_little : (Debt → Bool) → Shape → List Slot → Bool
+abbrev pub owes_little : (Debt → Bool) → Shape → List Slot → Bool
 owes_little m h ss =
     (is_silent (of declared.Bound) h ss || m (of declared.Bound))
     && ((is_silent (of declared.Lexical) h ss || m (of declared.Lexical)) && ((is_silent (of declared.Hoisted) h ss || m (of declared.Hoisted)) && (is_silent of_body h ss || m of_body)))
 
 -- what the child in a slot may owe the node handles
-abbrev is_settled : Shape → ℕ → Slot → Bool
+abbrev pub is_settled : Shape → ℕ → Slot → Bool
 is_settled h i s =
     (handles (of declared.Bound) h i || not (slot_owes (of declared.Bound) s))
     && ((handles (of declared.Lexical) h i || not (slot_owes (of declared.Lexical) s)) && ((handles (of declared.Hoisted) h i || not (slot_owes (of declared.Hoisted) s)) && (handles of_body h i || not (slot_owes of_body s))))
@@ -263,7 +263,7 @@ abbrev pub are_settled : Shape → ℕ → List Slot → Bool
 are_settled h i [] = true
 are_settled h i (s ∷ ss) = is_settled_slot h i s && are_settled h (suc i) ss
 
-abbrev fits_debts : (Debt → Bool) → Bool → Shape → Option (List Slot) → Bool
+abbrev pub fits_debts : (Debt → Bool) → Bool → Shape → Option (List Slot) → Bool
 fits_debts m k h None = true
 fits_debts m k h (Some ss) = owes_little m h ss && (are_settled h 0 ss && (nat_le (parts h) (length ss) && not (is_no_branch h && k)))
 

@@ -19,3 +19,4 @@ pub mod Within
 pub mod Exact
 pub mod Spelled
 pub mod Debts
+pub mod Silence
