@@ -20,3 +20,4 @@ pub mod Exact
 pub mod Spelled
 pub mod Debts
 pub mod Silence
+pub mod Provided

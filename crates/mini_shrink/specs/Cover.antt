@@ -1,7 +1,7 @@
 -- Every binder is spelled in a scope of its own body: the `x` of `function f(p) { { var x; } }` in
 -- the scope of f, and the `y` of `function f(p) { { let y; } }` in the scope of the block. What a
 -- pattern binds (`let { a } = o`) the pattern spells.
-use Rattle.std.specs.Prelude.{ℕ, zero, suc, nat_eq, ◌≡◌, refl, Bool, true, false, ◌&&◌, ◌||◌, List, [], ◌∷◌, if◌then◌else◌}
+use Rattle.std.specs.Prelude.{ℕ, zero, suc, ◌≡◌, refl, Bool, true, false, ◌&&◌, ◌||◌, List, [], ◌∷◌, if◌then◌else◌}
 use Rattle.std.specs.List.{list_any, list_all}
 use Rattle.mini_model.specs.declared.kind.VariableDeclarationKind.TheVariants.{Let}
 use Rattle.mini_model.specs.declared.name.Name.{Name}
@@ -52,17 +52,20 @@ with_scope spells bs v s = spells v s || list_any (is_for (use_if v) s) bs
 
 -- a node with a number begins a body with its first child, and a declaration with the second: its
 -- name stands in the body around
-abbrev pub first_inside : Shape → ℕ
-first_inside (shape.Function true g ds) = 1
-first_inside (shape.Class true) = 1
-first_inside h = 0
+abbrev pub is_first_inside : Shape → ℕ → Bool
+is_first_inside (shape.Function true g ds) (suc zero) = true
+is_first_inside (shape.Function true g ds) i = false
+is_first_inside (shape.Class true) (suc zero) = true
+is_first_inside (shape.Class true) i = false
+is_first_inside h zero = true
+is_first_inside h (suc i) = false
 
 abbrev pub is_numbered_by : Numbering → Bool
 is_numbered_by Unnumbered = false
 is_numbered_by k = true
 
 abbrev pub begins_body : Shape → ℕ → ℕ → Bool
-begins_body h n i = is_numbered_by (numbering_of h n) && nat_eq i (first_inside h)
+begins_body h n i = is_numbered_by (numbering_of h n) && is_first_inside h i
 
 -- what is spelled where it begins: nothing, but in a pattern the names that it binds
 abbrev pub spelled_first : Use → Shape → ℕ → Trees → Spellings
