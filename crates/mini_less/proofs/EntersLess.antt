@@ -59,11 +59,11 @@ rest_there (node shape.Absent xs n ts) none e = absurd (true≢false (sym e))
 rest_there (node h xs n ts) none e = refl
 rest_there q (r ▸ qs) e = refl
 
-first_every : (P : Tree → Type 0) (ts us : Trees) → Every P (append ts us) → Every P ts
+pub first_every : (P : Tree → Type 0) (ts us : Trees) → Every P (append ts us) → Every P ts
 first_every P none us a = tt
 first_every P (t ▸ ts) us a = (a.0, first_every P ts us a.1)
 
-second_every : (P : Tree → Type 0) (ts us : Trees) → Every P (append ts us) → Every P us
+pub second_every : (P : Tree → Type 0) (ts us : Trees) → Every P (append ts us) → Every P us
 second_every P none us a = a
 second_every P (t ▸ ts) us a = second_every P ts us a.1
 

@@ -72,3 +72,9 @@ pub mod DeadCasesLess
 pub mod BranchesLess
 pub mod GuardTold
 pub mod LexicalLess
+pub mod PutMade
+pub mod Drops
+pub mod HeadsOnce
+pub mod OnceInOrder
+pub mod Once
+pub mod Losing

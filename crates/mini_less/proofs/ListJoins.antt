@@ -53,7 +53,7 @@ once false false Ends = refl
 once false false Silent = refl
 once false false Reads = refl
 
-abbrev is_silent : Pace → Bool
+abbrev pub is_silent : Pace → Bool
 is_silent Silent = true
 is_silent p = false
 
@@ -74,7 +74,7 @@ module _ (b s : ℕ) (c : Setting) (env : Environment) where
   abbrev pub declares : Trees → Bool
   declares ts = is_among (by_symbol s) (all_names declared.Bound ts)
 
-  declares_both : (ds es : Trees) → declares (append ds es) ≡ (declares ds || declares es)
+  pub declares_both : (ds es : Trees) → declares (append ds es) ≡ (declares ds || declares es)
   declares_both ds es = ap (is_among (by_symbol s)) (all_both declared.Bound ds es) ∙ among_both (by_symbol s) (all_names declared.Bound ds) (all_names declared.Bound es)
 
   -- around the declarators, where the list of statements declares the name or doesn't
@@ -94,7 +94,7 @@ module _ (b s : ℕ) (c : Setting) (env : Environment) where
       and_true false = refl
 
   -- a list that declares the name says something
-  spoken : (ts : Trees) → declares ts ≡ true → is_silent (items true ts) ≡ false
+  pub spoken : (ts : Trees) → declares ts ≡ true → is_silent (items true ts) ≡ false
   unfolding names_of
   spoken none e = absurd (true≢false (sym e))
   spoken (t ▸ ts) e = by (is_among (by_symbol s) (names_of declared.Bound t)) (declares ts) refl refl (spoken ts) (sym (among_both (by_symbol s) (names_of declared.Bound t) (all_names declared.Bound ts)) ∙ e)
