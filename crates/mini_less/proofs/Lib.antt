@@ -73,7 +73,6 @@ pub mod BranchesLess
 pub mod GuardTold
 pub mod LexicalLess
 pub mod PutMade
-pub mod Drops
 pub mod HeadsOnce
 pub mod OnceInOrder
 pub mod Once
