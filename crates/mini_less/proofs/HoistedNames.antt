@@ -242,7 +242,7 @@ all_placed strict (each_or_last s l) (t ▸ ts) e = let (x, y) = and_parts (fits
 all_placed strict (pieces g) (t ▸ ts) e = all_pieces g (t ▸ ts) e
 all_placed strict g ts e = absurd (true≢false (sym e))
 
-abbrev NoArguments : Name → Type 0
+abbrev pub NoArguments : Name → Type 0
 NoArguments x = is_arguments (x ∷ []) ≡ false
 
 -- it names no `arguments`, and has its place

@@ -66,8 +66,13 @@ pub mod FadedLess
 pub mod DroppedLess
 pub mod ForHeadLess
 pub mod BodyEndsLess
+pub mod SwitchTold
+pub mod OneCaseLess
+pub mod DeadCasesLess
+pub mod BranchesLess
+pub mod GuardTold
+pub mod LexicalLess
 pub mod PutMade
-pub mod Drops
 pub mod HeadsOnce
 pub mod OnceInOrder
 pub mod Once

@@ -209,7 +209,7 @@ abbrev lists_moved : Free
 lists_moved = record { moved = []; lists_moved = 0 ∷ []; dropped = [] }
 
 -- a block of unscoped statements is plain
-list_plain : (ts : Trees) → are_unscoped ts ≡ true → Plain Block (listed ts ▸ none)
+pub list_plain : (ts : Trees) → are_unscoped ts ≡ true → Plain Block (listed ts ▸ none)
 list_plain ts f = subst (λ us. Plain Block (listed us ▸ none)) (append_none ts) (is_plain lists_moved (record { trees = none; lists = ts ∷ [] }) (tt, (f, tt)) AsBranch (under Block (list (items 0 no_items) ▹ end)) refl).0
 
 pub all_unscoped : (ts us : Trees) → are_unscoped ts ≡ true → are_unscoped us ≡ true → are_unscoped (append ts us) ≡ true

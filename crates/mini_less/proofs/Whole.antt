@@ -18,7 +18,9 @@ use Rattle.mini_rows.specs.Negations.{NegationContracts}
 use Rattle.mini_rows.specs.Templates.{TemplateContracts}
 use Rattle.mini_rows.specs.Writes.{WriteContracts}
 use Rattle.mini_rows.specs.Arrows.{ArrowContracts}
+use Rattle.mini_rows.specs.Branches.{BranchContracts}
 use Rattle.mini_rows.specs.Catches.{CatchContracts}
+use Rattle.mini_rows.specs.Lists.{ListContracts}
 use Rattle.mini_rows.specs.KeyHolders.{HeldKeyContracts}
 use Rattle.mini_rows.specs.Names.{NameContracts}
 use Rattle.mini_rows.specs.Switches.{Switches}
@@ -40,11 +42,19 @@ use Rattle.mini_less.proofs.WritesLess.{writes_read_less}
 use Rattle.mini_less.proofs.ArrowsLess.{arrows_read_less}
 use Rattle.mini_less.proofs.DeclaredKeysLess.{held_keys_read_less}
 use Rattle.mini_less.proofs.NamesLess.{names_read_less, catches_read_less}
+use Rattle.mini_less.proofs.BranchesLess.{branches_read_less}
+use Rattle.mini_less.proofs.Lists.{lists_read_less}
 use Rattle.mini_less.proofs.Joined.{reads_less_joins}
 
 module _ (o : Switches) (W : VariableSet) where
+  abbrev From18 : Position → Tree → Tree → Type 0
+  From18 p n w = BranchContracts p n w ⊎ ListContracts o p n w
+
+  abbrev From17 : Position → Tree → Tree → Type 0
+  From17 p n w = CatchContracts p n w ⊎ From18 p n w
+
   abbrev From16 : Position → Tree → Tree → Type 0
-  From16 p n w = NameContracts o p n w ⊎ CatchContracts p n w
+  From16 p n w = NameContracts o p n w ⊎ From17 p n w
 
   abbrev From15 : Position → Tree → Tree → Type 0
   From15 p n w = ArrowContracts p n w ⊎ From16 p n w
@@ -109,4 +119,6 @@ whole_families_read_less o W =
     (reads_less_joins (WriteContracts W) (From14 o W) (writes_read_less W)
     (reads_less_joins HeldKeyContracts (From15 o W) held_keys_read_less
     (reads_less_joins ArrowContracts (From16 o W) arrows_read_less
-    (reads_less_joins (NameContracts o) CatchContracts (names_read_less o) catches_read_less))))))))))))))))
+    (reads_less_joins (NameContracts o) (From17 o W) (names_read_less o)
+    (reads_less_joins CatchContracts (From18 o W) catches_read_less
+    (reads_less_joins BranchContracts (ListContracts o) branches_read_less (lists_read_less o).1))))))))))))))))))

@@ -14,4 +14,5 @@ pub mod Declarations
 pub mod LoopGuards
 pub mod Lets
 pub mod BodyEnds
+pub mod SwitchRows
 pub mod TellsLists
