@@ -63,6 +63,7 @@ pub mod LoopGuardsLess
 pub mod StretchTold
 pub mod LetsLess
 pub mod FadedLess
+pub mod Drops
 pub mod DroppedLess
 pub mod ForHeadLess
 pub mod BodyEndsLess

@@ -36,6 +36,9 @@ use Rattle.mini_rows.specs.Folding.{FoldingContracts}
 use Rattle.mini_rows.specs.SpellKeys.{KeyContracts}
 use Rattle.mini_rows.specs.Writes.{WriteContracts}
 use Rattle.mini_rows.specs.Choices.{ChoiceContracts}
+use Rattle.mini_rows.specs.Declarations.{DeclarationContracts}
+use Rattle.mini_rows.specs.Lets.{LetContracts}
+use Rattle.mini_rows.specs.LoopGuards.{LoopGuardContracts}
 use Rattle.mini_rows.specs.Negations.{NegationContracts}
 use Rattle.mini_rows.specs.Booleans.{BooleanContracts}
 use Rattle.mini_rows.specs.Templates.{TemplateContracts}
@@ -182,7 +185,8 @@ abbrev pub WholeFamilies : Switches → VariableSet → Position → Tree → Tr
 WholeFamilies o W p n w =
     Contracts p n w ⊎ (SpellingContracts p n w ⊎ (KeyContracts p n w ⊎ (ChoiceContracts p n w ⊎ (FoldingContracts p n w ⊎ (TurnContracts p n w ⊎ (ConstantContracts p n w
     ⊎ (BooleanContracts p n w ⊎ (DeMorganContracts p n w ⊎ (SequenceContracts p n w ⊎ (OperandContracts p n w ⊎ (NegationContracts p n w ⊎ (TemplateContracts p n w ⊎ (WriteContracts W p n w
-    ⊎ (HeldKeyContracts p n w ⊎ (ArrowContracts p n w ⊎ (NameContracts o p n w ⊎ (CatchContracts p n w ⊎ (BranchContracts p n w ⊎ ListContracts o p n w))))))))))))))))))
+    ⊎ (HeldKeyContracts p n w ⊎ (ArrowContracts p n w ⊎ (NameContracts o p n w ⊎ (CatchContracts p n w ⊎ (BranchContracts p n w ⊎ (ListContracts o p n w
+    ⊎ (DeclarationContracts p n w ⊎ (LoopGuardContracts o p n w ⊎ LetContracts W p n w)))))))))))))))))))))
 
 abbrev pub WholeFamiliesReadLess : Type 0
 WholeFamiliesReadLess = (o : Switches) (W : VariableSet) → ReadsLess (WholeFamilies o W)

@@ -8,6 +8,7 @@ ghost use Rattle.mini_less.specs.BodyEnds.{BodyEndsLess};
 ghost use Rattle.mini_less.specs.Declarations.{DeclarationsReadLess};
 ghost use Rattle.mini_less.specs.Lets.{LetsReadLess};
 ghost use Rattle.mini_less.specs.LoopGuards.{LoopGuardsReadLess};
+ghost use Rattle.mini_less.specs.Rows.{RowsReadLess};
 ghost use Rattle.mini_less.specs.HeldKeys.{HeldKeysReadLess};
 ghost use Rattle.mini_less.specs.Names.{NamesReadLess, CatchesReadLess};
 ghost use Rattle.mini_less.specs.SwitchRows.{BranchesReadLess, LexicalNamesReadLess, LexicalRowsLess, SwitchRowsLess};
@@ -174,6 +175,11 @@ pub fn loop_guards_read_less()
 /// Rows of a `let` and an assignment after it, and of a lexical declaration that never runs: 70, 77.
 pub fn lets_read_less()
     ensures { LetsReadLess }
+{}
+
+/// All rows by which any program is rewritten, whatever is known of its names.
+pub fn rows_read_less()
+    ensures { RowsReadLess }
 {}
 
 /// The row that drops what a `catch` catches where nothing mentions it: 63.
