@@ -64,3 +64,4 @@ pub mod OnceInOrder
 pub mod Once
 pub mod Losing
 pub mod LosingNodes
+pub mod ChildStands
