@@ -65,3 +65,4 @@ pub mod Once
 pub mod Losing
 pub mod LosingNodes
 pub mod ChildStands
+pub mod LosingLists
