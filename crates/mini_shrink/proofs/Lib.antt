@@ -21,3 +21,4 @@ pub mod Spelled
 pub mod Debts
 pub mod Silence
 pub mod Provided
+pub mod Covering
