@@ -17,3 +17,5 @@ pub mod PortSteps
 pub mod Tops
 pub mod Within
 pub mod Exact
+mod Unended
+mod Covered
