@@ -158,7 +158,7 @@ module _ (k : ℕ) where
 
   -- ---- a pattern spells what it binds
 
-  spelled_far : (u : Use) (v : Bool) → is_hoisting u ≡ v → (env : Environment) (xs : List Name) → NamesScoped u env xs → Other k xs → (s : List ℕ) → is_spelled s xs ≡ true → is_same (symbol k) (symbol_of (use_if v) s env) ≡ false
+  pub spelled_far : (u : Use) (v : Bool) → is_hoisting u ≡ v → (env : Environment) (xs : List Name) → NamesScoped u env xs → Other k xs → (s : List ℕ) → is_spelled s xs ≡ true → is_same (symbol k) (symbol_of (use_if v) s env) ≡ false
   spelled_far u v e env [] a o s f = absurd (true≢false (sym f))
   spelled_far u v e env (y ∷ ys) a o s f = by (spelled_far u v e env ys a.1 o.1 s) (or_either (same_text y.spelling s) (is_spelled s ys) f)
     where
@@ -175,7 +175,7 @@ module _ (k : ℕ) where
       by rest true q f = absurd (true≢false f)
       by rest false q f = (q, rest f)
 
-  flagged : (u : Use) (v c : Bool) → (is_same_flag v (is_hoisting u) && c) ≡ true → (is_hoisting u ≡ v) × (c ≡ true)
+  pub flagged : (u : Use) (v c : Bool) → (is_same_flag v (is_hoisting u) && c) ≡ true → (is_hoisting u ≡ v) × (c ≡ true)
   flagged u v c e = by (is_hoisting u) refl v e
     where
       by : (w : Bool) → is_hoisting u ≡ w → (v : Bool) → (is_same_flag v w && c) ≡ true → (is_hoisting u ≡ v) × (c ≡ true)
@@ -232,10 +232,10 @@ module _ (k : ℕ) where
         let own = list_all (λ y. spells (is_hoisting u) y.spelling) (bound_at h xs) in
         let under = are_covered (opened u h ts) (use_of h u) (begins_body h n) (spelled_first u h n ts) 0 spells ts in
         (λ e. far_names u v e spells env f (bound_at h xs) (own_scoped u env h xs ts a.0) (left own under c),
-          all_covered_unbound v (opened u h ts) (use_of h u) (begins_body h n) (spelled_first u h n ts) 0 spells env ts (right own under c) a.1 d p.1 f (first_far v u env h xs n ts a p.0))
+          all_covered_unbound v (opened u h ts) (use_of h u) (begins_body h n) (spelled_first u h n ts) 0 spells env ts (right own under c) a.1 d p.1 (far_if (begins_body h n 0) v (spelled_first u h n ts) spells env (first_far v u env h xs n ts a p.0) f) (first_far v u env h xs n ts a p.0))
 
-    all_covered_unbound : (v : Bool) (sc : ℕ → List Binding) (us : ℕ → Use) (begins : ℕ → Bool) (first : Spellings) (i : ℕ) (spells : Spellings) (env : Environment) (ts : Trees) → are_covered sc us begins first i spells ts ≡ true → AllScoped sc us i env ts
-        → (times None (declared_from sc us i ts) ≡ 0) × (times (symbol k) (declared_from sc us i ts) ≡ 0) → AllUnpatterned ts → Far v spells env → Far v first env → AllUnboundIn v us i ts
+    pub all_covered_unbound : (v : Bool) (sc : ℕ → List Binding) (us : ℕ → Use) (begins : ℕ → Bool) (first : Spellings) (i : ℕ) (spells : Spellings) (env : Environment) (ts : Trees) → are_covered sc us begins first i spells ts ≡ true → AllScoped sc us i env ts
+        → (times None (declared_from sc us i ts) ≡ 0) × (times (symbol k) (declared_from sc us i ts) ≡ 0) → AllUnpatterned ts → Far v (if begins i then first else spells) env → Far v first env → AllUnboundIn v us i ts
     all_covered_unbound v sc us begins first i spells env none c a d p f g = tt
     all_covered_unbound v sc us begins first i spells env (t ▸ ts) c a d p f g =
         let next = with_scope (if begins i then first else spells) (sc i) in
@@ -243,9 +243,9 @@ module _ (k : ℕ) where
         let own = times_three (symbol k) (symbols_in (sc i)) (declared_in (us i) t) (declared_from sc us (suc i) ts) in
         let free : Free (sc i) = (omega (arith, some, d.0), omega (arith, own, d.1)) in
         let here : Undeclared (us i) t = (omega (arith, some, d.0), omega (arith, own, d.1)) in
-        let far = far_scope v (if begins i then first else spells) env (sc i) (far_if (begins i) v first spells env g f) free in
+        let far = far_scope v (if begins i then first else spells) env (sc i) f free in
         (covered_unbound v (us i) next (env ++ sc i) t (left (is_covered (us i) next t) (are_covered sc us begins first (suc i) next ts) c) a.0 here p.0 far,
-          all_covered_unbound v sc us begins first (suc i) next (env ++ sc i) ts (right (is_covered (us i) next t) (are_covered sc us begins first (suc i) next ts) c) a.1 (omega (arith, some, d.0), omega (arith, own, d.1)) p.1 far (further v first env (sc i) g free))
+          all_covered_unbound v sc us begins first (suc i) next (env ++ sc i) ts (right (is_covered (us i) next t) (are_covered sc us begins first (suc i) next ts) c) a.1 (omega (arith, some, d.0), omega (arith, own, d.1)) p.1 (far_if (begins (suc i)) v first next (env ++ sc i) (further v first env (sc i) g free) far) (further v first env (sc i) g free))
 
   either_unbound : (u : Use) (o : Type 0) → (is_hoisting u ≡ true → o) → (is_hoisting u ≡ false → o) → o
   either_unbound u o f g = by (is_hoisting u) refl
@@ -258,6 +258,6 @@ module _ (k : ℕ) where
     pub unbound_both : (u : Use) (t : Tree) → UnboundIn true u t → UnboundIn false u t → Unbound k t
     unbound_both u (node h xs n ts) a b = (either_unbound u (Other k (bound_at h xs)) a.0 b.0, all_unbound_both (use_of h u) 0 ts a.1 b.1)
 
-    all_unbound_both : (us : ℕ → Use) (i : ℕ) (ts : Trees) → AllUnboundIn true us i ts → AllUnboundIn false us i ts → AllUnbound k ts
+    pub all_unbound_both : (us : ℕ → Use) (i : ℕ) (ts : Trees) → AllUnboundIn true us i ts → AllUnboundIn false us i ts → AllUnbound k ts
     all_unbound_both us i none a b = tt
     all_unbound_both us i (t ▸ ts) a b = (unbound_both (us i) t a.0 b.0, all_unbound_both us (suc i) ts a.1 b.1)

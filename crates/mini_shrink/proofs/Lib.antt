@@ -19,3 +19,6 @@ pub mod Within
 pub mod Exact
 mod Unended
 mod Covered
+mod Spelled
+mod Debts
+mod Parts

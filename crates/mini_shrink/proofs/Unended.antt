@@ -149,26 +149,60 @@ module _ (b s : ℕ) where
   pub none_ended : (c : Setting) (t : Tree) → Unbound s t → (early b s).ends c t ≡ false
   none_ended c t a = and_either c.ordered (is_among (x b s) (names_of declared.Lexical t)) (is_among (x b s) (names_of declared.Bound t)) (other_among s (names_of declared.Lexical t) (named s declared.Lexical t a)) (other_among s (names_of declared.Bound t) (named s declared.Bound t a))
 
+  -- ---- a node whose children end nothing
+
+  kept_reads : (r : Bool) → AtMost (kept_in (reads_if r)) (reads_if r)
+  kept_reads true = tt
+  kept_reads false = tt
+
+  abbrev pub Children : Setting → Environment → Shape → List Name → ℕ → Trees → Type 0
+  Children c env h xs n ts = AllLess (paces (early b s) (opened c.used h ts) (below ((early b s).orders c h ts) c h n) 0 env ts) (firsts b s (moments_from (use_of h c.used) (around_child h c.around n) 0 ts))
+
+  -- what such a node tells before what ends with it
+  told_less : (c : Setting) (env : Environment) (h : Shape) (xs : List Name) (n : ℕ) (ts : Trees) → Children c env h xs n ts
+      → AtMost (kept_in (pace (early b s) c env (node h xs n ts))) (followed (first_of b s (reads_at (own_mentions c.used c.around h xs))) (in_turn h (firsts b s (moments_from (use_of h c.used) (around_child h c.around n) 0 ts))))
+  unfolding pace
+  told_less c env h xs n ts a =
+      let own = (early b s).before c env h xs n ts in
+      let ps = paces (early b s) (opened c.used h ts) (below ((early b s).orders c h ts) c h n) 0 env ts in
+      let ms = firsts b s (moments_from (use_of h c.used) (around_child h c.around n) 0 ts) in
+      followed_less own (in_turn h ps) (first_of b s (reads_at (own_mentions c.used c.around h xs))) (in_turn h ms)
+      (subst (λ r. AtMost (kept_in own) r) (sym (reads_first b s (own_mentions c.used c.around h xs))) (kept_reads _))
+      (turned_less h ps ms a)
+
+  pub node_still : (c : Setting) (env : Environment) (h : Shape) (xs : List Name) (n : ℕ) (ts : Trees) → is_among (x b s) (ended_by h ts) ≡ false → Children c env h xs n ts → AtMost (kept_in (pace (early b s) c env (node h xs n ts))) (first_of b s (moments c.used c.around (node h xs n ts)))
+  unfolding moments
+  node_still c env h xs n ts e a =
+      let ls = moments_from (use_of h c.used) (around_child h c.around n) 0 ts in
+      let reads = reads_at (own_mentions c.used c.around h xs) in
+      subst (AtMost (kept_in (pace (early b s) c env (node h xs n ts)))) (sym (first_both b s reads (in_order h ls (ends_at c.around (ended_by h ts))) ∙ ap (followed (first_of b s reads)) (turn_unended h ls c.around (ended_by h ts) e))) (told_less c env h xs n ts a)
+
+  end_after : (q m : Pace) → AtMost (kept_in q) m → AtMost (ends_after true q) (followed m Ends)
+  end_after Ends m l = tt
+  end_after Silent m l = tt
+  end_after Reads Ends l = absurd l
+  end_after Reads Silent l = absurd l
+  end_after Reads Reads l = tt
+
+  -- one with which a declaration ends
+  pub node_ended : (c : Setting) (env : Environment) (h : Shape) (xs : List Name) (n : ℕ) (ts : Trees) → is_catch b s h ≡ false → is_among (x b s) (ended_by h ts) ≡ true → Children c env h xs n ts
+      → AtMost (ends_after true (pace (early b s) c env (node h xs n ts))) (first_of b s (moments c.used c.around (node h xs n ts)))
+  unfolding moments
+  node_ended c env h xs n ts k e a =
+      let ls = moments_from (use_of h c.used) (around_child h c.around n) 0 ts in
+      let reads = reads_at (own_mentions c.used c.around h xs) in
+      let q = pace (early b s) c env (node h xs n ts) in
+      subst (AtMost (ends_after true q))
+      (sym (first_both b s reads (in_order h ls (ends_at c.around (ended_by h ts))) ∙ ap (followed (first_of b s reads)) (turn_ends h k ls c.around (ended_by h ts) ∙ ap (λ d. followed (in_turn h (firsts b s ls)) (ends_if d)) e) ∙ sym (grouped (first_of b s reads) (in_turn h (firsts b s ls)) Ends)))
+      (end_after q (followed (first_of b s reads) (in_turn h (firsts b s ls))) (told_less c env h xs n ts a))
+
   mutual
     unfolding moments pace
 
     pub still : (c : Setting) (env : Environment) (t : Tree) → Unbound s t → AtMost (kept_in (pace (early b s) c env t)) (first_of b s (moments c.used c.around t))
-    still c env (node h xs n ts) a =
-        let o = (early b s).orders c h ts in
-        let own = (early b s).before c env h xs n ts in
-        let ps = paces (early b s) (opened c.used h ts) (below o c h n) 0 env ts in
-        let ls = moments_from (use_of h c.used) (around_child h c.around n) 0 ts in
-        let reads = reads_at (own_mentions c.used c.around h xs) in
-        subst (AtMost (kept_in (followed own (in_turn h ps)))) (sym (first_both b s reads (in_order h ls (ends_at c.around (ended_by h ts)))))
-        (followed_less own (in_turn h ps) (first_of b s reads) (first_of b s (in_order h ls (ends_at c.around (ended_by h ts))))
-        (subst (λ r. AtMost (kept_in own) r) (sym (reads_first b s (own_mentions c.used c.around h xs))) (kept_reads _))
-        (subst (AtMost (kept_in (in_turn h ps))) (sym (turn_unended h ls c.around (ended_by h ts) (ends_none h ts a.1))) (turned_less h ps (firsts b s ls) (each_still (opened c.used h ts) (below o c h n) 0 env ts a.1))))
-      where
-        kept_reads : (r : Bool) → AtMost (kept_in (reads_if r)) (reads_if r)
-        kept_reads true = tt
-        kept_reads false = tt
+    still c env (node h xs n ts) a = node_still c env h xs n ts (ends_none h ts a.1) (each_still (opened c.used h ts) (below ((early b s).orders c h ts) c h n) 0 env ts a.1)
 
-    each_still : (sc : ℕ → List Binding) (cs : ℕ → Setting) (i : ℕ) (env : Environment) (ts : Trees) → AllUnbound s ts → AllLess (paces (early b s) sc cs i env ts) (firsts b s (moments_from (λ j. (cs j).used) (λ j. (cs j).around) i ts))
+    pub each_still : (sc : ℕ → List Binding) (cs : ℕ → Setting) (i : ℕ) (env : Environment) (ts : Trees) → AllUnbound s ts → AllLess (paces (early b s) sc cs i env ts) (firsts b s (moments_from (λ j. (cs j).used) (λ j. (cs j).around) i ts))
     each_still sc cs i env none a = tt
     each_still sc cs i env (t ▸ ts) a =
         let q = pace (early b s) (cs i) (env ++ sc i) t in
