@@ -28,6 +28,7 @@ use Rattle.mini_kept.proofs.Unbound.{Other, both, Unbound}
 use Rattle.mini_shrink.specs.Cover.{Spellings, is_hoisting, use_if, is_covered}
 use Rattle.mini_shrink.specs.Regular.{is_regular, all_regular}
 use Rattle.mini_shrink.proofs.Covered.{Far, Undeclared, Unpatterned, AllUnpatterned, UnboundIn, AllUnboundIn, spelled_far, flagged, covered_unbound, unbound_both}
+use Rattle.mini_shrink.proofs.Debts.{may_be_alone_slot}
 use Rattle.mini_shrink.proofs.Moments.{or_either}
 use Rattle.mini_shrink.proofs.Spelled.{Spells, or_first}
 
@@ -108,49 +109,69 @@ pub record Sound (k : ℕ) (u : Use) (env : Environment) (t : Tree) : Type 0 whe
   pub unpatterned : Unpatterned k t
   pub regular : is_regular k t ≡ true
 
--- a part is covered by what spells the names that it declares around it
+-- a part is covered by what spells the names that it declares around it: where it stands alone, its
+-- lexical names are its own
 abbrev pub PartsAreCovered : Type 0
 PartsAreCovered =
-    (strict : Bool) (p : Slot) (u : Use) (spells : Spellings) (t : Tree) → fits strict p t ≡ true → is_alone u ≡ false → is_function_body t ≡ false
-    → Spells spells (is_hoisting u) (names_of declared.Bound t) → Spells spells false (names_of declared.Lexical t) → Spells spells true (names_of declared.Hoisted t) → is_covered u spells t ≡ true
+    (strict : Bool) (p : Slot) (u : Use) (spells : Spellings) (t : Tree) → fits strict p t ≡ true → (is_alone u ≡ true → may_be_alone_slot p ≡ true) → is_function_body t ≡ false
+    → Spells spells (is_hoisting u) (names_of declared.Bound t) → (is_alone u ≡ false → Spells spells false (names_of declared.Lexical t)) → Spells spells true (names_of declared.Hoisted t) → is_covered u spells t ≡ true
 
 abbrev pub kind_of : Bool → Declared
 kind_of true = declared.Hoisted
 kind_of false = declared.Lexical
 
 module _ (covered : PartsAreCovered) (k : ℕ) where
-  -- what spells the names of a part
+  -- what spells the names of a part, which alone are to be other ones
+  abbrev declares : Use → Bool → Bool
+  declares u true = true
+  declares u false = not (is_alone u)
+
   abbrev around : Use → Tree → Spellings
-  around u t v s = (is_same_flag v (is_hoisting u) && is_spelled s (names_of declared.Bound t)) || is_spelled s (names_of (kind_of v) t)
+  around u t v s = (is_same_flag v (is_hoisting u) && is_spelled s (names_of declared.Bound t)) || (declares u v && is_spelled s (names_of (kind_of v) t))
 
   same_flag : (v : Bool) → is_same_flag v v ≡ true
   same_flag true = refl
   same_flag false = refl
 
-  named_far : (v : Bool) (u : Use) → is_alone u ≡ false → (env : Environment) (t : Tree) → Scoped u env t → Other k (names_of (kind_of v) t) → (s : List ℕ) → is_spelled s (names_of (kind_of v) t) ≡ true → is_same (symbol k) (symbol_of (use_if v) s env) ≡ false
-  named_far true u e env t a o s f = spelled_far k Hoisted true refl env (names_of declared.Hoisted t) (hoisted_scoped u env t a) o s f
-  named_far false u e env t a o s f = spelled_far k Read false refl env (names_of declared.Lexical t) (lexical_scoped u e env t a) o s f
+  not_alone : (u : Use) → not (is_alone u) ≡ true → is_alone u ≡ false
+  not_alone u e = by (is_alone u) e
+    where
+      by : (a : Bool) → not a ≡ true → a ≡ false
+      by true e = absurd (cc e)
+      by false e = refl
 
-  pub part_unbound_in : (v strict : Bool) (p : Slot) (u : Use) (env : Environment) (t : Tree) → fits strict p t ≡ true → is_alone u ≡ false → is_function_body t ≡ false → Sound k u env t
-      → Other k (names_of declared.Bound t) → Other k (names_of (kind_of v) t) → UnboundIn k v u t
+  alone_not : (u : Use) → is_alone u ≡ false → not (is_alone u) ≡ true
+  alone_not u e = ap not e
+
+  abbrev Others : Bool → Use → Tree → Type 0
+  Others v u t = declares u v ≡ true → Other k (names_of (kind_of v) t)
+
+  named_far : (v : Bool) (u : Use) (env : Environment) (t : Tree) → Scoped u env t → Others v u t → (s : List ℕ) → (declares u v && is_spelled s (names_of (kind_of v) t)) ≡ true → is_same (symbol k) (symbol_of (use_if v) s env) ≡ false
+  named_far true u env t a o s f = spelled_far k Hoisted true refl env (names_of declared.Hoisted t) (hoisted_scoped u env t a) (o refl) s f
+  named_far false u env t a o s f =
+      let d = left (not (is_alone u)) (is_spelled s (names_of declared.Lexical t)) f in
+      spelled_far k Read false refl env (names_of declared.Lexical t) (lexical_scoped u (not_alone u d) env t a) (o d) s (right (not (is_alone u)) (is_spelled s (names_of declared.Lexical t)) f)
+
+  pub part_unbound_in : (v strict : Bool) (p : Slot) (u : Use) (env : Environment) (t : Tree) → fits strict p t ≡ true → (is_alone u ≡ true → may_be_alone_slot p ≡ true) → is_function_body t ≡ false → Sound k u env t
+      → Other k (names_of declared.Bound t) → Others v u t → UnboundIn k v u t
   part_unbound_in v strict p u env t f e g a o q =
       covered_unbound k v u (around u t) env t
       (covered strict p u (around u t) t f e g
-      (λ s m. or_first (is_same_flag (is_hoisting u) (is_hoisting u) && is_spelled s (names_of declared.Bound t)) (is_spelled s (names_of (kind_of (is_hoisting u)) t)) (and_both (is_same_flag (is_hoisting u) (is_hoisting u)) (is_spelled s (names_of declared.Bound t)) (same_flag (is_hoisting u)) m))
-      (λ s m. or_second (is_same_flag false (is_hoisting u) && is_spelled s (names_of declared.Bound t)) (is_spelled s (names_of declared.Lexical t)) m)
+      (λ s m. or_first (is_same_flag (is_hoisting u) (is_hoisting u) && is_spelled s (names_of declared.Bound t)) (declares u (is_hoisting u) && is_spelled s (names_of (kind_of (is_hoisting u)) t)) (and_both (is_same_flag (is_hoisting u) (is_hoisting u)) (is_spelled s (names_of declared.Bound t)) (same_flag (is_hoisting u)) m))
+      (λ n s m. or_second (is_same_flag false (is_hoisting u) && is_spelled s (names_of declared.Bound t)) (not (is_alone u) && is_spelled s (names_of declared.Lexical t)) (and_both (not (is_alone u)) (is_spelled s (names_of declared.Lexical t)) (alone_not u n) m))
       (λ s m. or_second (is_same_flag true (is_hoisting u) && is_spelled s (names_of declared.Bound t)) (is_spelled s (names_of declared.Hoisted t)) m))
       a.scoped a.undeclared a.unpatterned far
     where
       far : Far k v (around u t) env
-      far s m = by (or_either (is_same_flag v (is_hoisting u) && is_spelled s (names_of declared.Bound t)) (is_spelled s (names_of (kind_of v) t)) m)
+      far s m = by (or_either (is_same_flag v (is_hoisting u) && is_spelled s (names_of declared.Bound t)) (declares u v && is_spelled s (names_of (kind_of v) t)) m)
         where
-          by : ((is_same_flag v (is_hoisting u) && is_spelled s (names_of declared.Bound t)) ≡ true) ⊎ (is_spelled s (names_of (kind_of v) t) ≡ true) → is_same (symbol k) (symbol_of (use_if v) s env) ≡ false
+          by : ((is_same_flag v (is_hoisting u) && is_spelled s (names_of declared.Bound t)) ≡ true) ⊎ ((declares u v && is_spelled s (names_of (kind_of v) t)) ≡ true) → is_same (symbol k) (symbol_of (use_if v) s env) ≡ false
           by (inl h) = let (w, r) = flagged k u v (is_spelled s (names_of declared.Bound t)) h in spelled_far k u v w env (names_of declared.Bound t) (bound_scoped u env t a.scoped) o s r
-          by (inr h) = named_far v u e env t a.scoped q s h
+          by (inr h) = named_far v u env t a.scoped q s h
 
-  pub part_unbound : (strict : Bool) (p : Slot) (u : Use) (env : Environment) (t : Tree) → fits strict p t ≡ true → is_alone u ≡ false → is_function_body t ≡ false → Sound k u env t
-      → Other k (names_of declared.Bound t) → Other k (names_of declared.Lexical t) → Other k (names_of declared.Hoisted t) → Unbound k t
-  part_unbound strict p u env t f e g a o q r = unbound_both k u t (part_unbound_in true strict p u env t f e g a o r) (part_unbound_in false strict p u env t f e g a o q)
+  pub part_unbound : (strict : Bool) (p : Slot) (u : Use) (env : Environment) (t : Tree) → fits strict p t ≡ true → (is_alone u ≡ true → may_be_alone_slot p ≡ true) → is_function_body t ≡ false → Sound k u env t
+      → Other k (names_of declared.Bound t) → (is_alone u ≡ false → Other k (names_of declared.Lexical t)) → Other k (names_of declared.Hoisted t) → Unbound k t
+  part_unbound strict p u env t f e g a o q r = unbound_both k u t (part_unbound_in true strict p u env t f e g a o (λ d. r)) (part_unbound_in false strict p u env t f e g a o (λ d. q (not_alone u d)))
 
 -- ---- lexical names
 
