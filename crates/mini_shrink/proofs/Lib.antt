@@ -22,3 +22,6 @@ pub mod Debts
 pub mod Silence
 pub mod Provided
 pub mod Covering
+mod Unended
+mod Covered
+mod Parts
