@@ -121,7 +121,7 @@ module _ (k : ℕ) where
   abbrev pub Free : List Binding → Type 0
   Free bs = (times None (symbols_in bs) ≡ 0) × (times (symbol k) (symbols_in bs) ≡ 0)
 
-  further : (v : Bool) (spells : Spellings) (env bs : Environment) → Far v spells env → Free bs → Far v spells (env ++ bs)
+  pub further : (v : Bool) (spells : Spellings) (env bs : Environment) → Far v spells env → Free bs → Far v spells (env ++ bs)
   further v spells env bs a f s e = ap (is_same (symbol k)) (symbol_of_both (use_if v) s env bs) ∙ or_unsame (symbol_of (use_if v) s bs) (symbol_of (use_if v) s env) (unfound (use_if v) s bs f.1) (a s e)
 
   pub far_scope : (v : Bool) (spells : Spellings) (env bs : Environment) → Far v spells env → Free bs → Far v (with_scope spells bs) (env ++ bs)
@@ -131,7 +131,7 @@ module _ (k : ℕ) where
       by (inl g) = further v spells env bs a f s g
       by (inr g) = ap (is_same (symbol k)) (symbol_of_both (use_if v) s env bs) ∙ another_first (symbol_of (use_if v) s bs) (symbol_of (use_if v) s env) (found (use_if v) s bs g f.0 f.1)
 
-  far_if : (c v : Bool) (first spells : Spellings) (env : Environment) → Far v first env → Far v spells env → Far v (if c then first else spells) env
+  pub far_if : (c v : Bool) (first spells : Spellings) (env : Environment) → Far v first env → Far v spells env → Far v (if c then first else spells) env
   far_if true v first spells env a b = a
   far_if false v first spells env a b = b
 
@@ -149,7 +149,7 @@ module _ (k : ℕ) where
   pub found_as : (u : Use) (v : Bool) → is_hoisting u ≡ v → (s : List ℕ) (env : Environment) → symbol_of u s env ≡ symbol_of (use_if v) s env
   found_as u v e s env = as_hoisting u s env ∙ ap (λ w. symbol_of (use_if w) s env) e
 
-  far_names : (u : Use) (v : Bool) → is_hoisting u ≡ v → (spells : Spellings) (env : Environment) → Far v spells env → (xs : List Name) → NamesScoped u env xs → list_all (λ y. spells (is_hoisting u) y.spelling) xs ≡ true → Other k xs
+  pub far_names : (u : Use) (v : Bool) → is_hoisting u ≡ v → (spells : Spellings) (env : Environment) → Far v spells env → (xs : List Name) → NamesScoped u env xs → list_all (λ y. spells (is_hoisting u) y.spelling) xs ≡ true → Other k xs
   far_names u v e spells env a [] s f = tt
   far_names u v e spells env a (y ∷ ys) s f =
       let here = left (spells (is_hoisting u) y.spelling) (list_all (λ z. spells (is_hoisting u) z.spelling) ys) f in
@@ -184,7 +184,7 @@ module _ (k : ℕ) where
       by false q true f = absurd (true≢false (sym f))
       by false q false f = (q, f)
 
-  first_far : (v : Bool) (u : Use) (env : Environment) (h : Shape) (xs : List Name) (n : ℕ) (ts : Trees) → Scoped u env (node h xs n ts) → is_among x (own_pattern_names h n ts) ≡ false → Far v (spelled_first u h n ts) env
+  pub first_far : (v : Bool) (u : Use) (env : Environment) (h : Shape) (xs : List Name) (n : ℕ) (ts : Trees) → Scoped u env (node h xs n ts) → is_among x (own_pattern_names h n ts) ≡ false → Far v (spelled_first u h n ts) env
   unfolding names_of
   first_far v u env h xs n ts a p s e =
       let (w, f) = flagged u v (is_spelled s (own_pattern_names h n ts)) e in
@@ -216,7 +216,7 @@ module _ (k : ℕ) where
     AllUnboundIn v us i none = Unit {0}
     AllUnboundIn v us i (t ▸ ts) = UnboundIn v (us i) t × AllUnboundIn v us (suc i) ts
 
-  own_scoped : (u : Use) (env : Environment) (h : Shape) (xs : List Name) (ts : Trees) → OwnScoped u env h xs ts → NamesScoped u env (bound_at h xs)
+  pub own_scoped : (u : Use) (env : Environment) (h : Shape) (xs : List Name) (ts : Trees) → OwnScoped u env h xs ts → NamesScoped u env (bound_at h xs)
   own_scoped u env shape.BindingIdentifier xs ts a = a
   own_scoped u env h xs ts a = tt
 

@@ -25,3 +25,4 @@ pub mod Covering
 mod Unended
 mod Covered
 mod Parts
+pub mod Homes
