@@ -152,9 +152,10 @@ module _ (k : ℕ) where
   pub far_names : (u : Use) (v : Bool) → is_hoisting u ≡ v → (spells : Spellings) (env : Environment) → Far v spells env → (xs : List Name) → NamesScoped u env xs → list_all (λ y. spells (is_hoisting u) y.spelling) xs ≡ true → Other k xs
   far_names u v e spells env a [] s f = tt
   far_names u v e spells env a (y ∷ ys) s f =
-      let here = left (spells (is_hoisting u) y.spelling) (list_all (λ z. spells (is_hoisting u) z.spelling) ys) f in
-      (by_same y (ap (is_same (symbol k)) (s.0 ∙ found_as u v e y.spelling env) ∙ a y.spelling (sym (ap (λ w. spells w y.spelling) e) ∙ here)),
-        far_names u v e spells env a ys s.1 (right (spells (is_hoisting u) y.spelling) (list_all (λ z. spells (is_hoisting u) z.spelling) ys) f))
+      let here = left (spells (is_hoisting u) y.spelling) (list_all (λ z. spells (is_hoisting u) z.spelling) ys) f in (
+        by_same y (ap (is_same (symbol k)) (s.0 ∙ found_as u v e y.spelling env) ∙ a y.spelling (sym (ap (λ w. spells w y.spelling) e) ∙ here)),
+        far_names u v e spells env a ys s.1 (right (spells (is_hoisting u) y.spelling) (list_all (λ z. spells (is_hoisting u) z.spelling) ys) f),
+      )
 
   -- ---- a pattern spells what it binds
 
@@ -230,9 +231,10 @@ module _ (k : ℕ) where
     pub covered_unbound : (v : Bool) (u : Use) (spells : Spellings) (env : Environment) (t : Tree) → is_covered u spells t ≡ true → Scoped u env t → Undeclared u t → Unpatterned t → Far v spells env → UnboundIn v u t
     covered_unbound v u spells env (node h xs n ts) c a d p f =
         let own = list_all (λ y. spells (is_hoisting u) y.spelling) (bound_at h xs) in
-        let under = are_covered (opened u h ts) (use_of h u) (begins_body h n) (spelled_first u h n ts) 0 spells ts in
-        (λ e. far_names u v e spells env f (bound_at h xs) (own_scoped u env h xs ts a.0) (left own under c),
-          all_covered_unbound v (opened u h ts) (use_of h u) (begins_body h n) (spelled_first u h n ts) 0 spells env ts (right own under c) a.1 d p.1 (far_if (begins_body h n 0) v (spelled_first u h n ts) spells env (first_far v u env h xs n ts a p.0) f) (first_far v u env h xs n ts a p.0))
+        let under = are_covered (opened u h ts) (use_of h u) (begins_body h n) (spelled_first u h n ts) 0 spells ts in (
+          λ e. far_names u v e spells env f (bound_at h xs) (own_scoped u env h xs ts a.0) (left own under c),
+          all_covered_unbound v (opened u h ts) (use_of h u) (begins_body h n) (spelled_first u h n ts) 0 spells env ts (right own under c) a.1 d p.1 (far_if (begins_body h n 0) v (spelled_first u h n ts) spells env (first_far v u env h xs n ts a p.0) f) (first_far v u env h xs n ts a p.0),
+        )
 
     pub all_covered_unbound : (v : Bool) (sc : ℕ → List Binding) (us : ℕ → Use) (begins : ℕ → Bool) (first : Spellings) (i : ℕ) (spells : Spellings) (env : Environment) (ts : Trees) → are_covered sc us begins first i spells ts ≡ true → AllScoped sc us i env ts
         → (times None (declared_from sc us i ts) ≡ 0) × (times (symbol k) (declared_from sc us i ts) ≡ 0) → AllUnpatterned ts → Far v (if begins i then first else spells) env → Far v first env → AllUnboundIn v us i ts
@@ -243,9 +245,10 @@ module _ (k : ℕ) where
         let own = times_three (symbol k) (symbols_in (sc i)) (declared_in (us i) t) (declared_from sc us (suc i) ts) in
         let free : Free (sc i) = (omega (arith, some, d.0), omega (arith, own, d.1)) in
         let here : Undeclared (us i) t = (omega (arith, some, d.0), omega (arith, own, d.1)) in
-        let far = far_scope v (if begins i then first else spells) env (sc i) f free in
-        (covered_unbound v (us i) next (env ++ sc i) t (left (is_covered (us i) next t) (are_covered sc us begins first (suc i) next ts) c) a.0 here p.0 far,
-          all_covered_unbound v sc us begins first (suc i) next (env ++ sc i) ts (right (is_covered (us i) next t) (are_covered sc us begins first (suc i) next ts) c) a.1 (omega (arith, some, d.0), omega (arith, own, d.1)) p.1 (far_if (begins (suc i)) v first next (env ++ sc i) (further v first env (sc i) g free) far) (further v first env (sc i) g free))
+        let far = far_scope v (if begins i then first else spells) env (sc i) f free in (
+          covered_unbound v (us i) next (env ++ sc i) t (left (is_covered (us i) next t) (are_covered sc us begins first (suc i) next ts) c) a.0 here p.0 far,
+          all_covered_unbound v sc us begins first (suc i) next (env ++ sc i) ts (right (is_covered (us i) next t) (are_covered sc us begins first (suc i) next ts) c) a.1 (omega (arith, some, d.0), omega (arith, own, d.1)) p.1 (far_if (begins (suc i)) v first next (env ++ sc i) (further v first env (sc i) g free) far) (further v first env (sc i) g free),
+        )
 
   either_unbound : (u : Use) (o : Type 0) → (is_hoisting u ≡ true → o) → (is_hoisting u ≡ false → o) → o
   either_unbound u o f g = by (is_hoisting u) refl
