@@ -21,3 +21,8 @@ pub mod Spelled
 pub mod Debts
 pub mod Silence
 pub mod Provided
+pub mod Covering
+mod Unended
+mod Covered
+mod Parts
+pub mod Homes
