@@ -22,3 +22,4 @@ mod Covered
 mod Spelled
 mod Debts
 mod Parts
+mod Slotted
