@@ -23,3 +23,4 @@ mod Spelled
 mod Debts
 mod Parts
 mod Slotted
+mod Items
