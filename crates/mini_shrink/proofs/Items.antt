@@ -8,7 +8,7 @@ use Rattle.mini_model.specs.declared.name.Name.{Name}
 use Rattle.mini_model.specs.declared.shape.Shape.{Shape}
 use Rattle.mini_model.specs.declared.shape.Shape.TheVariants as shape
 use Rattle.mini_model.specs.Tree.{Tree, Trees, node, none, ◌▸◌}
-use Rattle.mini_accept.specs.WellShaped.{a_statement, a_pattern, a_binding, an_expression, an_inner, a_class_body, a_function_body, an_arrow_body, Class, Slot, one, one_or_absent, many, these, each, class_of, slots_of, is_same_flag, is_function_body, is_whole, is_strict_in, fits, fill}
+use Rattle.mini_accept.specs.WellShaped.{a_statement, a_pattern, a_binding, an_expression, an_inner, a_class_body, a_function_body, an_arrow_body, a_declarator, a_default_export, Class, Slot, one, one_or_absent, many, these, each, filling_by, class_of, slots_of, is_same_flag, is_function_body, is_whole, is_strict_in, fits, fill}
 use Rattle.mini_laws.specs.declared.names.Use.{Use}
 use Rattle.mini_laws.specs.declared.names.Use.TheVariants.{Read}
 use Rattle.mini_laws.specs.declared.names.Binding.{Binding}
@@ -30,14 +30,14 @@ use Rattle.mini_shrink.specs.Cover.{Spellings, is_hoisting, with_scope, begins_b
 use Rattle.mini_shrink.specs.Pace.{Pace, Ends, Silent, Reads, AtMost, followed, kept_in, ends_if, ends_after, in_turn, Setting, below, pace, paces}
 use Rattle.mini_shrink.specs.Questions.{hands_on, listed_names, early}
 use Rattle.mini_shrink.specs.Regular.{items_of, imports_no, is_regular, all_regular}
-use Rattle.mini_shrink.proofs.Alone.{is_lone, lone_slot, lone_slots}
+use Rattle.mini_shrink.proofs.Alone.{is_lone, lone_none, lone_slot, lone_slots}
 use Rattle.mini_shrink.proofs.Covered.{by_same, none_among, Far, Undeclared, Unpatterned, AllUnpatterned, AllUnboundIn, all_covered_unbound, all_unbound_both}
 use Rattle.mini_shrink.proofs.Debts.{Debt, of, owed, slot_owes, may_be_alone_slot, holds_nothing_slot}
 use Rattle.mini_shrink.proofs.Moments.{or_either, first_of, first_both, reads_first, firsts, is_catch}
 use Rattle.mini_shrink.proofs.Parts.{Sound, PartsAreCovered, part_unbound}
 use Rattle.mini_shrink.proofs.Paces.{AllAtMost, both as follow_both, turned, same}
 use Rattle.mini_shrink.proofs.Regulars.{ordered_slots}
-use Rattle.mini_shrink.proofs.Slotted.{is_bare, filled, function_there, class_there, declarator_there, no_function_body, FunctionParts, function_parts, ClassParts, class_parts, DeclaratorParts, declarator_parts, Filled, lone_filled}
+use Rattle.mini_shrink.proofs.Slotted.{is_bare, filled, variable_there, variable_parts, default_there, default_parts, lone_refused, function_there, class_there, declarator_there, no_function_body, FunctionParts, function_parts, ClassParts, class_parts, DeclaratorParts, declarator_parts, Filled, lone_filled}
 use Rattle.mini_shrink.proofs.Unended.{and_either, turn_unended, kept_unended, other_among, AllLess, Children, node_still, node_ended, ends_none, still, each_still, child_still}
 
 -- what a slot owes nothing of the part in it has none of
@@ -238,3 +238,155 @@ module _ (covered : PartsAreCovered) (owes : SlotsOweNothing) (b s : ℕ) where
       by false g =
           let (lexical, bound) = or_false (is_among x (names_of declared.Lexical t)) (is_among x (names_of declared.Bound t)) g in
           child_still b s c env t (part_unbound covered s strict p c.used env t f (lone_holds p l) (λ z. absurd (true≢false (sym z ∙ e))) (no_function_body strict p t l f) a (none_among s (names_of declared.Bound t) bound) (λ z. none_among s (names_of declared.Lexical t) lexical) h)
+
+  or_nothing : (a : Bool) → (a || false) ≡ true → a ≡ true
+  or_nothing true e = refl
+  or_nothing false e = e
+
+  hands : (o r : Bool) → o ≡ true → ((true && o) || r) ≡ true
+  hands o r e = ap (λ d. (true && d) || r) e
+
+  -- what stands in a class
+  not_body : (strict : Bool) (c : Class) (xs : List Name) (n : ℕ) (ts : Trees) → slots_of strict c shape.FunctionBody ≡ None → fits strict (one_or_absent c) (node shape.FunctionBody xs n ts) ≡ true → ⊥
+  not_body strict c xs n ts q e = refused_here strict (one_or_absent c) shape.FunctionBody xs n ts (ap filling_by q) e
+
+  parent_no_body : (strict : Bool) (t : Tree) → fits strict (one_or_absent (an_inner an_expression)) t ≡ true → is_function_body t ≡ false
+  parent_no_body strict (node shape.FunctionBody xs n ts) e = absurd (not_body strict (an_inner an_expression) xs n ts refl e)
+  parent_no_body strict (node h xs n ts) e = refl
+
+  members_no_body : (strict : Bool) (t : Tree) → fits strict (one a_class_body) t ≡ true → is_function_body t ≡ false
+  members_no_body strict (node shape.FunctionBody xs n ts) e = absurd (refused_here strict (one a_class_body) shape.FunctionBody xs n ts refl e)
+  members_no_body strict (node h xs n ts) e = refl
+
+  -- the parts of a class declare nothing around them
+  pub class_settled : (strict : Bool) (u : Use) (env : Environment) (d : Bool) (xs : List Name) (n : ℕ) (ts : Trees) → ClassParts strict ts → AllSound s (opened u (shape.Class d) ts) (use_of (shape.Class d) u) 0 env ts → AllSettled ts
+  class_settled strict u env d xs n (id ▸ (parent ▸ (body ▸ (again ▸ none)))) f a =
+      let ts : Trees = id ▸ (parent ▸ (body ▸ (again ▸ none))) in
+      let sc = opened u (shape.Class d) ts in
+      let us = use_of (shape.Class d) u in
+      let second = sound_rest s sc us 0 env id (parent ▸ (body ▸ (again ▸ none))) a in
+      let third = sound_rest s sc us 1 (env ++ sc 0) parent (body ▸ (again ▸ none)) second in (
+        name_settled strict id f.0,
+        (unbound_settled parent (quiet_unbound strict (one_or_absent (an_inner an_expression)) Read ((env ++ sc 0) ++ sc 1) parent f.1.0 refl refl (parent_no_body strict parent f.1.0) (sound_first s sc us 1 (env ++ sc 0) parent (body ▸ (again ▸ none)) second) refl refl refl),
+          (unbound_settled body (quiet_unbound strict (one a_class_body) Read (((env ++ sc 0) ++ sc 1) ++ sc 2) body f.1.1.0 refl refl (members_no_body strict body f.1.1.0) (sound_first s sc us 2 ((env ++ sc 0) ++ sc 1) body (again ▸ none) third) refl refl refl),
+            (name_settled strict again f.1.1.1, tt))),
+      )
+  class_settled strict u env d xs n ts f a = absurd f
+
+  declarator_settled : (strict : Bool) (u : Use) (env : Environment) (ts : Trees) → DeclaratorParts strict ts → AllSound s (opened u shape.VariableDeclarator ts) (use_of shape.VariableDeclarator u) 0 env ts → is_among x (first_names ts) ≡ true → AllSettled ts
+  unfolding names_of
+  declarator_settled strict u env (id ▸ (init ▸ none)) f a e =
+      let ts : Trees = id ▸ (init ▸ none) in
+      let sc = opened u shape.VariableDeclarator ts in
+      let us = use_of shape.VariableDeclarator u in
+      let rest = sound_rest s sc us 0 env id (init ▸ none) a in
+      (binder_settled strict id f.0 (sound_first s sc us 0 env id (init ▸ none) a).unpatterned e,
+        (unbound_settled init (quiet_unbound strict (one_or_absent an_expression) Read ((env ++ sc 0) ++ sc 1) init f.1 refl refl (no_function_body strict (one_or_absent an_expression) init refl f.1) (sound_first s sc us 1 (env ++ sc 0) init none rest) refl refl refl), tt))
+  declarator_settled strict u env ts f a e = absurd f
+
+  function_settled : (strict : Bool) (p : Slot) (u : Use) → holds_nothing_slot p ≡ true → (is_alone u ≡ true → may_be_alone_slot p ≡ true) → (env : Environment) (g : Bool) (ds : List (List ℕ)) (xs : List Name) (n : ℕ) (ts : Trees) → fits strict p (node (shape.Function true g ds) xs n ts) ≡ true → Sound s u env (node (shape.Function true g ds) xs n ts)
+      → FunctionParts (is_strict_in strict (shape.Function true g ds)) ts → AllSettled ts
+  function_settled strict p u m l env g ds xs n (id ▸ (params ▸ (body ▸ none))) f a z =
+      let under = declared_function strict p u m l env g ds xs n id params body f a in
+      (name_settled (is_strict_in strict (shape.Function true g ds)) id z.0, (unbound_settled params under.0, (unbound_settled body under.1.0, tt)))
+  function_settled strict p u m l env g ds xs n ts f a z = absurd z
+
+  pub other_first : (ys zs : List Name) → Other s (ys ++ zs) → Other s ys
+  other_first [] zs o = tt
+  other_first (y ∷ ys) zs o = (o.0, other_first ys zs o.1)
+
+  pub other_rest : (ys zs : List Name) → Other s (ys ++ zs) → Other s zs
+  other_rest [] zs o = o
+  other_rest (y ∷ ys) zs o = other_rest ys zs o.1
+
+  not_both : (d : Bool) → not d ≡ true → d ≡ true → ⊥
+  not_both true e f = true≢false (sym e)
+  not_both false e f = true≢false (sym f)
+
+  import_no : (xs : List Name) (n : ℕ) (ts : Trees) {u : Use} {env : Environment} → Sound s u env (node shape.ImportDeclaration xs n ts) → not (is_among x (all_names declared.Bound ts)) ≡ true
+  unfolding is_regular
+  import_no xs n ts a = right (items_of shape.ImportDeclaration ts) (not (is_among x (all_names declared.Bound ts))) (left (items_of shape.ImportDeclaration ts && not (is_among x (all_names declared.Bound ts))) (all_regular s ts) a.regular)
+
+  mutual
+    unfolding pace moments names_of
+
+    pub item : (strict : Bool) (p : Slot) → lone_slot p ≡ true → (c : Setting) (env : Environment) (t : Tree) → fits strict p t ≡ true → c.ordered ≡ true → is_alone c.used ≡ false → Sound s c.used env t → Other s (names_of declared.Hoisted t) → Entry c env t
+    item strict (many k) l c env (node shape.Listed xs n ts) f o e a h =
+        by_loud strict (many k) l c env (node shape.Listed xs n ts) f e a h (λ g. handed c env shape.Listed xs n ts o refl
+        (each_items strict k l (opened c.used shape.Listed ts) (below ((early b s).orders c shape.Listed ts) c shape.Listed n) (λ i. hands c.ordered false o) (λ i. e) 0 env ts (right (is_whole k shape.Listed xs n ts) (fill strict (each (one k)) ts) f) (sound_below s c.used env shape.Listed xs n ts a) h) g)
+    item strict (one k) l c env (node shape.Listed xs n ts) f o e a h = absurd (refused_here strict (one k) shape.Listed xs n ts (ap filling_by (lone_none strict k l shape.Listed refl)) f)
+    item strict (one_or_absent k) l c env (node shape.Listed xs n ts) f o e a h = absurd (refused_here strict (one_or_absent k) shape.Listed xs n ts (ap filling_by (lone_none strict k l shape.Listed refl)) f)
+    item strict p l c env (node shape.Listed xs n ts) f o e a h = absurd (true≢false (sym l))
+    item strict p l c env (node shape.SwitchCase xs n ts) f o e a h =
+        let z = lone_filled strict p shape.SwitchCase xs n ts refl l f in
+        by_loud strict p l c env (node shape.SwitchCase xs n ts) f e a h (λ g. handed c env shape.SwitchCase xs n ts o refl
+        (these_items strict z.slots z.ordered (opened c.used shape.SwitchCase ts) (below ((early b s).orders c shape.SwitchCase ts) c shape.SwitchCase n) (λ i. hands c.ordered false o) (λ i. refl) 0 env ts z.filled (sound_below s c.used env shape.SwitchCase xs n ts a) h) g)
+    item strict p l c env (node shape.ExportNamedDeclaration xs n ts) f o e a h =
+        let z = lone_filled strict p shape.ExportNamedDeclaration xs n ts refl l f in
+        by_loud strict p l c env (node shape.ExportNamedDeclaration xs n ts) f e a h (λ g. handed c env shape.ExportNamedDeclaration xs n ts o refl
+        (these_items strict z.slots z.ordered (opened c.used shape.ExportNamedDeclaration ts) (below ((early b s).orders c shape.ExportNamedDeclaration ts) c shape.ExportNamedDeclaration n) (λ i. hands c.ordered false o) (λ i. refl) 0 env ts z.filled (sound_below s c.used env shape.ExportNamedDeclaration xs n ts a) h) g)
+    item strict p l c env (node shape.ExportDefaultDeclaration xs n (t ▸ none)) f o e a h =
+        let ts : Trees = t ▸ none in
+        let z = default_parts strict (slots_of strict (class_of p) shape.ExportDefaultDeclaration) ts (default_there strict (class_of p)) (filled strict p shape.ExportDefaultDeclaration xs n ts refl f) in
+        by_loud strict p l c env (node shape.ExportDefaultDeclaration xs n ts) f e a h (λ g. handed c env shape.ExportDefaultDeclaration xs n ts o refl
+        (item strict (one a_default_export) refl (below ((early b s).orders c shape.ExportDefaultDeclaration ts) c shape.ExportDefaultDeclaration n 0) (env ++ opened c.used shape.ExportDefaultDeclaration ts 0) t z (hands c.ordered false o) refl
+        (sound_first s (opened c.used shape.ExportDefaultDeclaration ts) (use_of shape.ExportDefaultDeclaration c.used) 0 env t none (sound_below s c.used env shape.ExportDefaultDeclaration xs n ts a)) (nothing_other s (names_of declared.Hoisted t) (owes strict (one a_default_export) (of declared.Hoisted) t z refl refl)), tt) g)
+    item strict p l c env (node shape.ExportDefaultDeclaration xs n ts) f o e a h = absurd (default_parts strict (slots_of strict (class_of p) shape.ExportDefaultDeclaration) ts (default_there strict (class_of p)) (filled strict p shape.ExportDefaultDeclaration xs n ts refl f))
+    item strict p l c env (node (shape.VariableDeclaration Var) xs n ts) f o e a h = by_loud strict p l c env (node (shape.VariableDeclaration Var) xs n ts) f e a h (λ g. absurd (true≢false (sym g)))
+    item strict p l c env (node (shape.VariableDeclaration Let) xs n (t ▸ none)) f o e a h =
+        let k : Shape = shape.VariableDeclaration Let in
+        let ts : Trees = t ▸ none in
+        let z = variable_parts strict (slots_of strict (class_of p) k) ts (variable_there strict (class_of p) Let) (filled strict p k xs n ts refl f) in
+        by_loud strict p l c env (node k xs n ts) f e a h (λ g. handed c env k xs n ts o refl
+        (item strict (many a_declarator) refl (below ((early b s).orders c k ts) c k n 0) (env ++ opened c.used k ts 0) t z (hands c.ordered false o) refl
+        (sound_first s (opened c.used k ts) (use_of k c.used) 0 env t none (sound_below s c.used env k xs n ts a)) (nothing_other s (names_of declared.Hoisted t) (owes strict (many a_declarator) (of declared.Hoisted) t z refl refl)), tt) g)
+    item strict p l c env (node (shape.VariableDeclaration Let) xs n ts) f o e a h = absurd (variable_parts strict (slots_of strict (class_of p) (shape.VariableDeclaration Let)) ts (variable_there strict (class_of p) Let) (filled strict p (shape.VariableDeclaration Let) xs n ts refl f))
+    item strict p l c env (node (shape.VariableDeclaration Const) xs n (t ▸ none)) f o e a h =
+        let k : Shape = shape.VariableDeclaration Const in
+        let ts : Trees = t ▸ none in
+        let z = variable_parts strict (slots_of strict (class_of p) k) ts (variable_there strict (class_of p) Const) (filled strict p k xs n ts refl f) in
+        by_loud strict p l c env (node k xs n ts) f e a h (λ g. handed c env k xs n ts o refl
+        (item strict (many a_declarator) refl (below ((early b s).orders c k ts) c k n 0) (env ++ opened c.used k ts 0) t z (hands c.ordered false o) refl
+        (sound_first s (opened c.used k ts) (use_of k c.used) 0 env t none (sound_below s c.used env k xs n ts a)) (nothing_other s (names_of declared.Hoisted t) (owes strict (many a_declarator) (of declared.Hoisted) t z refl refl)), tt) g)
+    item strict p l c env (node (shape.VariableDeclaration Const) xs n ts) f o e a h = absurd (variable_parts strict (slots_of strict (class_of p) (shape.VariableDeclaration Const)) ts (variable_there strict (class_of p) Const) (filled strict p (shape.VariableDeclaration Const) xs n ts refl f))
+    item strict p l c env (node shape.VariableDeclarator xs n ts) f o e a h =
+        by_loud strict p l c env (node shape.VariableDeclarator xs n ts) f e a h (λ g. ended c env shape.VariableDeclarator xs n ts o refl g refl
+        (declarator_settled strict c.used env ts (declarator_parts strict (slots_of strict (class_of p) shape.VariableDeclarator) ts (declarator_there strict (class_of p)) (filled strict p shape.VariableDeclarator xs n ts refl f)) (sound_below s c.used env shape.VariableDeclarator xs n ts a) g) g)
+    item strict p l c env (node (shape.Function true y ds) xs n ts) f o e a h =
+        let k : Shape = shape.Function true y ds in
+        by_loud strict p l c env (node k xs n ts) f e a h (λ g. ended c env k xs n ts o refl (or_nothing (is_among x (first_names ts)) g) refl
+        (function_settled strict p c.used (lone_holds p l) (λ z. absurd (true≢false (sym z ∙ e))) env y ds xs n ts f a (function_parts (is_strict_in strict k) (slots_of strict (class_of p) k) ts (function_there strict (class_of p) true y ds) (filled strict p k xs n ts refl f))) g)
+    item strict p l c env (node (shape.Class true) xs n ts) f o e a h =
+        let k : Shape = shape.Class true in
+        by_loud strict p l c env (node k xs n ts) f e a h (λ g. ended c env k xs n ts o refl (or_nothing (is_among x (first_names ts)) g) refl
+        (class_settled true c.used env true xs n ts (class_parts true (slots_of strict (class_of p) k) ts (class_there strict (class_of p) true) (filled strict p k xs n ts refl f)) (sound_below s c.used env k xs n ts a)) g)
+    item strict p l c env (node shape.ImportDeclaration xs n ts) f o e a h =
+        by_loud strict p l c env (node shape.ImportDeclaration xs n ts) f e a h (λ g. absurd (not_both (is_among x (all_names declared.Bound ts)) (import_no xs n ts a) (or_nothing (is_among x (all_names declared.Bound ts)) g)))
+    item strict p l c env (node (shape.Function false y ds) xs n ts) f o e a h = by_loud strict p l c env (node (shape.Function false y ds) xs n ts) f e a h (λ g. absurd (true≢false (sym g)))
+    item strict p l c env (node (shape.Class false) xs n ts) f o e a h = by_loud strict p l c env (node (shape.Class false) xs n ts) f e a h (λ g. absurd (true≢false (sym g)))
+    item strict p l c env (node shape.BindingIdentifier xs n ts) f o e a h = absurd (lone_refused strict p shape.BindingIdentifier xs n ts refl refl l f)
+    item strict p l c env (node shape.ObjectPattern xs n ts) f o e a h = absurd (lone_refused strict p shape.ObjectPattern xs n ts refl refl l f)
+    item strict p l c env (node shape.ArrayPattern xs n ts) f o e a h = absurd (lone_refused strict p shape.ArrayPattern xs n ts refl refl l f)
+    item strict p l c env (node (shape.BindingProperty y z) xs n ts) f o e a h = absurd (lone_refused strict p (shape.BindingProperty y z) xs n ts refl refl l f)
+    item strict p l c env (node shape.RestElement xs n ts) f o e a h = absurd (lone_refused strict p shape.RestElement xs n ts refl refl l f)
+    item strict p l c env (node shape.AssignmentPattern xs n ts) f o e a h = absurd (lone_refused strict p shape.AssignmentPattern xs n ts refl refl l f)
+    item strict p l c env (node shape.ImportSpecifier xs n ts) f o e a h = absurd (lone_refused strict p shape.ImportSpecifier xs n ts refl refl l f)
+    item strict p l c env (node shape.ImportDefaultSpecifier xs n ts) f o e a h = absurd (lone_refused strict p shape.ImportDefaultSpecifier xs n ts refl refl l f)
+    item strict p l c env (node shape.ImportNamespaceSpecifier xs n ts) f o e a h = absurd (lone_refused strict p shape.ImportNamespaceSpecifier xs n ts refl refl l f)
+    item strict p l c env (node k xs n ts) f o e a h = by_loud strict p l c env (node k xs n ts) f e a h (λ g. absurd (true≢false (sym g)))
+
+    each_items : (strict : Bool) (k : Class) → is_lone k ≡ true → (sc : ℕ → List Binding) (cs : ℕ → Setting) → ((i : ℕ) → (cs i).ordered ≡ true) → ((i : ℕ) → is_alone (cs i).used ≡ false) → (i : ℕ) (env : Environment) (ts : Trees) → fill strict (each (one k)) ts ≡ true
+        → AllSound s sc (λ j. (cs j).used) i env ts → Other s (all_names declared.Hoisted ts) → Entries sc cs i env ts
+    each_items strict k l sc cs o e i env none f a h = tt
+    each_items strict k l sc cs o e i env (t ▸ ts) f a h =
+        (item strict (one k) l (cs i) (env ++ sc i) t (left (fits strict (one k) t) (fill strict (each (one k)) ts) f) (o i) (e i) (sound_first s sc (λ j. (cs j).used) i env t ts a) (other_first (names_of declared.Hoisted t) (all_names declared.Hoisted ts) h),
+          each_items strict k l sc cs o e (suc i) (env ++ sc i) ts (right (fits strict (one k) t) (fill strict (each (one k)) ts) f) (sound_rest s sc (λ j. (cs j).used) i env t ts a) (other_rest (names_of declared.Hoisted t) (all_names declared.Hoisted ts) h))
+
+    pub these_items : (strict : Bool) (ss : List Slot) → lone_slots ss ≡ true → (sc : ℕ → List Binding) (cs : ℕ → Setting) → ((i : ℕ) → (cs i).ordered ≡ true) → ((i : ℕ) → is_alone (cs i).used ≡ false) → (i : ℕ) (env : Environment) (ts : Trees) → fill strict (these ss) ts ≡ true
+        → AllSound s sc (λ j. (cs j).used) i env ts → Other s (all_names declared.Hoisted ts) → Entries sc cs i env ts
+    these_items strict [] l sc cs o e i env none f a h = tt
+    these_items strict [] l sc cs o e i env (t ▸ ts) f a h = absurd (true≢false (sym f))
+    these_items strict (p ∷ ss) l sc cs o e i env none f a h = tt
+    these_items strict (p ∷ ss) l sc cs o e i env (t ▸ ts) f a h =
+        (item strict p (left (lone_slot p) (lone_slots ss) l) (cs i) (env ++ sc i) t (left (fits strict p t) (fill strict (these ss) ts) f) (o i) (e i) (sound_first s sc (λ j. (cs j).used) i env t ts a) (other_first (names_of declared.Hoisted t) (all_names declared.Hoisted ts) h),
+          these_items strict ss (right (lone_slot p) (lone_slots ss) l) sc cs o e (suc i) (env ++ sc i) ts (right (fits strict p t) (fill strict (these ss) ts) f) (sound_rest s sc (λ j. (cs j).used) i env t ts a) (other_rest (names_of declared.Hoisted t) (all_names declared.Hoisted ts) h))

@@ -1,7 +1,8 @@
 -- The children of functions, classes, declarators and of what declares names in a list, by the slots
 -- of each.
 use Rattle.std.specs.Prelude.{ℕ, ◌≡◌, refl, Bool, true, false, ◌&&◌, List, [], ◌∷◌, Option, Some, None}
-use Rattle.std.proofs.Common.{ap, sym, true≢false}
+use Rattle.std.proofs.Common.{ap, ◌∙◌, sym, true≢false}
+use Rattle.mini_model.specs.declared.kind.VariableDeclarationKind.{VariableDeclarationKind}
 use Rattle.mini_model.specs.declared.name.Name.{Name}
 use Rattle.mini_model.specs.declared.shape.Shape.{Shape}
 use Rattle.mini_model.specs.declared.shape.Shape.TheVariants as shape
@@ -9,7 +10,7 @@ use Rattle.mini_model.specs.Tree.{Tree, Trees, node, none, ◌▸◌}
 use Rattle.mini_accept.specs.WellShaped.{Depth, in_module, in_body, nested, Class, a_statement, a_block, a_case, an_init, a_loop_left, a_declarator, a_pattern, a_pattern_rest, a_parameter, a_binding, a_function_body, a_class_body, a_key, a_private_or_key, an_inner_key, an_expression, an_inner, a_string, an_export, an_exported_declaration, a_default_export, Slot, one, one_or_absent, many, many_or_holes, many_and_rest, many_or_holes_and_rest, quasis, Filling, refused, these, each, filling, filling_by, class_of, slots_of, none_if, in_depth, is_sloppy_function, is_strict_in, is_whole, is_function_body, fits, fill}
 use Rattle.mini_kept.proofs.Bools.{left, right}
 use Rattle.mini_kept.proofs.Expressions.{refused_here}
-use Rattle.mini_shrink.proofs.Alone.{is_lone, lone_slot, lone_slots}
+use Rattle.mini_shrink.proofs.Alone.{is_lone_shape, is_lone, lone_none, lone_slot}
 use Rattle.mini_shrink.proofs.Regulars.{is_right, ordered_slots, deep_slots, slots_right, statement_right}
 
 -- ---- the slots that a node fills
@@ -111,6 +112,72 @@ declarator_there strict (a_private_or_key false) = refl
 declarator_there strict (an_inner_key true) = refl
 declarator_there strict (an_inner_key false) = refl
 declarator_there strict c = refl
+
+abbrev pub are_variable_slots : List Slot → Bool
+are_variable_slots (many a_declarator ∷ []) = true
+are_variable_slots ss = false
+
+abbrev pub are_default_slots : List Slot → Bool
+are_default_slots (one a_default_export ∷ []) = true
+are_default_slots ss = false
+
+pub variable_there : (strict : Bool) (c : Class) (k : VariableDeclarationKind) → holds_if are_variable_slots (slots_of strict c (shape.VariableDeclaration k)) ≡ true
+variable_there strict (a_statement d) k = if_none are_variable_slots (is_sloppy_function strict d (shape.VariableDeclaration k)) (Some (many a_declarator ∷ [])) refl
+variable_there strict (a_key true) k = refl
+variable_there strict (a_key false) k = refl
+variable_there strict (a_private_or_key true) k = refl
+variable_there strict (a_private_or_key false) k = refl
+variable_there strict (an_inner_key true) k = refl
+variable_there strict (an_inner_key false) k = refl
+variable_there strict c k = refl
+
+pub default_there : (strict : Bool) (c : Class) → holds_if are_default_slots (slots_of strict c shape.ExportDefaultDeclaration) ≡ true
+default_there strict (a_statement d) = if_none are_default_slots (is_sloppy_function strict d shape.ExportDefaultDeclaration) (in_depth d (Some (one a_default_export ∷ []))) (by d)
+  where
+    by : (d : Depth) → holds_if are_default_slots (in_depth d (Some (one a_default_export ∷ []))) ≡ true
+    by in_module = refl
+    by in_body = refl
+    by nested = refl
+default_there strict (a_key true) = refl
+default_there strict (a_key false) = refl
+default_there strict (a_private_or_key true) = refl
+default_there strict (a_private_or_key false) = refl
+default_there strict (an_inner_key true) = refl
+default_there strict (an_inner_key false) = refl
+default_there strict c = refl
+
+-- the one child of a node with one slot
+abbrev pub OnlyPart : Bool → Slot → Trees → Type 0
+OnlyPart strict p (t ▸ none) = fits strict p t ≡ true
+OnlyPart strict p ts = ⊥
+
+only_part : (strict : Bool) (p : Slot) (ts : Trees) → fill strict (these (p ∷ [])) ts ≡ true → OnlyPart strict p ts
+only_part strict p none e = absurd (true≢false (sym e))
+only_part strict p (t ▸ none) e = left (fits strict p t) true e
+only_part strict p (t ▸ (u ▸ ts)) e = absurd (true≢false (sym (right (fits strict p t) false e)))
+
+pub variable_parts : (strict : Bool) (o : Option (List Slot)) (ts : Trees) → holds_if are_variable_slots o ≡ true → fill strict (filling_by o) ts ≡ true → OnlyPart strict (many a_declarator) ts
+variable_parts strict None ts h e = absurd (true≢false (sym e))
+variable_parts strict (Some (many a_declarator ∷ [])) ts h e = only_part strict (many a_declarator) ts e
+variable_parts strict (Some ss) ts h e = absurd (true≢false (sym h))
+
+pub default_parts : (strict : Bool) (o : Option (List Slot)) (ts : Trees) → holds_if are_default_slots o ≡ true → fill strict (filling_by o) ts ≡ true → OnlyPart strict (one a_default_export) ts
+default_parts strict None ts h e = absurd (true≢false (sym e))
+default_parts strict (Some (one a_default_export ∷ [])) ts h e = only_part strict (one a_default_export) ts e
+default_parts strict (Some ss) ts h e = absurd (true≢false (sym h))
+
+lone_class : (p : Slot) → lone_slot p ≡ true → is_lone (class_of p) ≡ true
+lone_class (one c) l = l
+lone_class (one_or_absent c) l = l
+lone_class (many c) l = l
+lone_class s l = absurd (true≢false (sym l))
+
+-- no other binder stands there
+pub lone_refused : (strict : Bool) (p : Slot) (h : Shape) (xs : List Name) (n : ℕ) (ts : Trees) → is_lone_shape h ≡ false → is_bare h ≡ true → lone_slot p ≡ true → fits strict p (node h xs n ts) ≡ true → ⊥
+lone_refused strict p h xs n ts q b l e = by (class_of p) (lone_class p l) (filled strict p h xs n ts b e)
+  where
+    by : (c : Class) → is_lone c ≡ true → fill (is_strict_in strict h) (filling_by (slots_of strict c h)) ts ≡ true → ⊥
+    by c k f = true≢false (sym f ∙ ap (λ o. fill (is_strict_in strict h) (filling_by o) ts) (lone_none strict c k h q))
 
 -- a function's body stands in no list of statements
 body_there : (strict : Bool) (c : Class) → is_lone c ≡ true → slots_of strict c shape.FunctionBody ≡ None
@@ -221,12 +288,6 @@ pub record Filled (strict : Bool) (h : Shape) (ts : Trees) : Type 0 where
 pub lone_filled : (strict : Bool) (p : Slot) (h : Shape) (xs : List Name) (n : ℕ) (ts : Trees) → is_bare h ≡ true → lone_slot p ≡ true → fits strict p (node h xs n ts) ≡ true → Filled strict h ts
 lone_filled strict p h xs n ts b l e = by (slots_of strict (class_of p) h) (lone_right strict (class_of p) h (lone_class p l)) (filled strict p h xs n ts b e)
   where
-    lone_class : (p : Slot) → lone_slot p ≡ true → is_lone (class_of p) ≡ true
-    lone_class (one c) l = l
-    lone_class (one_or_absent c) l = l
-    lone_class (many c) l = l
-    lone_class s l = absurd (true≢false (sym l))
-
     by : (o : Option (List Slot)) → is_right h o ≡ true → fill (is_strict_in strict h) (filling_by o) ts ≡ true → Filled strict h ts
     by None r f = absurd (true≢false (sym f))
     by (Some ss) r f = record { slots = ss; ordered = left (ordered_slots h ss) (deep_slots ss) r; filled = f }
