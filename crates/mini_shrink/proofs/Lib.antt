@@ -26,3 +26,5 @@ mod Unended
 mod Covered
 mod Parts
 pub mod Homes
+mod Slotted
+mod Items
