@@ -28,3 +28,4 @@ mod Parts
 pub mod Homes
 mod Slotted
 mod Items
+pub mod SameForeign
