@@ -121,7 +121,7 @@ module _ (k : ℕ) where
   abbrev pub Free : List Binding → Type 0
   Free bs = (times None (symbols_in bs) ≡ 0) × (times (symbol k) (symbols_in bs) ≡ 0)
 
-  further : (v : Bool) (spells : Spellings) (env bs : Environment) → Far v spells env → Free bs → Far v spells (env ++ bs)
+  pub further : (v : Bool) (spells : Spellings) (env bs : Environment) → Far v spells env → Free bs → Far v spells (env ++ bs)
   further v spells env bs a f s e = ap (is_same (symbol k)) (symbol_of_both (use_if v) s env bs) ∙ or_unsame (symbol_of (use_if v) s bs) (symbol_of (use_if v) s env) (unfound (use_if v) s bs f.1) (a s e)
 
   pub far_scope : (v : Bool) (spells : Spellings) (env bs : Environment) → Far v spells env → Free bs → Far v (with_scope spells bs) (env ++ bs)
@@ -131,7 +131,7 @@ module _ (k : ℕ) where
       by (inl g) = further v spells env bs a f s g
       by (inr g) = ap (is_same (symbol k)) (symbol_of_both (use_if v) s env bs) ∙ another_first (symbol_of (use_if v) s bs) (symbol_of (use_if v) s env) (found (use_if v) s bs g f.0 f.1)
 
-  far_if : (c v : Bool) (first spells : Spellings) (env : Environment) → Far v first env → Far v spells env → Far v (if c then first else spells) env
+  pub far_if : (c v : Bool) (first spells : Spellings) (env : Environment) → Far v first env → Far v spells env → Far v (if c then first else spells) env
   far_if true v first spells env a b = a
   far_if false v first spells env a b = b
 
@@ -149,12 +149,13 @@ module _ (k : ℕ) where
   pub found_as : (u : Use) (v : Bool) → is_hoisting u ≡ v → (s : List ℕ) (env : Environment) → symbol_of u s env ≡ symbol_of (use_if v) s env
   found_as u v e s env = as_hoisting u s env ∙ ap (λ w. symbol_of (use_if w) s env) e
 
-  far_names : (u : Use) (v : Bool) → is_hoisting u ≡ v → (spells : Spellings) (env : Environment) → Far v spells env → (xs : List Name) → NamesScoped u env xs → list_all (λ y. spells (is_hoisting u) y.spelling) xs ≡ true → Other k xs
+  pub far_names : (u : Use) (v : Bool) → is_hoisting u ≡ v → (spells : Spellings) (env : Environment) → Far v spells env → (xs : List Name) → NamesScoped u env xs → list_all (λ y. spells (is_hoisting u) y.spelling) xs ≡ true → Other k xs
   far_names u v e spells env a [] s f = tt
   far_names u v e spells env a (y ∷ ys) s f =
-      let here = left (spells (is_hoisting u) y.spelling) (list_all (λ z. spells (is_hoisting u) z.spelling) ys) f in
-      (by_same y (ap (is_same (symbol k)) (s.0 ∙ found_as u v e y.spelling env) ∙ a y.spelling (sym (ap (λ w. spells w y.spelling) e) ∙ here)),
-        far_names u v e spells env a ys s.1 (right (spells (is_hoisting u) y.spelling) (list_all (λ z. spells (is_hoisting u) z.spelling) ys) f))
+      let here = left (spells (is_hoisting u) y.spelling) (list_all (λ z. spells (is_hoisting u) z.spelling) ys) f in (
+        by_same y (ap (is_same (symbol k)) (s.0 ∙ found_as u v e y.spelling env) ∙ a y.spelling (sym (ap (λ w. spells w y.spelling) e) ∙ here)),
+        far_names u v e spells env a ys s.1 (right (spells (is_hoisting u) y.spelling) (list_all (λ z. spells (is_hoisting u) z.spelling) ys) f),
+      )
 
   -- ---- a pattern spells what it binds
 
@@ -184,7 +185,7 @@ module _ (k : ℕ) where
       by false q true f = absurd (true≢false (sym f))
       by false q false f = (q, f)
 
-  first_far : (v : Bool) (u : Use) (env : Environment) (h : Shape) (xs : List Name) (n : ℕ) (ts : Trees) → Scoped u env (node h xs n ts) → is_among x (own_pattern_names h n ts) ≡ false → Far v (spelled_first u h n ts) env
+  pub first_far : (v : Bool) (u : Use) (env : Environment) (h : Shape) (xs : List Name) (n : ℕ) (ts : Trees) → Scoped u env (node h xs n ts) → is_among x (own_pattern_names h n ts) ≡ false → Far v (spelled_first u h n ts) env
   unfolding names_of
   first_far v u env h xs n ts a p s e =
       let (w, f) = flagged u v (is_spelled s (own_pattern_names h n ts)) e in
@@ -216,7 +217,7 @@ module _ (k : ℕ) where
     AllUnboundIn v us i none = Unit {0}
     AllUnboundIn v us i (t ▸ ts) = UnboundIn v (us i) t × AllUnboundIn v us (suc i) ts
 
-  own_scoped : (u : Use) (env : Environment) (h : Shape) (xs : List Name) (ts : Trees) → OwnScoped u env h xs ts → NamesScoped u env (bound_at h xs)
+  pub own_scoped : (u : Use) (env : Environment) (h : Shape) (xs : List Name) (ts : Trees) → OwnScoped u env h xs ts → NamesScoped u env (bound_at h xs)
   own_scoped u env shape.BindingIdentifier xs ts a = a
   own_scoped u env h xs ts a = tt
 
@@ -230,9 +231,10 @@ module _ (k : ℕ) where
     pub covered_unbound : (v : Bool) (u : Use) (spells : Spellings) (env : Environment) (t : Tree) → is_covered u spells t ≡ true → Scoped u env t → Undeclared u t → Unpatterned t → Far v spells env → UnboundIn v u t
     covered_unbound v u spells env (node h xs n ts) c a d p f =
         let own = list_all (λ y. spells (is_hoisting u) y.spelling) (bound_at h xs) in
-        let under = are_covered (opened u h ts) (use_of h u) (begins_body h n) (spelled_first u h n ts) 0 spells ts in
-        (λ e. far_names u v e spells env f (bound_at h xs) (own_scoped u env h xs ts a.0) (left own under c),
-          all_covered_unbound v (opened u h ts) (use_of h u) (begins_body h n) (spelled_first u h n ts) 0 spells env ts (right own under c) a.1 d p.1 (far_if (begins_body h n 0) v (spelled_first u h n ts) spells env (first_far v u env h xs n ts a p.0) f) (first_far v u env h xs n ts a p.0))
+        let under = are_covered (opened u h ts) (use_of h u) (begins_body h n) (spelled_first u h n ts) 0 spells ts in (
+          λ e. far_names u v e spells env f (bound_at h xs) (own_scoped u env h xs ts a.0) (left own under c),
+          all_covered_unbound v (opened u h ts) (use_of h u) (begins_body h n) (spelled_first u h n ts) 0 spells env ts (right own under c) a.1 d p.1 (far_if (begins_body h n 0) v (spelled_first u h n ts) spells env (first_far v u env h xs n ts a p.0) f) (first_far v u env h xs n ts a p.0),
+        )
 
     pub all_covered_unbound : (v : Bool) (sc : ℕ → List Binding) (us : ℕ → Use) (begins : ℕ → Bool) (first : Spellings) (i : ℕ) (spells : Spellings) (env : Environment) (ts : Trees) → are_covered sc us begins first i spells ts ≡ true → AllScoped sc us i env ts
         → (times None (declared_from sc us i ts) ≡ 0) × (times (symbol k) (declared_from sc us i ts) ≡ 0) → AllUnpatterned ts → Far v (if begins i then first else spells) env → Far v first env → AllUnboundIn v us i ts
@@ -243,9 +245,10 @@ module _ (k : ℕ) where
         let own = times_three (symbol k) (symbols_in (sc i)) (declared_in (us i) t) (declared_from sc us (suc i) ts) in
         let free : Free (sc i) = (omega (arith, some, d.0), omega (arith, own, d.1)) in
         let here : Undeclared (us i) t = (omega (arith, some, d.0), omega (arith, own, d.1)) in
-        let far = far_scope v (if begins i then first else spells) env (sc i) f free in
-        (covered_unbound v (us i) next (env ++ sc i) t (left (is_covered (us i) next t) (are_covered sc us begins first (suc i) next ts) c) a.0 here p.0 far,
-          all_covered_unbound v sc us begins first (suc i) next (env ++ sc i) ts (right (is_covered (us i) next t) (are_covered sc us begins first (suc i) next ts) c) a.1 (omega (arith, some, d.0), omega (arith, own, d.1)) p.1 (far_if (begins (suc i)) v first next (env ++ sc i) (further v first env (sc i) g free) far) (further v first env (sc i) g free))
+        let far = far_scope v (if begins i then first else spells) env (sc i) f free in (
+          covered_unbound v (us i) next (env ++ sc i) t (left (is_covered (us i) next t) (are_covered sc us begins first (suc i) next ts) c) a.0 here p.0 far,
+          all_covered_unbound v sc us begins first (suc i) next (env ++ sc i) ts (right (is_covered (us i) next t) (are_covered sc us begins first (suc i) next ts) c) a.1 (omega (arith, some, d.0), omega (arith, own, d.1)) p.1 (far_if (begins (suc i)) v first next (env ++ sc i) (further v first env (sc i) g free) far) (further v first env (sc i) g free),
+        )
 
   either_unbound : (u : Use) (o : Type 0) → (is_hoisting u ≡ true → o) → (is_hoisting u ≡ false → o) → o
   either_unbound u o f g = by (is_hoisting u) refl

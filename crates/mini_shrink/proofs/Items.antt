@@ -34,15 +34,17 @@ use Rattle.mini_shrink.proofs.Alone.{is_lone, lone_none, lone_slot, lone_slots}
 use Rattle.mini_shrink.proofs.Covered.{by_same, none_among, Far, Undeclared, Unpatterned, AllUnpatterned, AllUnboundIn, all_covered_unbound, all_unbound_both}
 use Rattle.mini_shrink.proofs.Debts.{Debt, of, owed, slot_owes, may_be_alone_slot, holds_nothing_slot}
 use Rattle.mini_shrink.proofs.Moments.{or_either, first_of, first_both, reads_first, firsts, is_catch}
-use Rattle.mini_shrink.proofs.Parts.{Sound, PartsAreCovered, part_unbound}
+use Rattle.mini_shrink.proofs.Covering.{part_covered}
+use Rattle.mini_shrink.proofs.Parts.{Sound, part_unbound}
+use Rattle.mini_shrink.proofs.Silence.{silent}
 use Rattle.mini_shrink.proofs.Paces.{AllAtMost, both as follow_both, turned, same}
 use Rattle.mini_shrink.proofs.Regulars.{ordered_slots}
 use Rattle.mini_shrink.proofs.Slotted.{is_bare, filled, variable_there, variable_parts, default_there, default_parts, lone_refused, function_there, class_there, declarator_there, no_function_body, FunctionParts, function_parts, ClassParts, class_parts, DeclaratorParts, declarator_parts, Filled, lone_filled}
 use Rattle.mini_shrink.proofs.Unended.{and_either, turn_unended, kept_unended, other_among, AllLess, Children, node_still, node_ended, ends_none, still, each_still, child_still}
 
 -- what a slot owes nothing of the part in it has none of
-abbrev pub SlotsOweNothing : Type 0
-SlotsOweNothing = (strict : Bool) (p : Slot) (d : Debt) (t : Tree) → fits strict p t ≡ true → holds_nothing_slot p ≡ true → slot_owes d p ≡ false → owed d t ≡ []
+owes : (strict : Bool) (p : Slot) (d : Debt) (t : Tree) → fits strict p t ≡ true → holds_nothing_slot p ≡ true → slot_owes d p ≡ false → owed d t ≡ []
+owes strict p d t f m o = silent strict d p t m o f
 
 -- ---- parts of a list
 
@@ -86,7 +88,7 @@ scope_free k sc us i env t ts a = (omega (arith, times_three None (symbols_in (s
 nothing_other : (k : ℕ) (ys : List Name) → ys ≡ [] → Other k ys
 nothing_other k ys e = subst (Other k) (sym e) tt
 
-module _ (covered : PartsAreCovered) (owes : SlotsOweNothing) (b s : ℕ) where
+module _ (b s : ℕ) where
   abbrev x : Name
   x = by_symbol s
 
@@ -140,7 +142,7 @@ module _ (covered : PartsAreCovered) (owes : SlotsOweNothing) (b s : ℕ) where
 
   pub quiet_unbound : (strict : Bool) (p : Slot) (u : Use) (env : Environment) (t : Tree) → fits strict p t ≡ true → holds_nothing_slot p ≡ true → is_alone u ≡ false → is_function_body t ≡ false → Sound s u env t → slot_owes (of declared.Bound) p ≡ false → slot_owes (of declared.Lexical) p ≡ false → slot_owes (of declared.Hoisted) p ≡ false → Unbound s t
   quiet_unbound strict p u env t f m e g a o q r =
-      part_unbound covered s strict p u env t f m (λ z. absurd (true≢false (sym z ∙ e))) g a (nothing_other s (names_of declared.Bound t) (owes strict p (of declared.Bound) t f m o)) (λ z. nothing_other s (names_of declared.Lexical t) (owes strict p (of declared.Lexical) t f m q)) (nothing_other s (names_of declared.Hoisted t) (owes strict p (of declared.Hoisted) t f m r))
+      part_unbound s strict p u env t f m (λ z. absurd (true≢false (sym z ∙ e))) g a (nothing_other s (names_of declared.Bound t) (owes strict p (of declared.Bound) t f m o)) (λ z. nothing_other s (names_of declared.Lexical t) (owes strict p (of declared.Lexical) t f m q)) (nothing_other s (names_of declared.Hoisted t) (owes strict p (of declared.Hoisted) t f m r))
 
   -- the parameters and the body of a function declare nothing that its scopes don't
   not_first : (u : Use) (h : Shape) (n : ℕ) (ts : Trees) → own_pattern_names h n ts ≡ [] → (v : Bool) (env : Environment) → Far s v (spelled_first u h n ts) env
@@ -153,7 +155,7 @@ module _ (covered : PartsAreCovered) (owes : SlotsOweNothing) (b s : ℕ) where
       let h : Shape = shape.Function true g ds in
       let ts : Trees = id ▸ (params ▸ (body ▸ none)) in
       let all : Spellings = λ v r. true in
-      let whole = covered strict p u all (node h xs n ts) f m l refl (λ r z. refl) (λ z r y. refl) (λ r z. refl) in
+      let whole = part_covered strict p u all (node h xs n ts) m f l refl (λ r z. refl) (λ z r y. refl) (λ r z. refl) in
       let sc = opened u h ts in
       let us = use_of h u in
       let begins = begins_body h n in
@@ -237,7 +239,7 @@ module _ (covered : PartsAreCovered) (owes : SlotsOweNothing) (b s : ℕ) where
       by true g = k g
       by false g =
           let (lexical, bound) = or_false (is_among x (names_of declared.Lexical t)) (is_among x (names_of declared.Bound t)) g in
-          child_still b s c env t (part_unbound covered s strict p c.used env t f (lone_holds p l) (λ z. absurd (true≢false (sym z ∙ e))) (no_function_body strict p t l f) a (none_among s (names_of declared.Bound t) bound) (λ z. none_among s (names_of declared.Lexical t) lexical) h)
+          child_still b s c env t (part_unbound s strict p c.used env t f (lone_holds p l) (λ z. absurd (true≢false (sym z ∙ e))) (no_function_body strict p t l f) a (none_among s (names_of declared.Bound t) bound) (λ z. none_among s (names_of declared.Lexical t) lexical) h)
 
   or_nothing : (a : Bool) → (a || false) ≡ true → a ≡ true
   or_nothing true e = refl
@@ -313,23 +315,23 @@ module _ (covered : PartsAreCovered) (owes : SlotsOweNothing) (b s : ℕ) where
     pub item : (strict : Bool) (p : Slot) → lone_slot p ≡ true → (c : Setting) (env : Environment) (t : Tree) → fits strict p t ≡ true → c.ordered ≡ true → is_alone c.used ≡ false → Sound s c.used env t → Other s (names_of declared.Hoisted t) → Entry c env t
     item strict (many k) l c env (node shape.Listed xs n ts) f o e a h =
         by_loud strict (many k) l c env (node shape.Listed xs n ts) f e a h (λ g. handed c env shape.Listed xs n ts o refl
-        (each_items strict k l (opened c.used shape.Listed ts) (below ((early b s).orders c shape.Listed ts) c shape.Listed n) (λ i. hands c.ordered false o) (λ i. e) 0 env ts (right (is_whole k shape.Listed xs n ts) (fill strict (each (one k)) ts) f) (sound_below s c.used env shape.Listed xs n ts a) h) g)
+        (each_items strict k l (opened c.used shape.Listed ts) (below ((early b s).orders c shape.Listed ts) c shape.Listed n) (λ i. hands c.ordered _ o) (λ i. e) 0 env ts (right (is_whole k shape.Listed xs n ts) (fill strict (each (one k)) ts) f) (sound_below s c.used env shape.Listed xs n ts a) h) g)
     item strict (one k) l c env (node shape.Listed xs n ts) f o e a h = absurd (refused_here strict (one k) shape.Listed xs n ts (ap filling_by (lone_none strict k l shape.Listed refl)) f)
     item strict (one_or_absent k) l c env (node shape.Listed xs n ts) f o e a h = absurd (refused_here strict (one_or_absent k) shape.Listed xs n ts (ap filling_by (lone_none strict k l shape.Listed refl)) f)
     item strict p l c env (node shape.Listed xs n ts) f o e a h = absurd (true≢false (sym l))
     item strict p l c env (node shape.SwitchCase xs n ts) f o e a h =
         let z = lone_filled strict p shape.SwitchCase xs n ts refl l f in
         by_loud strict p l c env (node shape.SwitchCase xs n ts) f e a h (λ g. handed c env shape.SwitchCase xs n ts o refl
-        (these_items strict z.slots z.ordered (opened c.used shape.SwitchCase ts) (below ((early b s).orders c shape.SwitchCase ts) c shape.SwitchCase n) (λ i. hands c.ordered false o) (λ i. refl) 0 env ts z.filled (sound_below s c.used env shape.SwitchCase xs n ts a) h) g)
+        (these_items strict z.slots z.ordered (opened c.used shape.SwitchCase ts) (below ((early b s).orders c shape.SwitchCase ts) c shape.SwitchCase n) (λ i. hands c.ordered _ o) (λ i. refl) 0 env ts z.filled (sound_below s c.used env shape.SwitchCase xs n ts a) h) g)
     item strict p l c env (node shape.ExportNamedDeclaration xs n ts) f o e a h =
         let z = lone_filled strict p shape.ExportNamedDeclaration xs n ts refl l f in
         by_loud strict p l c env (node shape.ExportNamedDeclaration xs n ts) f e a h (λ g. handed c env shape.ExportNamedDeclaration xs n ts o refl
-        (these_items strict z.slots z.ordered (opened c.used shape.ExportNamedDeclaration ts) (below ((early b s).orders c shape.ExportNamedDeclaration ts) c shape.ExportNamedDeclaration n) (λ i. hands c.ordered false o) (λ i. refl) 0 env ts z.filled (sound_below s c.used env shape.ExportNamedDeclaration xs n ts a) h) g)
+        (these_items strict z.slots z.ordered (opened c.used shape.ExportNamedDeclaration ts) (below ((early b s).orders c shape.ExportNamedDeclaration ts) c shape.ExportNamedDeclaration n) (λ i. hands c.ordered _ o) (λ i. refl) 0 env ts z.filled (sound_below s c.used env shape.ExportNamedDeclaration xs n ts a) h) g)
     item strict p l c env (node shape.ExportDefaultDeclaration xs n (t ▸ none)) f o e a h =
         let ts : Trees = t ▸ none in
         let z = default_parts strict (slots_of strict (class_of p) shape.ExportDefaultDeclaration) ts (default_there strict (class_of p)) (filled strict p shape.ExportDefaultDeclaration xs n ts refl f) in
         by_loud strict p l c env (node shape.ExportDefaultDeclaration xs n ts) f e a h (λ g. handed c env shape.ExportDefaultDeclaration xs n ts o refl
-        (item strict (one a_default_export) refl (below ((early b s).orders c shape.ExportDefaultDeclaration ts) c shape.ExportDefaultDeclaration n 0) (env ++ opened c.used shape.ExportDefaultDeclaration ts 0) t z (hands c.ordered false o) refl
+        (item strict (one a_default_export) refl (below ((early b s).orders c shape.ExportDefaultDeclaration ts) c shape.ExportDefaultDeclaration n 0) (env ++ opened c.used shape.ExportDefaultDeclaration ts 0) t z (hands c.ordered _ o) refl
         (sound_first s (opened c.used shape.ExportDefaultDeclaration ts) (use_of shape.ExportDefaultDeclaration c.used) 0 env t none (sound_below s c.used env shape.ExportDefaultDeclaration xs n ts a)) (nothing_other s (names_of declared.Hoisted t) (owes strict (one a_default_export) (of declared.Hoisted) t z refl refl)), tt) g)
     item strict p l c env (node shape.ExportDefaultDeclaration xs n ts) f o e a h = absurd (default_parts strict (slots_of strict (class_of p) shape.ExportDefaultDeclaration) ts (default_there strict (class_of p)) (filled strict p shape.ExportDefaultDeclaration xs n ts refl f))
     item strict p l c env (node (shape.VariableDeclaration Var) xs n ts) f o e a h = by_loud strict p l c env (node (shape.VariableDeclaration Var) xs n ts) f e a h (λ g. absurd (true≢false (sym g)))
@@ -338,7 +340,7 @@ module _ (covered : PartsAreCovered) (owes : SlotsOweNothing) (b s : ℕ) where
         let ts : Trees = t ▸ none in
         let z = variable_parts strict (slots_of strict (class_of p) k) ts (variable_there strict (class_of p) Let) (filled strict p k xs n ts refl f) in
         by_loud strict p l c env (node k xs n ts) f e a h (λ g. handed c env k xs n ts o refl
-        (item strict (many a_declarator) refl (below ((early b s).orders c k ts) c k n 0) (env ++ opened c.used k ts 0) t z (hands c.ordered false o) refl
+        (item strict (many a_declarator) refl (below ((early b s).orders c k ts) c k n 0) (env ++ opened c.used k ts 0) t z (hands c.ordered _ o) refl
         (sound_first s (opened c.used k ts) (use_of k c.used) 0 env t none (sound_below s c.used env k xs n ts a)) (nothing_other s (names_of declared.Hoisted t) (owes strict (many a_declarator) (of declared.Hoisted) t z refl refl)), tt) g)
     item strict p l c env (node (shape.VariableDeclaration Let) xs n ts) f o e a h = absurd (variable_parts strict (slots_of strict (class_of p) (shape.VariableDeclaration Let)) ts (variable_there strict (class_of p) Let) (filled strict p (shape.VariableDeclaration Let) xs n ts refl f))
     item strict p l c env (node (shape.VariableDeclaration Const) xs n (t ▸ none)) f o e a h =
@@ -346,7 +348,7 @@ module _ (covered : PartsAreCovered) (owes : SlotsOweNothing) (b s : ℕ) where
         let ts : Trees = t ▸ none in
         let z = variable_parts strict (slots_of strict (class_of p) k) ts (variable_there strict (class_of p) Const) (filled strict p k xs n ts refl f) in
         by_loud strict p l c env (node k xs n ts) f e a h (λ g. handed c env k xs n ts o refl
-        (item strict (many a_declarator) refl (below ((early b s).orders c k ts) c k n 0) (env ++ opened c.used k ts 0) t z (hands c.ordered false o) refl
+        (item strict (many a_declarator) refl (below ((early b s).orders c k ts) c k n 0) (env ++ opened c.used k ts 0) t z (hands c.ordered _ o) refl
         (sound_first s (opened c.used k ts) (use_of k c.used) 0 env t none (sound_below s c.used env k xs n ts a)) (nothing_other s (names_of declared.Hoisted t) (owes strict (many a_declarator) (of declared.Hoisted) t z refl refl)), tt) g)
     item strict p l c env (node (shape.VariableDeclaration Const) xs n ts) f o e a h = absurd (variable_parts strict (slots_of strict (class_of p) (shape.VariableDeclaration Const)) ts (variable_there strict (class_of p) Const) (filled strict p (shape.VariableDeclaration Const) xs n ts refl f))
     item strict p l c env (node shape.VariableDeclarator xs n ts) f o e a h =

@@ -17,10 +17,14 @@ pub mod PortSteps
 pub mod Tops
 pub mod Within
 pub mod Exact
+pub mod Spelled
+pub mod Debts
+pub mod Silence
+pub mod Provided
+pub mod Covering
 mod Unended
 mod Covered
-mod Spelled
-mod Debts
 mod Parts
 mod Slotted
 mod Items
+pub mod Homes

@@ -277,23 +277,23 @@ module _ (b s : ℕ) where
   turn_less h e ls a ys ps z = joined_less ls a ys ps z
 
   -- in a node in which names are declared one after another, names are bound by declarators alone
-  alone_below : (h : Shape) (o : Bool) (xs : List Name) (n : ℕ) (ts : Trees) → is_catch h ≡ false → ((hands_on h && o) || is_among x (listed_names h ts)) ≡ true → (o ≡ true → is_listed_alone (node h xs n ts) ≡ true) → items_of h ts ≡ true → all_declare_alone ts ≡ true
-  alone_below shape.Listed true xs n ts k e f i = f refl
-  alone_below shape.Listed false xs n ts k e f i = absurd (true≢false (sym e))
-  alone_below shape.SwitchCase o xs n ts k e f i = i
-  alone_below (shape.VariableDeclaration v) o xs n ts k e f i = i
-  alone_below shape.ExportNamedDeclaration o xs n ts k e f i = i
-  alone_below shape.ExportDefaultDeclaration o xs n ts k e f i = i
-  alone_below (shape.Program m ds) o xs n ts k e f i = i
-  alone_below shape.FunctionBody o xs n ts k e f i = i
-  alone_below shape.StaticBlock o xs n ts k e f i = i
-  alone_below shape.BlockStatement o xs n ts k e f i = i
-  alone_below shape.ForStatement o xs n ts k e f i = i
-  alone_below shape.ForInStatement o xs n ts k e f i = i
-  alone_below shape.ForOfStatement o xs n ts k e f i = i
-  alone_below shape.SwitchStatement o xs n ts k e f i = i
-  alone_below shape.CatchClause o xs n ts k e f i = absurd (true≢false k)
-  alone_below h o xs n ts k e f i = absurd (true≢false (sym e))
+  alone_below : (u : Use) (h : Shape) (o : Bool) (xs : List Name) (n : ℕ) (ts : Trees) → is_catch h ≡ false → ((hands_on h && o) || is_among x (listed_names u h ts)) ≡ true → (o ≡ true → is_listed_alone (node h xs n ts) ≡ true) → items_of h ts ≡ true → all_declare_alone ts ≡ true
+  alone_below u shape.Listed true xs n ts k e f i = f refl
+  alone_below u shape.Listed false xs n ts k e f i = absurd (true≢false (sym e))
+  alone_below u shape.SwitchCase o xs n ts k e f i = i
+  alone_below u (shape.VariableDeclaration v) o xs n ts k e f i = i
+  alone_below u shape.ExportNamedDeclaration o xs n ts k e f i = i
+  alone_below u shape.ExportDefaultDeclaration o xs n ts k e f i = i
+  alone_below u (shape.Program m ds) o xs n ts k e f i = i
+  alone_below u shape.FunctionBody o xs n ts k e f i = i
+  alone_below u shape.StaticBlock o xs n ts k e f i = i
+  alone_below u shape.BlockStatement o xs n ts k e f i = i
+  alone_below u shape.ForStatement o xs n ts k e f i = i
+  alone_below u shape.ForInStatement o xs n ts k e f i = i
+  alone_below u shape.ForOfStatement o xs n ts k e f i = i
+  alone_below u shape.SwitchStatement o xs n ts k e f i = i
+  alone_below u shape.CatchClause o xs n ts k e f i = absurd (true≢false k)
+  alone_below u h o xs n ts k e f i = absurd (true≢false (sym e))
 
   listed_alone : (t : Tree) → declares_alone t ≡ true → is_listed_alone t ≡ true
   unfolding declares_alone
@@ -347,7 +347,7 @@ module _ (b s : ℕ) where
         let cs = below o c h n in
         let sc = opened c.used h (t ▸ ts) in
         let regular = left (is_regular s t) (all_regular s ts) d in
-        let all_alone : o ≡ true → all_declare_alone (t ▸ ts) ≡ true = λ e. alone_below h c.ordered xs n (t ▸ ts) k e f i in
+        let all_alone : o ≡ true → all_declare_alone (t ▸ ts) ≡ true = λ e. alone_below c.used h c.ordered xs n (t ▸ ts) k e f i in
         let alone : o ≡ true → declares_alone t ≡ true = λ e. left (declares_alone t) (all_declare_alone ts) (all_alone e) in
         turn_less h k (moments_from (use_of h c.used) (around_child h c.around n) 0 (t ▸ ts)) c.around (ended_by h (t ▸ ts)) (paces (early b s) sc cs 0 env (t ▸ ts)) (
           closed ((early b s).ends (cs 0) t) (first_of (moments (cs 0).used (cs 0).around t)) (pace (early b s) (cs 0) (env ++ sc 0) t) (less (cs 0) (env ++ sc 0) t regular (λ e. listed_alone t (alone e))) (λ e. ends_shown o t regular alone e (cs 0).used (cs 0).around),

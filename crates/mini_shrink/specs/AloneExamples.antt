@@ -27,6 +27,6 @@ is_once : early_names [] alone ≡ []
 unfolding resolved scopes_by body_names names_of with_names has_inner symbols early_names scope_declarations body_declarations declarations
 is_once = refl
 
-foreign_by_questions : (is_foreign_name alone 0 0 ≡ true) × (is_foreign alone 0 (by_symbol 0) ≡ false)
+foreign_by_none : (is_foreign_name alone 0 0 ≡ false) × (is_foreign alone 0 (by_symbol 0) ≡ false)
 unfolding resolved scopes_by body_names names_of with_names has_inner symbols has_eval scope_list mentions module_names names_arguments reached_by_arguments caught var_writes pattern_writes imported_names pattern_names lexical_variables switched pace moments has_number params_around bodies fixed_names
-foreign_by_questions = (refl, refl)
+foreign_by_none = (refl, refl)

@@ -1,7 +1,7 @@
 -- Every binder is spelled in a scope of its own body: the `x` of `function f(p) { { var x; } }` in
 -- the scope of f, and the `y` of `function f(p) { { let y; } }` in the scope of the block. What a
 -- pattern binds (`let { a } = o`) the pattern spells.
-use Rattle.std.specs.Prelude.{ℕ, zero, suc, nat_eq, ◌≡◌, refl, Bool, true, false, ◌&&◌, ◌||◌, List, [], ◌∷◌, if◌then◌else◌}
+use Rattle.std.specs.Prelude.{ℕ, zero, suc, ◌≡◌, refl, Bool, true, false, ◌&&◌, ◌||◌, List, [], ◌∷◌, if◌then◌else◌}
 use Rattle.std.specs.List.{list_any, list_all}
 use Rattle.mini_model.specs.declared.kind.VariableDeclarationKind.TheVariants.{Let}
 use Rattle.mini_model.specs.declared.name.Name.{Name}
@@ -52,17 +52,20 @@ with_scope spells bs v s = spells v s || list_any (is_for (use_if v) s) bs
 
 -- a node with a number begins a body with its first child, and a declaration with the second: its
 -- name stands in the body around
-abbrev pub first_inside : Shape → ℕ
-first_inside (shape.Function true g ds) = 1
-first_inside (shape.Class true) = 1
-first_inside h = 0
+abbrev pub is_first_inside : Shape → ℕ → Bool
+is_first_inside (shape.Function true g ds) (suc zero) = true
+is_first_inside (shape.Function true g ds) i = false
+is_first_inside (shape.Class true) (suc zero) = true
+is_first_inside (shape.Class true) i = false
+is_first_inside h zero = true
+is_first_inside h (suc i) = false
 
 abbrev pub is_numbered_by : Numbering → Bool
 is_numbered_by Unnumbered = false
 is_numbered_by k = true
 
 abbrev pub begins_body : Shape → ℕ → ℕ → Bool
-begins_body h n i = is_numbered_by (numbering_of h n) && nat_eq i (first_inside h)
+begins_body h n i = is_numbered_by (numbering_of h n) && is_first_inside h i
 
 -- what is spelled where it begins: nothing, but in a pattern the names that it binds
 abbrev pub spelled_first : Use → Shape → ℕ → Trees → Spellings
@@ -82,14 +85,6 @@ unfoldable mutual
 -- Each program is covered
 abbrev pub ProgramsAreCovered : Type 0
 ProgramsAreCovered = (t : Tree) → IsWellShaped t → is_covered Read no_spellings t ≡ true
-
--- So a part of a program that declares no symbol, neither in a scope of its own nor for the scopes
--- around it, holds no binder of it. The branch of an `if` (a use alone) and a function's body have
--- lexical names that they don't hand on
-abbrev pub UndeclaredIsUnbound : Type 0
-UndeclaredIsUnbound =
-    (strict : Bool) (p : Slot) (u : Use) (env : Environment) (t : Tree) (s : ℕ) → fits strict p t ≡ true → is_alone u ≡ false → is_function_body t ≡ false → Scoped u env t
-    → times (symbol s) (declared_in u t) ≡ 0 → is_among (by_symbol s) (pattern_names t) ≡ false → ((d : Declared) → is_among (by_symbol s) (names_of d t) ≡ false) → Unbound s t
 
 -- ---- examples
 
