@@ -43,7 +43,7 @@ use Rattle.mini_shrink.proofs.Slotted.{is_bare, filled, variable_there, variable
 use Rattle.mini_shrink.proofs.Unended.{and_either, turn_unended, kept_unended, other_among, AllLess, Children, node_still, node_ended, ends_none, still, each_still, child_still}
 
 -- what a slot owes nothing of the part in it has none of
-owes : (strict : Bool) (p : Slot) (d : Debt) (t : Tree) → fits strict p t ≡ true → holds_nothing_slot p ≡ true → slot_owes d p ≡ false → owed d t ≡ []
+pub owes : (strict : Bool) (p : Slot) (d : Debt) (t : Tree) → fits strict p t ≡ true → holds_nothing_slot p ≡ true → slot_owes d p ≡ false → owed d t ≡ []
 owes strict p d t f m o = silent strict d p t m o f
 
 -- ---- parts of a list
@@ -85,7 +85,7 @@ scope_free : (k : ℕ) (sc : ℕ → List Binding) (us : ℕ → Use) (i : ℕ) 
 unfolding declared_in
 scope_free k sc us i env t ts a = (omega (arith, times_three None (symbols_in (sc i)) (declared_in (us i) t) (declared_from sc us (suc i) ts), a.all), omega (arith, times_three (symbol k) (symbols_in (sc i)) (declared_in (us i) t) (declared_from sc us (suc i) ts), a.undeclared))
 
-nothing_other : (k : ℕ) (ys : List Name) → ys ≡ [] → Other k ys
+pub nothing_other : (k : ℕ) (ys : List Name) → ys ≡ [] → Other k ys
 nothing_other k ys e = subst (Other k) (sym e) tt
 
 module _ (b s : ℕ) where
@@ -148,10 +148,10 @@ module _ (b s : ℕ) where
   not_first : (u : Use) (h : Shape) (n : ℕ) (ts : Trees) → own_pattern_names h n ts ≡ [] → (v : Bool) (env : Environment) → Far s v (spelled_first u h n ts) env
   not_first u h n ts e v env r m = absurd (and_false _ (sym (ap (λ ys. is_same_flag v (is_hoisting u) && is_spelled r ys) e) ∙ m))
 
-  pub declared_function : (strict : Bool) (p : Slot) (u : Use) → holds_nothing_slot p ≡ true → (is_alone u ≡ true → may_be_alone_slot p ≡ true) → (env : Environment) (g : Bool) (ds : List (List ℕ)) (xs : List Name) (n : ℕ) (id params body : Tree) → fits strict p (node (shape.Function true g ds) xs n (id ▸ (params ▸ (body ▸ none)))) ≡ true
-      → Sound s u env (node (shape.Function true g ds) xs n (id ▸ (params ▸ (body ▸ none)))) → AllUnbound s (params ▸ (body ▸ none))
+  pub function_unbound_in : (strict : Bool) (p : Slot) (u : Use) → holds_nothing_slot p ≡ true → (is_alone u ≡ true → may_be_alone_slot p ≡ true) → (env : Environment) (g : Bool) (ds : List (List ℕ)) (xs : List Name) (n : ℕ) (id params body : Tree) → fits strict p (node (shape.Function true g ds) xs n (id ▸ (params ▸ (body ▸ none)))) ≡ true
+      → Sound s u env (node (shape.Function true g ds) xs n (id ▸ (params ▸ (body ▸ none)))) → (v : Bool) → AllUnboundIn s v (use_of (shape.Function true g ds) u) 1 (params ▸ (body ▸ none))
   unfolding is_covered Scoped declared_in
-  declared_function strict p u m l env g ds xs n id params body f a =
+  function_unbound_in strict p u m l env g ds xs n id params body f a v =
       let h : Shape = shape.Function true g ds in
       let ts : Trees = id ▸ (params ▸ (body ▸ none)) in
       let all : Spellings = λ v r. true in
@@ -162,8 +162,13 @@ module _ (b s : ℕ) where
       let first = spelled_first u h n ts in
       let next = with_scope all (sc 0) in
       let rest = sound_rest s sc us 0 env id (params ▸ (body ▸ none)) (sound_below s u env h xs n ts a) in
-      let unbound = λ (v : Bool). all_covered_unbound s v sc us begins first 1 next (env ++ sc 0) (params ▸ (body ▸ none)) (right (is_covered (us 0) next id) (are_covered sc us begins first 1 next (params ▸ (body ▸ none))) whole) rest.scoped (rest.all, rest.undeclared) rest.unpatterned (not_first u h n ts refl v (env ++ sc 0)) (not_first u h n ts refl v (env ++ sc 0)) in
-      all_unbound_both s us 1 (params ▸ (body ▸ none)) (unbound true) (unbound false)
+      all_covered_unbound s v sc us begins first 1 next (env ++ sc 0) (params ▸ (body ▸ none)) (right (is_covered (us 0) next id) (are_covered sc us begins first 1 next (params ▸ (body ▸ none))) whole) rest.scoped (rest.all, rest.undeclared) rest.unpatterned (not_first u h n ts refl v (env ++ sc 0)) (not_first u h n ts refl v (env ++ sc 0))
+
+  pub declared_function : (strict : Bool) (p : Slot) (u : Use) → holds_nothing_slot p ≡ true → (is_alone u ≡ true → may_be_alone_slot p ≡ true) → (env : Environment) (g : Bool) (ds : List (List ℕ)) (xs : List Name) (n : ℕ) (id params body : Tree) → fits strict p (node (shape.Function true g ds) xs n (id ▸ (params ▸ (body ▸ none)))) ≡ true
+      → Sound s u env (node (shape.Function true g ds) xs n (id ▸ (params ▸ (body ▸ none)))) → AllUnbound s (params ▸ (body ▸ none))
+  declared_function strict p u m l env g ds xs n id params body f a =
+      let unbound = function_unbound_in strict p u m l env g ds xs n id params body f a in
+      all_unbound_both s (use_of (shape.Function true g ds) u) 1 (params ▸ (body ▸ none)) (unbound true) (unbound false)
 
   -- ---- what a part tells around it
 

@@ -28,3 +28,4 @@ mod Parts
 mod Slotted
 mod Items
 pub mod Homes
+mod Bodies
