@@ -28,21 +28,23 @@ use Rattle.mini_kept.proofs.Expressions.{refused_here}
 use Rattle.mini_kept.proofs.Unbound.{Other, both, Unbound, AllUnbound}
 use Rattle.mini_shrink.specs.Cover.{Spellings, is_hoisting, with_scope, begins_body, spelled_first, is_covered, are_covered}
 use Rattle.mini_shrink.specs.Pace.{Pace, Ends, Silent, Reads, AtMost, followed, kept_in, ends_if, ends_after, in_turn, Setting, below, pace, paces}
-use Rattle.mini_shrink.specs.Questions.{hands_on, alone_names, listed_names, early}
+use Rattle.mini_shrink.specs.Questions.{hands_on, listed_names, early}
 use Rattle.mini_shrink.specs.Regular.{items_of, imports_no, is_regular, all_regular}
 use Rattle.mini_shrink.proofs.Alone.{is_lone, lone_none, lone_slot, lone_slots}
 use Rattle.mini_shrink.proofs.Covered.{by_same, none_among, Far, Undeclared, Unpatterned, AllUnpatterned, AllUnboundIn, all_covered_unbound, all_unbound_both}
 use Rattle.mini_shrink.proofs.Debts.{Debt, of, owed, slot_owes, may_be_alone_slot, holds_nothing_slot}
 use Rattle.mini_shrink.proofs.Moments.{or_either, first_of, first_both, reads_first, firsts, is_catch}
-use Rattle.mini_shrink.proofs.Parts.{Sound, PartsAreCovered, part_unbound}
+use Rattle.mini_shrink.proofs.Covering.{part_covered}
+use Rattle.mini_shrink.proofs.Parts.{Sound, part_unbound}
+use Rattle.mini_shrink.proofs.Silence.{silent}
 use Rattle.mini_shrink.proofs.Paces.{AllAtMost, both as follow_both, turned, same}
 use Rattle.mini_shrink.proofs.Regulars.{ordered_slots}
 use Rattle.mini_shrink.proofs.Slotted.{is_bare, filled, variable_there, variable_parts, default_there, default_parts, lone_refused, function_there, class_there, declarator_there, no_function_body, FunctionParts, function_parts, ClassParts, class_parts, DeclaratorParts, declarator_parts, Filled, lone_filled}
 use Rattle.mini_shrink.proofs.Unended.{and_either, turn_unended, kept_unended, other_among, AllLess, Children, node_still, node_ended, ends_none, still, each_still, child_still}
 
 -- what a slot owes nothing of the part in it has none of
-abbrev pub SlotsOweNothing : Type 0
-SlotsOweNothing = (strict : Bool) (p : Slot) (d : Debt) (t : Tree) → fits strict p t ≡ true → holds_nothing_slot p ≡ true → slot_owes d p ≡ false → owed d t ≡ []
+pub owes : (strict : Bool) (p : Slot) (d : Debt) (t : Tree) → fits strict p t ≡ true → holds_nothing_slot p ≡ true → slot_owes d p ≡ false → owed d t ≡ []
+owes strict p d t f m o = silent strict d p t m o f
 
 -- ---- parts of a list
 
@@ -83,10 +85,10 @@ scope_free : (k : ℕ) (sc : ℕ → List Binding) (us : ℕ → Use) (i : ℕ) 
 unfolding declared_in
 scope_free k sc us i env t ts a = (omega (arith, times_three None (symbols_in (sc i)) (declared_in (us i) t) (declared_from sc us (suc i) ts), a.all), omega (arith, times_three (symbol k) (symbols_in (sc i)) (declared_in (us i) t) (declared_from sc us (suc i) ts), a.undeclared))
 
-nothing_other : (k : ℕ) (ys : List Name) → ys ≡ [] → Other k ys
+pub nothing_other : (k : ℕ) (ys : List Name) → ys ≡ [] → Other k ys
 nothing_other k ys e = subst (Other k) (sym e) tt
 
-module _ (covered : PartsAreCovered) (owes : SlotsOweNothing) (b s : ℕ) where
+module _ (b s : ℕ) where
   abbrev x : Name
   x = by_symbol s
 
@@ -140,28 +142,33 @@ module _ (covered : PartsAreCovered) (owes : SlotsOweNothing) (b s : ℕ) where
 
   pub quiet_unbound : (strict : Bool) (p : Slot) (u : Use) (env : Environment) (t : Tree) → fits strict p t ≡ true → holds_nothing_slot p ≡ true → is_alone u ≡ false → is_function_body t ≡ false → Sound s u env t → slot_owes (of declared.Bound) p ≡ false → slot_owes (of declared.Lexical) p ≡ false → slot_owes (of declared.Hoisted) p ≡ false → Unbound s t
   quiet_unbound strict p u env t f m e g a o q r =
-      part_unbound covered s strict p u env t f m (λ z. absurd (true≢false (sym z ∙ e))) g a (nothing_other s (names_of declared.Bound t) (owes strict p (of declared.Bound) t f m o)) (λ z. nothing_other s (names_of declared.Lexical t) (owes strict p (of declared.Lexical) t f m q)) (nothing_other s (names_of declared.Hoisted t) (owes strict p (of declared.Hoisted) t f m r))
+      part_unbound s strict p u env t f m (λ z. absurd (true≢false (sym z ∙ e))) g a (nothing_other s (names_of declared.Bound t) (owes strict p (of declared.Bound) t f m o)) (λ z. nothing_other s (names_of declared.Lexical t) (owes strict p (of declared.Lexical) t f m q)) (nothing_other s (names_of declared.Hoisted t) (owes strict p (of declared.Hoisted) t f m r))
 
   -- the parameters and the body of a function declare nothing that its scopes don't
   not_first : (u : Use) (h : Shape) (n : ℕ) (ts : Trees) → own_pattern_names h n ts ≡ [] → (v : Bool) (env : Environment) → Far s v (spelled_first u h n ts) env
   not_first u h n ts e v env r m = absurd (and_false _ (sym (ap (λ ys. is_same_flag v (is_hoisting u) && is_spelled r ys) e) ∙ m))
 
-  pub declared_function : (strict : Bool) (p : Slot) (u : Use) → holds_nothing_slot p ≡ true → (is_alone u ≡ true → may_be_alone_slot p ≡ true) → (env : Environment) (g : Bool) (ds : List (List ℕ)) (xs : List Name) (n : ℕ) (id params body : Tree) → fits strict p (node (shape.Function true g ds) xs n (id ▸ (params ▸ (body ▸ none)))) ≡ true
-      → Sound s u env (node (shape.Function true g ds) xs n (id ▸ (params ▸ (body ▸ none)))) → AllUnbound s (params ▸ (body ▸ none))
+  pub function_unbound_in : (strict : Bool) (p : Slot) (u : Use) → holds_nothing_slot p ≡ true → (is_alone u ≡ true → may_be_alone_slot p ≡ true) → (env : Environment) (g : Bool) (ds : List (List ℕ)) (xs : List Name) (n : ℕ) (id params body : Tree) → fits strict p (node (shape.Function true g ds) xs n (id ▸ (params ▸ (body ▸ none)))) ≡ true
+      → Sound s u env (node (shape.Function true g ds) xs n (id ▸ (params ▸ (body ▸ none)))) → (v : Bool) → AllUnboundIn s v (use_of (shape.Function true g ds) u) 1 (params ▸ (body ▸ none))
   unfolding is_covered Scoped declared_in
-  declared_function strict p u m l env g ds xs n id params body f a =
+  function_unbound_in strict p u m l env g ds xs n id params body f a v =
       let h : Shape = shape.Function true g ds in
       let ts : Trees = id ▸ (params ▸ (body ▸ none)) in
       let all : Spellings = λ v r. true in
-      let whole = covered strict p u all (node h xs n ts) f m l refl (λ r z. refl) (λ z r y. refl) (λ r z. refl) in
+      let whole = part_covered strict p u all (node h xs n ts) m f l refl (λ r z. refl) (λ z r y. refl) (λ r z. refl) in
       let sc = opened u h ts in
       let us = use_of h u in
       let begins = begins_body h n in
       let first = spelled_first u h n ts in
       let next = with_scope all (sc 0) in
       let rest = sound_rest s sc us 0 env id (params ▸ (body ▸ none)) (sound_below s u env h xs n ts a) in
-      let unbound = λ (v : Bool). all_covered_unbound s v sc us begins first 1 next (env ++ sc 0) (params ▸ (body ▸ none)) (right (is_covered (us 0) next id) (are_covered sc us begins first 1 next (params ▸ (body ▸ none))) whole) rest.scoped (rest.all, rest.undeclared) rest.unpatterned (not_first u h n ts refl v (env ++ sc 0)) (not_first u h n ts refl v (env ++ sc 0)) in
-      all_unbound_both s us 1 (params ▸ (body ▸ none)) (unbound true) (unbound false)
+      all_covered_unbound s v sc us begins first 1 next (env ++ sc 0) (params ▸ (body ▸ none)) (right (is_covered (us 0) next id) (are_covered sc us begins first 1 next (params ▸ (body ▸ none))) whole) rest.scoped (rest.all, rest.undeclared) rest.unpatterned (not_first u h n ts refl v (env ++ sc 0)) (not_first u h n ts refl v (env ++ sc 0))
+
+  pub declared_function : (strict : Bool) (p : Slot) (u : Use) → holds_nothing_slot p ≡ true → (is_alone u ≡ true → may_be_alone_slot p ≡ true) → (env : Environment) (g : Bool) (ds : List (List ℕ)) (xs : List Name) (n : ℕ) (id params body : Tree) → fits strict p (node (shape.Function true g ds) xs n (id ▸ (params ▸ (body ▸ none)))) ≡ true
+      → Sound s u env (node (shape.Function true g ds) xs n (id ▸ (params ▸ (body ▸ none)))) → AllUnbound s (params ▸ (body ▸ none))
+  declared_function strict p u m l env g ds xs n id params body f a =
+      let unbound = function_unbound_in strict p u m l env g ds xs n id params body f a in
+      all_unbound_both s (use_of (shape.Function true g ds) u) 1 (params ▸ (body ▸ none)) (unbound true) (unbound false)
 
   -- ---- what a part tells around it
 
@@ -237,7 +244,7 @@ module _ (covered : PartsAreCovered) (owes : SlotsOweNothing) (b s : ℕ) where
       by true g = k g
       by false g =
           let (lexical, bound) = or_false (is_among x (names_of declared.Lexical t)) (is_among x (names_of declared.Bound t)) g in
-          child_still b s c env t (part_unbound covered s strict p c.used env t f (lone_holds p l) (λ z. absurd (true≢false (sym z ∙ e))) (no_function_body strict p t l f) a (none_among s (names_of declared.Bound t) bound) (λ z. none_among s (names_of declared.Lexical t) lexical) h)
+          child_still b s c env t (part_unbound s strict p c.used env t f (lone_holds p l) (λ z. absurd (true≢false (sym z ∙ e))) (no_function_body strict p t l f) a (none_among s (names_of declared.Bound t) bound) (λ z. none_among s (names_of declared.Lexical t) lexical) h)
 
   or_nothing : (a : Bool) → (a || false) ≡ true → a ≡ true
   or_nothing true e = refl
@@ -267,13 +274,9 @@ module _ (covered : PartsAreCovered) (owes : SlotsOweNothing) (b s : ℕ) where
       let second = sound_rest s sc us 0 env id (parent ▸ (body ▸ (again ▸ none))) a in
       let third = sound_rest s sc us 1 (env ++ sc 0) parent (body ▸ (again ▸ none)) second in (
         name_settled strict id f.0,
-        (
-          unbound_settled parent (quiet_unbound strict (one_or_absent (an_inner an_expression)) Read ((env ++ sc 0) ++ sc 1) parent f.1.0 refl refl (parent_no_body strict parent f.1.0) (sound_first s sc us 1 (env ++ sc 0) parent (body ▸ (again ▸ none)) second) refl refl refl),
-          (
-            unbound_settled body (quiet_unbound strict (one a_class_body) Read (((env ++ sc 0) ++ sc 1) ++ sc 2) body f.1.1.0 refl refl (members_no_body strict body f.1.1.0) (sound_first s sc us 2 ((env ++ sc 0) ++ sc 1) body (again ▸ none) third) refl refl refl),
-            (name_settled strict again f.1.1.1, tt),
-          ),
-        ),
+        (unbound_settled parent (quiet_unbound strict (one_or_absent (an_inner an_expression)) Read ((env ++ sc 0) ++ sc 1) parent f.1.0 refl refl (parent_no_body strict parent f.1.0) (sound_first s sc us 1 (env ++ sc 0) parent (body ▸ (again ▸ none)) second) refl refl refl),
+          (unbound_settled body (quiet_unbound strict (one a_class_body) Read (((env ++ sc 0) ++ sc 1) ++ sc 2) body f.1.1.0 refl refl (members_no_body strict body f.1.1.0) (sound_first s sc us 2 ((env ++ sc 0) ++ sc 1) body (again ▸ none) third) refl refl refl),
+            (name_settled strict again f.1.1.1, tt))),
       )
   class_settled strict u env d xs n ts f a = absurd f
 
@@ -283,10 +286,9 @@ module _ (covered : PartsAreCovered) (owes : SlotsOweNothing) (b s : ℕ) where
       let ts : Trees = id ▸ (init ▸ none) in
       let sc = opened u shape.VariableDeclarator ts in
       let us = use_of shape.VariableDeclarator u in
-      let rest = sound_rest s sc us 0 env id (init ▸ none) a in (
-        binder_settled strict id f.0 (sound_first s sc us 0 env id (init ▸ none) a).unpatterned e,
-        (unbound_settled init (quiet_unbound strict (one_or_absent an_expression) Read ((env ++ sc 0) ++ sc 1) init f.1 refl refl (no_function_body strict (one_or_absent an_expression) init refl f.1) (sound_first s sc us 1 (env ++ sc 0) init none rest) refl refl refl), tt),
-      )
+      let rest = sound_rest s sc us 0 env id (init ▸ none) a in
+      (binder_settled strict id f.0 (sound_first s sc us 0 env id (init ▸ none) a).unpatterned e,
+        (unbound_settled init (quiet_unbound strict (one_or_absent an_expression) Read ((env ++ sc 0) ++ sc 1) init f.1 refl refl (no_function_body strict (one_or_absent an_expression) init refl f.1) (sound_first s sc us 1 (env ++ sc 0) init none rest) refl refl refl), tt))
   declarator_settled strict u env ts f a e = absurd f
 
   function_settled : (strict : Bool) (p : Slot) (u : Use) → holds_nothing_slot p ≡ true → (is_alone u ≡ true → may_be_alone_slot p ≡ true) → (env : Environment) (g : Bool) (ds : List (List ℕ)) (xs : List Name) (n : ℕ) (ts : Trees) → fits strict p (node (shape.Function true g ds) xs n ts) ≡ true → Sound s u env (node (shape.Function true g ds) xs n ts)
@@ -318,47 +320,41 @@ module _ (covered : PartsAreCovered) (owes : SlotsOweNothing) (b s : ℕ) where
     pub item : (strict : Bool) (p : Slot) → lone_slot p ≡ true → (c : Setting) (env : Environment) (t : Tree) → fits strict p t ≡ true → c.ordered ≡ true → is_alone c.used ≡ false → Sound s c.used env t → Other s (names_of declared.Hoisted t) → Entry c env t
     item strict (many k) l c env (node shape.Listed xs n ts) f o e a h =
         by_loud strict (many k) l c env (node shape.Listed xs n ts) f e a h (λ g. handed c env shape.Listed xs n ts o refl
-        (each_items strict k l (opened c.used shape.Listed ts) (below ((early b s).orders c shape.Listed ts) c shape.Listed n) (λ i. hands c.ordered false o) (λ i. e) 0 env ts (right (is_whole k shape.Listed xs n ts) (fill strict (each (one k)) ts) f) (sound_below s c.used env shape.Listed xs n ts a) h) g)
+        (each_items strict k l (opened c.used shape.Listed ts) (below ((early b s).orders c shape.Listed ts) c shape.Listed n) (λ i. hands c.ordered _ o) (λ i. e) 0 env ts (right (is_whole k shape.Listed xs n ts) (fill strict (each (one k)) ts) f) (sound_below s c.used env shape.Listed xs n ts a) h) g)
     item strict (one k) l c env (node shape.Listed xs n ts) f o e a h = absurd (refused_here strict (one k) shape.Listed xs n ts (ap filling_by (lone_none strict k l shape.Listed refl)) f)
     item strict (one_or_absent k) l c env (node shape.Listed xs n ts) f o e a h = absurd (refused_here strict (one_or_absent k) shape.Listed xs n ts (ap filling_by (lone_none strict k l shape.Listed refl)) f)
     item strict p l c env (node shape.Listed xs n ts) f o e a h = absurd (true≢false (sym l))
     item strict p l c env (node shape.SwitchCase xs n ts) f o e a h =
         let z = lone_filled strict p shape.SwitchCase xs n ts refl l f in
         by_loud strict p l c env (node shape.SwitchCase xs n ts) f e a h (λ g. handed c env shape.SwitchCase xs n ts o refl
-        (these_items strict z.slots z.ordered (opened c.used shape.SwitchCase ts) (below ((early b s).orders c shape.SwitchCase ts) c shape.SwitchCase n) (λ i. hands c.ordered false o) (λ i. refl) 0 env ts z.filled (sound_below s c.used env shape.SwitchCase xs n ts a) h) g)
+        (these_items strict z.slots z.ordered (opened c.used shape.SwitchCase ts) (below ((early b s).orders c shape.SwitchCase ts) c shape.SwitchCase n) (λ i. hands c.ordered _ o) (λ i. refl) 0 env ts z.filled (sound_below s c.used env shape.SwitchCase xs n ts a) h) g)
     item strict p l c env (node shape.ExportNamedDeclaration xs n ts) f o e a h =
         let z = lone_filled strict p shape.ExportNamedDeclaration xs n ts refl l f in
         by_loud strict p l c env (node shape.ExportNamedDeclaration xs n ts) f e a h (λ g. handed c env shape.ExportNamedDeclaration xs n ts o refl
-        (these_items strict z.slots z.ordered (opened c.used shape.ExportNamedDeclaration ts) (below ((early b s).orders c shape.ExportNamedDeclaration ts) c shape.ExportNamedDeclaration n) (λ i. hands c.ordered false o) (λ i. refl) 0 env ts z.filled (sound_below s c.used env shape.ExportNamedDeclaration xs n ts a) h) g)
+        (these_items strict z.slots z.ordered (opened c.used shape.ExportNamedDeclaration ts) (below ((early b s).orders c shape.ExportNamedDeclaration ts) c shape.ExportNamedDeclaration n) (λ i. hands c.ordered _ o) (λ i. refl) 0 env ts z.filled (sound_below s c.used env shape.ExportNamedDeclaration xs n ts a) h) g)
     item strict p l c env (node shape.ExportDefaultDeclaration xs n (t ▸ none)) f o e a h =
         let ts : Trees = t ▸ none in
         let z = default_parts strict (slots_of strict (class_of p) shape.ExportDefaultDeclaration) ts (default_there strict (class_of p)) (filled strict p shape.ExportDefaultDeclaration xs n ts refl f) in
-        by_loud strict p l c env (node shape.ExportDefaultDeclaration xs n ts) f e a h (λ g. handed c env shape.ExportDefaultDeclaration xs n ts o refl (
-          item strict (one a_default_export) refl (below ((early b s).orders c shape.ExportDefaultDeclaration ts) c shape.ExportDefaultDeclaration n 0) (env ++ opened c.used shape.ExportDefaultDeclaration ts 0) t z (hands c.ordered false o) refl
-              (sound_first s (opened c.used shape.ExportDefaultDeclaration ts) (use_of shape.ExportDefaultDeclaration c.used) 0 env t none (sound_below s c.used env shape.ExportDefaultDeclaration xs n ts a)) (nothing_other s (names_of declared.Hoisted t) (owes strict (one a_default_export) (of declared.Hoisted) t z refl refl)),
-          tt,
-        ) g)
+        by_loud strict p l c env (node shape.ExportDefaultDeclaration xs n ts) f e a h (λ g. handed c env shape.ExportDefaultDeclaration xs n ts o refl
+        (item strict (one a_default_export) refl (below ((early b s).orders c shape.ExportDefaultDeclaration ts) c shape.ExportDefaultDeclaration n 0) (env ++ opened c.used shape.ExportDefaultDeclaration ts 0) t z (hands c.ordered _ o) refl
+        (sound_first s (opened c.used shape.ExportDefaultDeclaration ts) (use_of shape.ExportDefaultDeclaration c.used) 0 env t none (sound_below s c.used env shape.ExportDefaultDeclaration xs n ts a)) (nothing_other s (names_of declared.Hoisted t) (owes strict (one a_default_export) (of declared.Hoisted) t z refl refl)), tt) g)
     item strict p l c env (node shape.ExportDefaultDeclaration xs n ts) f o e a h = absurd (default_parts strict (slots_of strict (class_of p) shape.ExportDefaultDeclaration) ts (default_there strict (class_of p)) (filled strict p shape.ExportDefaultDeclaration xs n ts refl f))
     item strict p l c env (node (shape.VariableDeclaration Var) xs n ts) f o e a h = by_loud strict p l c env (node (shape.VariableDeclaration Var) xs n ts) f e a h (λ g. absurd (true≢false (sym g)))
     item strict p l c env (node (shape.VariableDeclaration Let) xs n (t ▸ none)) f o e a h =
         let k : Shape = shape.VariableDeclaration Let in
         let ts : Trees = t ▸ none in
         let z = variable_parts strict (slots_of strict (class_of p) k) ts (variable_there strict (class_of p) Let) (filled strict p k xs n ts refl f) in
-        by_loud strict p l c env (node k xs n ts) f e a h (λ g. handed c env k xs n ts o refl (
-          item strict (many a_declarator) refl (below ((early b s).orders c k ts) c k n 0) (env ++ opened c.used k ts 0) t z (hands c.ordered (is_among x (alone_names c.used Let t)) o) refl
-              (sound_first s (opened c.used k ts) (use_of k c.used) 0 env t none (sound_below s c.used env k xs n ts a)) (nothing_other s (names_of declared.Hoisted t) (owes strict (many a_declarator) (of declared.Hoisted) t z refl refl)),
-          tt,
-        ) g)
+        by_loud strict p l c env (node k xs n ts) f e a h (λ g. handed c env k xs n ts o refl
+        (item strict (many a_declarator) refl (below ((early b s).orders c k ts) c k n 0) (env ++ opened c.used k ts 0) t z (hands c.ordered _ o) refl
+        (sound_first s (opened c.used k ts) (use_of k c.used) 0 env t none (sound_below s c.used env k xs n ts a)) (nothing_other s (names_of declared.Hoisted t) (owes strict (many a_declarator) (of declared.Hoisted) t z refl refl)), tt) g)
     item strict p l c env (node (shape.VariableDeclaration Let) xs n ts) f o e a h = absurd (variable_parts strict (slots_of strict (class_of p) (shape.VariableDeclaration Let)) ts (variable_there strict (class_of p) Let) (filled strict p (shape.VariableDeclaration Let) xs n ts refl f))
     item strict p l c env (node (shape.VariableDeclaration Const) xs n (t ▸ none)) f o e a h =
         let k : Shape = shape.VariableDeclaration Const in
         let ts : Trees = t ▸ none in
         let z = variable_parts strict (slots_of strict (class_of p) k) ts (variable_there strict (class_of p) Const) (filled strict p k xs n ts refl f) in
-        by_loud strict p l c env (node k xs n ts) f e a h (λ g. handed c env k xs n ts o refl (
-          item strict (many a_declarator) refl (below ((early b s).orders c k ts) c k n 0) (env ++ opened c.used k ts 0) t z (hands c.ordered (is_among x (alone_names c.used Const t)) o) refl
-              (sound_first s (opened c.used k ts) (use_of k c.used) 0 env t none (sound_below s c.used env k xs n ts a)) (nothing_other s (names_of declared.Hoisted t) (owes strict (many a_declarator) (of declared.Hoisted) t z refl refl)),
-          tt,
-        ) g)
+        by_loud strict p l c env (node k xs n ts) f e a h (λ g. handed c env k xs n ts o refl
+        (item strict (many a_declarator) refl (below ((early b s).orders c k ts) c k n 0) (env ++ opened c.used k ts 0) t z (hands c.ordered _ o) refl
+        (sound_first s (opened c.used k ts) (use_of k c.used) 0 env t none (sound_below s c.used env k xs n ts a)) (nothing_other s (names_of declared.Hoisted t) (owes strict (many a_declarator) (of declared.Hoisted) t z refl refl)), tt) g)
     item strict p l c env (node (shape.VariableDeclaration Const) xs n ts) f o e a h = absurd (variable_parts strict (slots_of strict (class_of p) (shape.VariableDeclaration Const)) ts (variable_there strict (class_of p) Const) (filled strict p (shape.VariableDeclaration Const) xs n ts refl f))
     item strict p l c env (node shape.VariableDeclarator xs n ts) f o e a h =
         by_loud strict p l c env (node shape.VariableDeclarator xs n ts) f e a h (λ g. ended c env shape.VariableDeclarator xs n ts o refl g refl
@@ -389,17 +385,15 @@ module _ (covered : PartsAreCovered) (owes : SlotsOweNothing) (b s : ℕ) where
     each_items : (strict : Bool) (k : Class) → is_lone k ≡ true → (sc : ℕ → List Binding) (cs : ℕ → Setting) → ((i : ℕ) → (cs i).ordered ≡ true) → ((i : ℕ) → is_alone (cs i).used ≡ false) → (i : ℕ) (env : Environment) (ts : Trees) → fill strict (each (one k)) ts ≡ true
         → AllSound s sc (λ j. (cs j).used) i env ts → Other s (all_names declared.Hoisted ts) → Entries sc cs i env ts
     each_items strict k l sc cs o e i env none f a h = tt
-    each_items strict k l sc cs o e i env (t ▸ ts) f a h = (
-      item strict (one k) l (cs i) (env ++ sc i) t (left (fits strict (one k) t) (fill strict (each (one k)) ts) f) (o i) (e i) (sound_first s sc (λ j. (cs j).used) i env t ts a) (other_first (names_of declared.Hoisted t) (all_names declared.Hoisted ts) h),
-      each_items strict k l sc cs o e (suc i) (env ++ sc i) ts (right (fits strict (one k) t) (fill strict (each (one k)) ts) f) (sound_rest s sc (λ j. (cs j).used) i env t ts a) (other_rest (names_of declared.Hoisted t) (all_names declared.Hoisted ts) h),
-    )
+    each_items strict k l sc cs o e i env (t ▸ ts) f a h =
+        (item strict (one k) l (cs i) (env ++ sc i) t (left (fits strict (one k) t) (fill strict (each (one k)) ts) f) (o i) (e i) (sound_first s sc (λ j. (cs j).used) i env t ts a) (other_first (names_of declared.Hoisted t) (all_names declared.Hoisted ts) h),
+          each_items strict k l sc cs o e (suc i) (env ++ sc i) ts (right (fits strict (one k) t) (fill strict (each (one k)) ts) f) (sound_rest s sc (λ j. (cs j).used) i env t ts a) (other_rest (names_of declared.Hoisted t) (all_names declared.Hoisted ts) h))
 
     pub these_items : (strict : Bool) (ss : List Slot) → lone_slots ss ≡ true → (sc : ℕ → List Binding) (cs : ℕ → Setting) → ((i : ℕ) → (cs i).ordered ≡ true) → ((i : ℕ) → is_alone (cs i).used ≡ false) → (i : ℕ) (env : Environment) (ts : Trees) → fill strict (these ss) ts ≡ true
         → AllSound s sc (λ j. (cs j).used) i env ts → Other s (all_names declared.Hoisted ts) → Entries sc cs i env ts
     these_items strict [] l sc cs o e i env none f a h = tt
     these_items strict [] l sc cs o e i env (t ▸ ts) f a h = absurd (true≢false (sym f))
     these_items strict (p ∷ ss) l sc cs o e i env none f a h = tt
-    these_items strict (p ∷ ss) l sc cs o e i env (t ▸ ts) f a h = (
-      item strict p (left (lone_slot p) (lone_slots ss) l) (cs i) (env ++ sc i) t (left (fits strict p t) (fill strict (these ss) ts) f) (o i) (e i) (sound_first s sc (λ j. (cs j).used) i env t ts a) (other_first (names_of declared.Hoisted t) (all_names declared.Hoisted ts) h),
-      these_items strict ss (right (lone_slot p) (lone_slots ss) l) sc cs o e (suc i) (env ++ sc i) ts (right (fits strict p t) (fill strict (these ss) ts) f) (sound_rest s sc (λ j. (cs j).used) i env t ts a) (other_rest (names_of declared.Hoisted t) (all_names declared.Hoisted ts) h),
-    )
+    these_items strict (p ∷ ss) l sc cs o e i env (t ▸ ts) f a h =
+        (item strict p (left (lone_slot p) (lone_slots ss) l) (cs i) (env ++ sc i) t (left (fits strict p t) (fill strict (these ss) ts) f) (o i) (e i) (sound_first s sc (λ j. (cs j).used) i env t ts a) (other_first (names_of declared.Hoisted t) (all_names declared.Hoisted ts) h),
+          these_items strict ss (right (lone_slot p) (lone_slots ss) l) sc cs o e (suc i) (env ++ sc i) ts (right (fits strict p t) (fill strict (these ss) ts) f) (sound_rest s sc (λ j. (cs j).used) i env t ts a) (other_rest (names_of declared.Hoisted t) (all_names declared.Hoisted ts) h))

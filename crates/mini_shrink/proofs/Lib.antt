@@ -25,7 +25,8 @@ pub mod Covering
 mod Unended
 mod Covered
 mod Parts
-pub mod Homes
 mod Slotted
 mod Items
 pub mod SameForeign
+pub mod Homes
+mod Bodies
