@@ -47,7 +47,7 @@ use Rattle.mini_less.proofs.TellingLists.{by_lists}
 use Rattle.mini_less.proofs.Shown.{shows_all}
 
 -- an unscoped statement binds no name itself
-no_bound : (t : Tree) → is_unscoped t ≡ true → names_of declared.Bound t ≡ []
+pub no_bound : (t : Tree) → is_unscoped t ≡ true → names_of declared.Bound t ≡ []
 unfolding names_of
 no_bound (node shape.BindingIdentifier xs n ts) e = absurd (cc e)
 no_bound (node shape.VariableDeclarator xs n ts) e = absurd (cc e)
