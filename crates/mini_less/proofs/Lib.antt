@@ -79,3 +79,6 @@ pub mod OnceInOrder
 pub mod Once
 pub mod Losing
 pub mod LosingNodes
+pub mod ChildStands
+pub mod LosingLists
+pub mod RowsOnce
