@@ -81,3 +81,4 @@ pub mod Losing
 pub mod LosingNodes
 pub mod ChildStands
 pub mod LosingLists
+pub mod RowsOnce
