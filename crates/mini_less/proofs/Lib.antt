@@ -67,3 +67,4 @@ pub mod LosingNodes
 pub mod ChildStands
 pub mod LosingLists
 pub mod RowsOnce
+pub mod OnceNext
