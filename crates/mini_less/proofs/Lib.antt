@@ -68,3 +68,4 @@ pub mod ChildStands
 pub mod LosingLists
 pub mod RowsOnce
 pub mod OnceNext
+pub mod PastLess

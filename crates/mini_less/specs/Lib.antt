@@ -12,3 +12,4 @@ pub mod Arrows
 pub mod Names
 pub mod BodyEnds
 pub mod TellsLists
+pub mod Past
