@@ -82,3 +82,5 @@ pub mod LosingNodes
 pub mod ChildStands
 pub mod LosingLists
 pub mod RowsOnce
+pub mod OnceNext
+pub mod PastLess
