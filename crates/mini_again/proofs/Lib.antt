@@ -57,3 +57,14 @@ pub mod TermPlainAgain
 pub mod BaresAgain
 pub mod ModelRedexAgain
 pub mod Everywhere
+pub mod Equal
+pub mod IdleAgain
+pub mod MembersAgain
+pub mod StillAgain
+pub mod LexicalAgain
+pub mod PastAgain
+pub mod PastArrowsAgain
+pub mod PastBlocksAgain
+pub mod PastModulesAgain
+pub mod PastStaticsAgain
+pub mod LawPathAgain
