@@ -1,4 +1,4 @@
--- mini_laws/Path
+-- A place in a tree that is read again.
 use Rattle.mini_again.specs.Again.{Renaming, again, all_again, other_number}
 use Rattle.mini_laws.specs.Path.{Path, here, inside, join, plug}
 use Rattle.mini_laws.specs.Renaming.{rename_name}

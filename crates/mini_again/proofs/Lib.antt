@@ -68,3 +68,10 @@ pub mod PastBlocksAgain
 pub mod PastModulesAgain
 pub mod PastStaticsAgain
 pub mod LawPathAgain
+pub mod SteadyAgain
+pub mod Summaries
+pub mod Steps
+pub mod OwnAgain
+pub mod InsideAgain
+pub mod PastInsideAgain
+pub mod Bodies
