@@ -29,3 +29,4 @@ mod Slotted
 mod Items
 pub mod Homes
 mod Bodies
+mod Outside
