@@ -256,3 +256,7 @@ module _ (s : ℕ) (q : Path) (d : Bool) (sc : ℕ → List Binding) (us : ℕ �
 
   pub inner_once : times (symbol s) (symbols_in (env ++ sc i)) ≤ 1
   inner_once = omega (arith, times_joined s env (sc i), a.free, e)
+
+-- none of the answers of children is a read, or they are at most those of the moments
+abbrev pub Result : List Pace → List Pace → Type 0
+Result ps ms = NoReads ps ⊎ AllAtMost ps ms
