@@ -30,3 +30,4 @@ mod Items
 pub mod Homes
 mod Bodies
 mod Outside
+mod Inside
