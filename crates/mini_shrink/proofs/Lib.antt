@@ -1,4 +1,5 @@
 pub mod Paces
+pub mod Either
 pub mod Fitting
 pub mod Lifting
 pub mod Finding

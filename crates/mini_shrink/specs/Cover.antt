@@ -1,31 +1,25 @@
 -- Every binder is spelled in a scope of its own body: the `x` of `function f(p) { { var x; } }` in
 -- the scope of f, and the `y` of `function f(p) { { let y; } }` in the scope of the block. What a
 -- pattern binds (`let { a } = o`) the pattern spells.
-use Rattle.std.specs.Prelude.{ℕ, zero, suc, ◌≡◌, refl, Bool, true, false, ◌&&◌, ◌||◌, List, [], ◌∷◌, if◌then◌else◌}
+use Rattle.std.specs.Prelude.{ℕ, zero, suc, ◌≡◌, refl, Bool, true, false, ◌&&◌, ◌||◌, List, if◌then◌else◌}
 use Rattle.std.specs.List.{list_any, list_all}
 use Rattle.mini_model.specs.declared.kind.VariableDeclarationKind.TheVariants.{Let}
-use Rattle.mini_model.specs.declared.name.Name.{Name}
 use Rattle.mini_model.specs.declared.shape.Shape.{Shape}
 use Rattle.mini_model.specs.declared.shape.Shape.TheVariants as shape
 use Rattle.mini_model.specs.Tree.{Tree, Trees, node, none, ◌▸◌}
-use Rattle.mini_accept.specs.WellShaped.{Slot, fits, is_function_body, is_same_flag, IsWellShaped}
+use Rattle.mini_accept.specs.WellShaped.{is_same_flag, IsWellShaped}
 use Rattle.mini_laws.specs.declared.names.Use.{Use}
 use Rattle.mini_laws.specs.declared.names.Use.TheVariants.{Read, Hoisted, Headed}
 use Rattle.mini_laws.specs.declared.names.Binding.{Binding}
-use Rattle.mini_laws.specs.declared.names.Declared.{Declared}
 use Rattle.mini_laws.specs.declared.names.Numbering.{Numbering}
 use Rattle.mini_laws.specs.declared.names.Numbering.TheVariants.{Unnumbered}
 use Rattle.mini_laws.specs.DeclaredNames.{names_of, body_names, with_names, has_inner, is_spelled}
-use Rattle.mini_laws.specs.Foreign.{own_pattern_names, pattern_names}
-use Rattle.mini_laws.specs.Mentions.{numbering_of, is_among}
+use Rattle.mini_laws.specs.Foreign.{own_pattern_names}
+use Rattle.mini_laws.specs.Mentions.{numbering_of}
 use Rattle.mini_laws.specs.Programs.{script, binding, reference, block, declares, var_of, let_of, function, object_pattern, f, p, x, e}
-use Rattle.mini_laws.specs.Resolved.{Environment, is_for}
-use Rattle.mini_laws.specs.ScopeList.{by_symbol}
-use Rattle.mini_laws.specs.Scoped.{Scoped}
-use Rattle.mini_laws.specs.Scopes.{use_of, is_alone, scopes_by, opened}
-use Rattle.mini_laws.specs.Symbols.{declared as declared_in, times}
-use Rattle.mini_kept.specs.Loosely.{symbol}
-use Rattle.mini_kept.proofs.Unbound.{bound_at, Unbound}
+use Rattle.mini_laws.specs.Resolved.{is_for}
+use Rattle.mini_laws.specs.Scopes.{use_of, scopes_by, opened}
+use Rattle.mini_kept.proofs.Unbound.{bound_at}
 
 -- ---- what the scopes of a body spell
 
