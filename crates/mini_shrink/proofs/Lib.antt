@@ -31,3 +31,4 @@ mod Items
 pub mod SameForeign
 pub mod Homes
 mod Bodies
+mod Outside
