@@ -40,7 +40,7 @@ unnumbered_around Body r n e = absurd (true≢false e)
 unnumbered_around Carried r n e = absurd (true≢false e)
 unnumbered_around Unnumbered r n e = refl
 
--- the first child stands in what is around the node, or a body begins with it
+-- the first child stands in what is around its node, or a body begins with it
 around_first : (h : Shape) (r : Around) (n : ℕ) → begins_body h n 0 ≡ false → around_child h r n 0 ≡ r
 around_first (shape.Function true g ds) r n e = refl
 around_first (shape.Function false g ds) r n e = absurd (true≢false e)
@@ -48,7 +48,7 @@ around_first (shape.Class true) r n e = refl
 around_first (shape.Class false) r n e = unnumbered_around (numbering_of (shape.Class false) n) r n e
 around_first h r n e = unnumbered_around (numbering_of h n) r n e
 
--- and each other child in what is around the one before
+-- each later child stands in what is around the child before it, or a body begins with it
 around_next : (h : Shape) (r : Around) (n i : ℕ) → begins_body h n (suc i) ≡ false → around_child h r n (suc i) ≡ around_child h r n i
 around_next (shape.Function true g ds) r n zero e = absurd (true≢false e)
 around_next (shape.Function true g ds) r n (suc i) e = refl
@@ -89,7 +89,7 @@ module _ (k : ℕ) where
   abbrev AllUndeclared : (ℕ → List Binding) → (ℕ → Use) → ℕ → Trees → Type 0
   AllUndeclared sc us i ts = (times None (declared_from sc us i ts) ≡ 0) × (times (symbol k) (declared_from sc us i ts) ≡ 0)
 
-  -- of the first child and its scope, and of the others
+  -- what some children don't declare, the first, its scope and the others don't
   undeclared_parts : (sc : ℕ → List Binding) (us : ℕ → Use) (i : ℕ) (t : Tree) (ts : Trees) → AllUndeclared sc us i (t ▸ ts) → Free k (sc i) × (Undeclared k (us i) t × AllUndeclared sc us (suc i) ts)
   unfolding declared_in
   undeclared_parts sc us i t ts d =

@@ -1,5 +1,5 @@
--- What is foreign by what shrinks is foreign by the definition, as binders of one symbol stand in one
--- body, and what is read early by scopes is so by all moments.
+-- What is foreign by what shrinks is foreign by the definition: the binders of one symbol stand in
+-- one body, and what is read early by scopes is read early by all moments.
 use Rattle.std.specs.Prelude.{ℕ, ◌≡◌, refl, Bool, true, false, not, ◌&&◌, ◌||◌, []}
 use Rattle.std.specs.List.{list_any}
 use Rattle.std.proofs.Common.{ap, ◌∙◌, sym, true≢false}

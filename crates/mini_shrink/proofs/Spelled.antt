@@ -68,7 +68,7 @@ module _ (s : List ℕ) where
   pub lexical_spelled : (xs : List Name) → is_spelled s xs ≡ true → list_any (is_for Read s) (lexical_scope xs) ≡ true
   lexical_spelled xs e = lexical_serves (with_names [] xs) ∙ ap (is_spelled s) (with_fresh [] xs) ∙ seen_or_new [] xs e
 
-  -- in the scope of a body, or its parameters have the spelling
+  -- a spelling of names is that of a parameter, or the scope of the body has it
   pub body_spelled : (v : Bool) (params xs : List Name) → is_spelled s xs ≡ true → (is_spelled s params || list_any (is_for (use_if v) s) (body_scope params xs)) ≡ true
   body_spelled v params xs e =
       ap (λ b. is_spelled s params || b) (body_serves v (drop (length params) (with_names params xs)) ∙ ap (is_spelled s) (ap (drop (length params)) (with_fresh params xs) ∙ drop_length params (fresh params xs)))

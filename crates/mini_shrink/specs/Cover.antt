@@ -33,8 +33,8 @@ abbrev pub use_if : Bool → Use
 use_if true = Hoisted
 use_if false = Read
 
--- which spellings the scopes around a place that belong to its body have, for a `var` (true) and for
--- any other name
+-- which spellings the scopes of its body have around a place: for a `var` (true), and for any other
+-- name
 abbrev pub Spellings : Type 0
 Spellings = Bool → List ℕ → Bool
 
@@ -61,12 +61,12 @@ is_numbered_by k = true
 abbrev pub begins_body : Shape → ℕ → ℕ → Bool
 begins_body h n i = is_numbered_by (numbering_of h n) && is_first_inside h i
 
--- what is spelled where it begins: nothing, but in a pattern the names that it binds
+-- what is spelled where a body begins: nothing, but in a pattern the names that the pattern binds
 abbrev pub spelled_first : Use → Shape → ℕ → Trees → Spellings
 spelled_first u h n ts v s = is_same_flag v (is_hoisting u) && is_spelled s (own_pattern_names h n ts)
 
--- each binder in a tree is spelled in a scope of its body: in one that the tree opens, or by what is
--- spelled around the tree
+-- each binder in a tree is spelled in a scope of its body: the tree opens the scope, or it stands
+-- around the tree
 unfoldable mutual
   pub is_covered : Use → Spellings → Tree → Bool
   is_covered u spells (node h xs n ts) = list_all (λ x. spells (is_hoisting u) x.spelling) (bound_at h xs) && are_covered (opened u h ts) (use_of h u) (begins_body h n) (spelled_first u h n ts) 0 spells ts
