@@ -18,7 +18,6 @@ use Rattle.mini_kept.proofs.Unbound.{Other, Unbound, AllUnbound, named}
 use Rattle.mini_shrink.specs.Pace.{Pace, Ends, Silent, Reads, AtMost, followed, kept_in, reads_if, ends_if, ends_after, all_followed, in_turn, Setting, below, pace, paces}
 use Rattle.mini_shrink.specs.Questions.{early}
 use Rattle.mini_shrink.proofs.Moments.{grouped, x, first_of, first_both, reads_first, ends_first, firsts, moved, joined_first, is_catch}
-use Rattle.mini_shrink.proofs.Paces.{same, AllAtMost}
 
 -- ---- answers without an end
 
