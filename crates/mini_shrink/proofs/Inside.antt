@@ -81,23 +81,24 @@ module _ (b s : ℕ) where
   abbrev pub Brings : (ℕ → List Binding) → (ℕ → Setting) → ℕ → Environment → Trees → Type 0
   Brings sc cs i env ts = Result (paces (early b s) sc cs i env ts) (firsts b s (moments_from (λ j. (cs j).used) (λ j. (cs j).around) i ts))
 
-  -- what children tell from each whose scope declares it on
-  abbrev pub Handles : Path → Bool → (ℕ → List Binding) → (ℕ → Setting) → ℕ → Environment → Trees → Type 0
-  Handles q d sc cs i env none = Unit {0}
-  Handles q d sc cs i env (t ▸ ts) = (AllOuter s q d sc (λ j. (cs j).used) i env (t ▸ ts) → times (symbol s) (symbols_in (sc i)) ≡ 1 → Brings sc cs i env (t ▸ ts)) × Handles q d sc cs (suc i) (env ++ sc i) ts
+  -- what children tell from each whose scope declares it on, where they have lexical names of it
+  abbrev pub Handles : Type 0 → Path → Bool → (ℕ → List Binding) → (ℕ → Setting) → ℕ → Environment → Trees → Type 0
+  Handles W q d sc cs i env none = Unit {0}
+  Handles W q d sc cs i env (t ▸ ts) =
+      (AllOuter s q sc (λ j. (cs j).used) i env (t ▸ ts) → times (symbol s) (symbols_in (sc i)) ≡ 1 → (W → is_among x (all_lexical_variables d (t ▸ ts)) ≡ true) → Brings sc cs i env (t ▸ ts)) × Handles W q d sc cs (suc i) (env ++ sc i) ts
 
-  pub unscoped : (q : Path) (d : Bool) (sc : ℕ → List Binding) (cs : ℕ → Setting) → ((j : ℕ) → sc j ≡ []) → (i : ℕ) (env : Environment) (ts : Trees) → Handles q d sc cs i env ts
-  unscoped q d sc cs o i env none = tt
-  unscoped q d sc cs o i env (t ▸ ts) = (λ a e. absurd (no_scope s (sc i) (o i) e), unscoped q d sc cs o (suc i) (env ++ sc i) ts)
+  pub unscoped : (W : Type 0) (q : Path) (d : Bool) (sc : ℕ → List Binding) (cs : ℕ → Setting) → ((j : ℕ) → sc j ≡ []) → (i : ℕ) (env : Environment) (ts : Trees) → Handles W q d sc cs i env ts
+  unscoped W q d sc cs o i env none = tt
+  unscoped W q d sc cs o i env (t ▸ ts) = (λ a e w. absurd (no_scope s (sc i) (o i) e), unscoped W q d sc cs o (suc i) (env ++ sc i) ts)
 
   -- no scope but the first
-  unscoped_later : (q : Path) (d : Bool) (sc : ℕ → List Binding) (cs : ℕ → Setting) → ((j : ℕ) → sc (suc j) ≡ []) → (i : ℕ) (env : Environment) (ts : Trees) → Handles q d sc cs (suc i) env ts
-  unscoped_later q d sc cs o i env none = tt
-  unscoped_later q d sc cs o i env (t ▸ ts) = (λ a e. absurd (no_scope s (sc (suc i)) (o i) e), unscoped_later q d sc cs o (suc i) (env ++ sc (suc i)) ts)
+  unscoped_later : (W : Type 0) (q : Path) (d : Bool) (sc : ℕ → List Binding) (cs : ℕ → Setting) → ((j : ℕ) → sc (suc j) ≡ []) → (i : ℕ) (env : Environment) (ts : Trees) → Handles W q d sc cs (suc i) env ts
+  unscoped_later W q d sc cs o i env none = tt
+  unscoped_later W q d sc cs o i env (t ▸ ts) = (λ a e w. absurd (no_scope s (sc (suc i)) (o i) e), unscoped_later W q d sc cs o (suc i) (env ++ sc (suc i)) ts)
 
-  unscoped_last : (q : Path) (d : Bool) (sc : ℕ → List Binding) (cs : ℕ → Setting) → ((j : ℕ) → sc (suc (suc j)) ≡ []) → (i : ℕ) (env : Environment) (ts : Trees) → Handles q d sc cs (suc (suc i)) env ts
-  unscoped_last q d sc cs o i env none = tt
-  unscoped_last q d sc cs o i env (t ▸ ts) = (λ a e. absurd (no_scope s (sc (suc (suc i))) (o i) e), unscoped_last q d sc cs o (suc i) (env ++ sc (suc (suc i))) ts)
+  unscoped_last : (W : Type 0) (q : Path) (d : Bool) (sc : ℕ → List Binding) (cs : ℕ → Setting) → ((j : ℕ) → sc (suc (suc j)) ≡ []) → (i : ℕ) (env : Environment) (ts : Trees) → Handles W q d sc cs (suc (suc i)) env ts
+  unscoped_last W q d sc cs o i env none = tt
+  unscoped_last W q d sc cs o i env (t ▸ ts) = (λ a e w. absurd (no_scope s (sc (suc (suc i))) (o i) e), unscoped_last W q d sc cs o (suc i) (env ++ sc (suc (suc i))) ts)
 
   hoisted_node : (u : Use) (env : Environment) (t : Tree) → Scoped u env t → times (symbol s) (symbols_in env) ≡ 0 → Other s (names_of declared.Hoisted t)
   hoisted_node u env t a e = names_other s Hoisted env (names_of declared.Hoisted t) (hoisted_scoped u env t a) e
@@ -108,17 +109,17 @@ module _ (b s : ℕ) where
 
   -- items from a child on whose scope declares it
   lone_entries : (strict : Bool) (ss : List Slot) → lone_slots ss ≡ true → (q : Path) (d : Bool) (sc : ℕ → List Binding) (cs : ℕ → Setting) → ((j : ℕ) → (cs j).ordered ≡ true) → ((j : ℕ) → is_alone (cs j).used ≡ false) → (i : ℕ) (env : Environment) (t : Tree) (ts : Trees) → fill strict (these ss) (t ▸ ts) ≡ true
-      → AllOuter s q d sc (λ j. (cs j).used) i env (t ▸ ts) → times (symbol s) (symbols_in (sc i)) ≡ 1 → Other s (names_of declared.Hoisted t) → Other s (all_names declared.Hoisted ts) → Brings sc cs i env (t ▸ ts)
+      → AllOuter s q sc (λ j. (cs j).used) i env (t ▸ ts) → times (symbol s) (symbols_in (sc i)) ≡ 1 → Other s (names_of declared.Hoisted t) → Other s (all_names declared.Hoisted ts) → Brings sc cs i env (t ▸ ts)
   unfolding pace moments
   lone_entries strict [] l q d sc cs o n i env t ts f a e h k = absurd (true≢false (sym f))
   lone_entries strict (p ∷ ss) l q d sc cs o n i env t ts f a e h k =
-      inr (item b s strict p (left (lone_slot p) (lone_slots ss) l) (cs i) (env ++ sc i) t (left (fits strict p t) (fill strict (these ss) ts) f) (o i) (n i) (inner_first s q d sc (λ j. (cs j).used) i env t ts a e) h,
-        these_items b s strict ss (right (lone_slot p) (lone_slots ss) l) sc cs o n (suc i) (env ++ sc i) ts (right (fits strict p t) (fill strict (these ss) ts) f) (inner_rest s q d sc (λ j. (cs j).used) i env t ts a e) k)
+      inr (item b s strict p (left (lone_slot p) (lone_slots ss) l) (cs i) (env ++ sc i) t (left (fits strict p t) (fill strict (these ss) ts) f) (o i) (n i) (inner_first s q sc (λ j. (cs j).used) i env t ts a e) h,
+        these_items b s strict ss (right (lone_slot p) (lone_slots ss) l) sc cs o n (suc i) (env ++ sc i) ts (right (fits strict p t) (fill strict (these ss) ts) f) (inner_rest s q sc (λ j. (cs j).used) i env t ts a e) k)
 
   -- ---- blocks and switches
 
   block_handles : (strict : Bool) (p : Slot) (q : Path) (d : Bool) (c : Setting) (env : Environment) (xs : List Name) (n : ℕ) (ts : Trees) → fits strict p (node shape.BlockStatement xs n ts) ≡ true → Scoped c.used env (node shape.BlockStatement xs n ts) → times (symbol s) (symbols_in env) ≡ 0
-      → Handles q d (opened c.used shape.BlockStatement ts) (below ((early b s).orders c shape.BlockStatement ts) c shape.BlockStatement n) 0 env ts
+      → Handles ⊥ q d (opened c.used shape.BlockStatement ts) (below ((early b s).orders c shape.BlockStatement ts) c shape.BlockStatement n) 0 env ts
   unfolding scopes_by names_of
   block_handles strict p q d c env xs n none f a z = tt
   block_handles strict p q d c env xs n (t ▸ ts) f a z =
@@ -127,14 +128,14 @@ module _ (b s : ℕ) where
       let sc = opened c.used h (t ▸ ts) in
       let w = usual_filled strict p h xs n (t ▸ ts) refl refl f in
       let hoisted = hoisted_node c.used env (node h xs n (t ▸ ts)) a z in
-      (λ y e. lone_entries strict w.slots w.ordered q d sc cs (λ j. lexical_among s (names_of declared.Lexical t) e) (λ j. refl) 0 env t ts w.filled y e (other_first b s (names_of declared.Hoisted t) (all_names declared.Hoisted ts) hoisted) (other_rest b s (names_of declared.Hoisted t) (all_names declared.Hoisted ts) hoisted),
-        unscoped_later q d sc cs (λ j. refl) 0 (env ++ sc 0) ts)
+      (λ y e k. lone_entries strict w.slots w.ordered q d sc cs (λ j. lexical_among s (names_of declared.Lexical t) e) (λ j. refl) 0 env t ts w.filled y e (other_first b s (names_of declared.Hoisted t) (all_names declared.Hoisted ts) hoisted) (other_rest b s (names_of declared.Hoisted t) (all_names declared.Hoisted ts) hoisted),
+        unscoped_later ⊥ q d sc cs (λ j. refl) 0 (env ++ sc 0) ts)
 
   switch_handles : (strict : Bool) (p : Slot) (q : Path) (d : Bool) (c : Setting) (env : Environment) (xs : List Name) (n : ℕ) (ts : Trees) → fits strict p (node shape.SwitchStatement xs n ts) ≡ true → Scoped c.used env (node shape.SwitchStatement xs n ts) → times (symbol s) (symbols_in env) ≡ 0
-      → Handles q d (opened c.used shape.SwitchStatement ts) (below ((early b s).orders c shape.SwitchStatement ts) c shape.SwitchStatement n) 0 env ts
+      → Handles ⊥ q d (opened c.used shape.SwitchStatement ts) (below ((early b s).orders c shape.SwitchStatement ts) c shape.SwitchStatement n) 0 env ts
   unfolding scopes_by names_of
   switch_handles strict p q d c env xs n none f a z = tt
-  switch_handles strict p q d c env xs n (t ▸ none) f a z = (λ y e. absurd (no_scope s [] refl e), tt)
+  switch_handles strict p q d c env xs n (t ▸ none) f a z = (λ y e k. absurd (no_scope s [] refl e), tt)
   switch_handles strict p q d c env xs n (t ▸ (u ▸ ts)) f a z =
       let h : Shape = shape.SwitchStatement in
       let all : Trees = t ▸ (u ▸ ts) in
@@ -142,12 +143,12 @@ module _ (b s : ℕ) where
       let sc = opened c.used h all in
       let w = usual_filled strict p h xs n all refl refl f in
       let hoisted = other_rest b s (names_of declared.Hoisted t) (names_of declared.Hoisted u ++ all_names declared.Hoisted ts) (hoisted_node c.used env (node h xs n all) a z) in
-      (λ y e. absurd (no_scope s [] refl e),
-        (λ y e. from w.slots w.ordered w.filled cs sc hoisted (λ j. lexical_among s (names_of declared.Lexical u) e) y e (λ j. refl),
-          unscoped_last q d sc cs (λ j. refl) 0 ((env ++ sc 0) ++ sc 1) ts))
+      (λ y e k. absurd (no_scope s [] refl e),
+        (λ y e k. from w.slots w.ordered w.filled cs sc hoisted (λ j. lexical_among s (names_of declared.Lexical u) e) y e (λ j. refl),
+          unscoped_last ⊥ q d sc cs (λ j. refl) 0 ((env ++ sc 0) ++ sc 1) ts))
     where
       from : (ss : List Slot) → lone_slots ss ≡ true → fill strict (these ss) (t ▸ (u ▸ ts)) ≡ true → (cs : ℕ → Setting) (sc : ℕ → List Binding) → Other s (names_of declared.Hoisted u ++ all_names declared.Hoisted ts) → ((j : ℕ) → (cs j).ordered ≡ true)
-          → AllOuter s q d sc (λ j. (cs j).used) 1 (env ++ sc 0) (u ▸ ts) → times (symbol s) (symbols_in (sc 1)) ≡ 1 → ((j : ℕ) → is_alone (cs j).used ≡ false) → Brings sc cs 1 (env ++ sc 0) (u ▸ ts)
+          → AllOuter s q sc (λ j. (cs j).used) 1 (env ++ sc 0) (u ▸ ts) → times (symbol s) (symbols_in (sc 1)) ≡ 1 → ((j : ℕ) → is_alone (cs j).used ≡ false) → Brings sc cs 1 (env ++ sc 0) (u ▸ ts)
       from [] l g cs sc h o y e n = absurd (true≢false (sym g))
       from (r ∷ ss) l g cs sc h o y e n = lone_entries strict ss (right (lone_slot r) (lone_slots ss) l) q d sc cs o n 1 (env ++ sc 0) u ts (right (fits strict r t) (fill strict (these ss) (u ▸ ts)) g) y e (other_first b s (names_of declared.Hoisted u) (all_names declared.Hoisted ts) h) (other_rest b s (names_of declared.Hoisted u) (all_names declared.Hoisted ts) h)
 
@@ -158,7 +159,7 @@ module _ (b s : ℕ) where
       child_still b s c env t (part_unbound s strict (one (a_statement nested)) c.used env t f refl (λ z. refl) (no_function_body strict (one (a_statement nested)) t refl f) a (nothing_other s (names_of declared.Bound t) (owes strict (one (a_statement nested)) (of declared.Bound) t f refl refl)) (λ z. absurd (true≢false (sym e ∙ z))) h)
 
   for_handles : (strict : Bool) (q : Path) (d : Bool) (c : Setting) (env : Environment) (xs : List Name) (n : ℕ) (ts : Trees) → ForParts strict ts → Scoped c.used env (node shape.ForStatement xs n ts) → times (symbol s) (symbols_in env) ≡ 0
-      → Handles q d (opened c.used shape.ForStatement ts) (below ((early b s).orders c shape.ForStatement ts) c shape.ForStatement n) 0 env ts
+      → Handles ⊥ q d (opened c.used shape.ForStatement ts) (below ((early b s).orders c shape.ForStatement ts) c shape.ForStatement n) 0 env ts
   unfolding scopes_by names_of pace moments
   for_handles strict q d c env xs n (t ▸ (u ▸ (v ▸ (w ▸ none)))) f a z =
       let h : Shape = shape.ForStatement in
@@ -170,20 +171,20 @@ module _ (b s : ℕ) where
       let o2 = other_rest b s (names_of declared.Hoisted t) (names_of declared.Hoisted u ++ (names_of declared.Hoisted v ++ (names_of declared.Hoisted w ++ []))) o1 in
       let o3 = other_rest b s (names_of declared.Hoisted u) (names_of declared.Hoisted v ++ (names_of declared.Hoisted w ++ [])) o2 in
       let o4 = other_rest b s (names_of declared.Hoisted v) (names_of declared.Hoisted w ++ []) o3 in
-      (λ y e. let o = lexical_among s (names_of declared.Lexical t) e in
-          let r1 = inner_rest s q d sc us 0 env t (u ▸ (v ▸ (w ▸ none))) y e in
+      (λ y e k. let o = lexical_among s (names_of declared.Lexical t) e in
+          let r1 = inner_rest s q sc us 0 env t (u ▸ (v ▸ (w ▸ none))) y e in
           let e1 : Environment = env ++ sc 0 in
           let r2 = sound_rest s sc us 1 e1 u (v ▸ (w ▸ none)) r1 in
           let r3 = sound_rest s sc us 2 (e1 ++ []) v (w ▸ none) r2 in
-          inr (item b s strict f.0.slot f.0.lone (cs 0) e1 t f.0.fit o refl (inner_first s q d sc us 0 env t (u ▸ (v ▸ (w ▸ none))) y e) (other_first b s (names_of declared.Hoisted t) _ o1),
+          inr (item b s strict f.0.slot f.0.lone (cs 0) e1 t f.0.fit o refl (inner_first s q sc us 0 env t (u ▸ (v ▸ (w ▸ none))) y e) (other_first b s (names_of declared.Hoisted t) _ o1),
             (item b s strict f.1.0.slot f.1.0.lone (cs 1) (e1 ++ []) u f.1.0.fit o refl (sound_first s sc us 1 e1 u (v ▸ (w ▸ none)) r1) (other_first b s (names_of declared.Hoisted u) _ o2),
               (item b s strict f.1.1.0.slot f.1.1.0.lone (cs 2) ((e1 ++ []) ++ []) v f.1.1.0.fit o refl (sound_first s sc us 2 (e1 ++ []) v (w ▸ none) r2) (other_first b s (names_of declared.Hoisted v) _ o3),
                 (alone_entry strict (cs 3) (((e1 ++ []) ++ []) ++ []) w f.1.1.1 refl (sound_first s sc us 3 ((e1 ++ []) ++ []) w none r3) (other_first b s (names_of declared.Hoisted w) [] o4), tt)))),
-        unscoped_later q d sc cs (λ j. refl) 0 (env ++ sc 0) (u ▸ (v ▸ (w ▸ none))))
+        unscoped_later ⊥ q d sc cs (λ j. refl) 0 (env ++ sc 0) (u ▸ (v ▸ (w ▸ none))))
   for_handles strict q d c env xs n ts f a z = absurd f
 
   for_in_handles : (strict : Bool) (q : Path) (d : Bool) (c : Setting) (env : Environment) (xs : List Name) (n : ℕ) (ts : Trees) → EachParts strict ts → Scoped c.used env (node shape.ForInStatement xs n ts) → times (symbol s) (symbols_in env) ≡ 0
-      → Handles q d (opened c.used shape.ForInStatement ts) (below ((early b s).orders c shape.ForInStatement ts) c shape.ForInStatement n) 0 env ts
+      → Handles ⊥ q d (opened c.used shape.ForInStatement ts) (below ((early b s).orders c shape.ForInStatement ts) c shape.ForInStatement n) 0 env ts
   unfolding scopes_by names_of pace moments
   for_in_handles strict q d c env xs n (t ▸ (u ▸ (w ▸ none))) f a z =
       let h : Shape = shape.ForInStatement in
@@ -194,18 +195,18 @@ module _ (b s : ℕ) where
       let o1 = hoisted_node c.used env (node h xs n ts) a z in
       let o2 = other_rest b s (names_of declared.Hoisted t) (names_of declared.Hoisted u ++ (names_of declared.Hoisted w ++ [])) o1 in
       let o3 = other_rest b s (names_of declared.Hoisted u) (names_of declared.Hoisted w ++ []) o2 in
-      (λ y e. let o = lexical_among s (names_of declared.Lexical t) e in
-          let r1 = inner_rest s q d sc us 0 env t (u ▸ (w ▸ none)) y e in
+      (λ y e k. let o = lexical_among s (names_of declared.Lexical t) e in
+          let r1 = inner_rest s q sc us 0 env t (u ▸ (w ▸ none)) y e in
           let e1 : Environment = env ++ sc 0 in
           let r2 = sound_rest s sc us 1 e1 u (w ▸ none) r1 in
-          inr (item b s strict f.0.slot f.0.lone (cs 0) e1 t f.0.fit o refl (inner_first s q d sc us 0 env t (u ▸ (w ▸ none)) y e) (other_first b s (names_of declared.Hoisted t) _ o1),
+          inr (item b s strict f.0.slot f.0.lone (cs 0) e1 t f.0.fit o refl (inner_first s q sc us 0 env t (u ▸ (w ▸ none)) y e) (other_first b s (names_of declared.Hoisted t) _ o1),
             (item b s strict f.1.0.slot f.1.0.lone (cs 1) (e1 ++ []) u f.1.0.fit o refl (sound_first s sc us 1 e1 u (w ▸ none) r1) (other_first b s (names_of declared.Hoisted u) _ o2),
               (alone_entry strict (cs 2) ((e1 ++ []) ++ []) w f.1.1 refl (sound_first s sc us 2 (e1 ++ []) w none r2) (other_first b s (names_of declared.Hoisted w) [] o3), tt))),
-        unscoped_later q d sc cs (λ j. refl) 0 (env ++ sc 0) (u ▸ (w ▸ none)))
+        unscoped_later ⊥ q d sc cs (λ j. refl) 0 (env ++ sc 0) (u ▸ (w ▸ none)))
   for_in_handles strict q d c env xs n ts f a z = absurd f
 
   for_of_handles : (strict : Bool) (q : Path) (d : Bool) (c : Setting) (env : Environment) (xs : List Name) (n : ℕ) (ts : Trees) → EachParts strict ts → Scoped c.used env (node shape.ForOfStatement xs n ts) → times (symbol s) (symbols_in env) ≡ 0
-      → Handles q d (opened c.used shape.ForOfStatement ts) (below ((early b s).orders c shape.ForOfStatement ts) c shape.ForOfStatement n) 0 env ts
+      → Handles ⊥ q d (opened c.used shape.ForOfStatement ts) (below ((early b s).orders c shape.ForOfStatement ts) c shape.ForOfStatement n) 0 env ts
   unfolding scopes_by names_of pace moments
   for_of_handles strict q d c env xs n (t ▸ (u ▸ (w ▸ none))) f a z =
       let h : Shape = shape.ForOfStatement in
@@ -216,14 +217,14 @@ module _ (b s : ℕ) where
       let o1 = hoisted_node c.used env (node h xs n ts) a z in
       let o2 = other_rest b s (names_of declared.Hoisted t) (names_of declared.Hoisted u ++ (names_of declared.Hoisted w ++ [])) o1 in
       let o3 = other_rest b s (names_of declared.Hoisted u) (names_of declared.Hoisted w ++ []) o2 in
-      (λ y e. let o = lexical_among s (names_of declared.Lexical t) e in
-          let r1 = inner_rest s q d sc us 0 env t (u ▸ (w ▸ none)) y e in
+      (λ y e k. let o = lexical_among s (names_of declared.Lexical t) e in
+          let r1 = inner_rest s q sc us 0 env t (u ▸ (w ▸ none)) y e in
           let e1 : Environment = env ++ sc 0 in
           let r2 = sound_rest s sc us 1 e1 u (w ▸ none) r1 in
-          inr (item b s strict f.0.slot f.0.lone (cs 0) e1 t f.0.fit o refl (inner_first s q d sc us 0 env t (u ▸ (w ▸ none)) y e) (other_first b s (names_of declared.Hoisted t) _ o1),
+          inr (item b s strict f.0.slot f.0.lone (cs 0) e1 t f.0.fit o refl (inner_first s q sc us 0 env t (u ▸ (w ▸ none)) y e) (other_first b s (names_of declared.Hoisted t) _ o1),
             (item b s strict f.1.0.slot f.1.0.lone (cs 1) (e1 ++ []) u f.1.0.fit o refl (sound_first s sc us 1 e1 u (w ▸ none) r1) (other_first b s (names_of declared.Hoisted u) _ o2),
               (alone_entry strict (cs 2) ((e1 ++ []) ++ []) w f.1.1 refl (sound_first s sc us 2 (e1 ++ []) w none r2) (other_first b s (names_of declared.Hoisted w) [] o3), tt))),
-        unscoped_later q d sc cs (λ j. refl) 0 (env ++ sc 0) (u ▸ (w ▸ none)))
+        unscoped_later ⊥ q d sc cs (λ j. refl) 0 (env ++ sc 0) (u ▸ (w ▸ none)))
   for_of_handles strict q d c env xs n ts f a z = absurd f
 
   -- ---- a declaration that stands alone
@@ -240,22 +241,22 @@ module _ (b s : ℕ) where
   unfolding scopes_by
   alone_among u t g e = ap (λ a. is_among x (if a then names_of declared.Bound t else [])) g ∙ lexical_among s (names_of declared.Bound t) (sym (ap (λ a. times (symbol s) (symbols_in (at_or_empty (scopes_by (if a then opening.Bound else opening.Nothing) (t ▸ none)) 0))) g) ∙ e)
 
-  let_handles : (strict : Bool) (q : Path) (d : Bool) (c : Setting) (env : Environment) (n : ℕ) (ts : Trees) → OnlyPart strict (many a_declarator) ts → Handles q d (opened c.used (shape.VariableDeclaration Let) ts) (below ((early b s).orders c (shape.VariableDeclaration Let) ts) c (shape.VariableDeclaration Let) n) 0 env ts
+  let_handles : (strict : Bool) (q : Path) (d : Bool) (c : Setting) (env : Environment) (n : ℕ) (ts : Trees) → OnlyPart strict (many a_declarator) ts → Handles ⊥ q d (opened c.used (shape.VariableDeclaration Let) ts) (below ((early b s).orders c (shape.VariableDeclaration Let) ts) c (shape.VariableDeclaration Let) n) 0 env ts
   unfolding pace moments
   let_handles strict q d c env n (t ▸ none) f =
       let h : Shape = shape.VariableDeclaration Let in
       let cs = below ((early b s).orders c h (t ▸ none)) c h n in
       let sc = opened c.used h (t ▸ none) in
-      (λ y e. inr (item b s strict (many a_declarator) refl (cs 0) (env ++ sc 0) t f (or_second c.ordered _ (alone_among c.used t (alone_or c.used (t ▸ none) e) e)) refl (inner_first s q d sc (λ j. (cs j).used) 0 env t none y e) (nothing_other s (names_of declared.Hoisted t) (owes strict (many a_declarator) (of declared.Hoisted) t f refl refl)), tt), tt)
+      (λ y e k. inr (item b s strict (many a_declarator) refl (cs 0) (env ++ sc 0) t f (or_second c.ordered _ (alone_among c.used t (alone_or c.used (t ▸ none) e) e)) refl (inner_first s q sc (λ j. (cs j).used) 0 env t none y e) (nothing_other s (names_of declared.Hoisted t) (owes strict (many a_declarator) (of declared.Hoisted) t f refl refl)), tt), tt)
   let_handles strict q d c env n ts f = absurd f
 
-  const_handles : (strict : Bool) (q : Path) (d : Bool) (c : Setting) (env : Environment) (n : ℕ) (ts : Trees) → OnlyPart strict (many a_declarator) ts → Handles q d (opened c.used (shape.VariableDeclaration Const) ts) (below ((early b s).orders c (shape.VariableDeclaration Const) ts) c (shape.VariableDeclaration Const) n) 0 env ts
+  const_handles : (strict : Bool) (q : Path) (d : Bool) (c : Setting) (env : Environment) (n : ℕ) (ts : Trees) → OnlyPart strict (many a_declarator) ts → Handles ⊥ q d (opened c.used (shape.VariableDeclaration Const) ts) (below ((early b s).orders c (shape.VariableDeclaration Const) ts) c (shape.VariableDeclaration Const) n) 0 env ts
   unfolding pace moments
   const_handles strict q d c env n (t ▸ none) f =
       let h : Shape = shape.VariableDeclaration Const in
       let cs = below ((early b s).orders c h (t ▸ none)) c h n in
       let sc = opened c.used h (t ▸ none) in
-      (λ y e. inr (item b s strict (many a_declarator) refl (cs 0) (env ++ sc 0) t f (or_second c.ordered _ (alone_among c.used t (alone_or c.used (t ▸ none) e) e)) refl (inner_first s q d sc (λ j. (cs j).used) 0 env t none y e) (nothing_other s (names_of declared.Hoisted t) (owes strict (many a_declarator) (of declared.Hoisted) t f refl refl)), tt), tt)
+      (λ y e k. inr (item b s strict (many a_declarator) refl (cs 0) (env ++ sc 0) t f (or_second c.ordered _ (alone_among c.used t (alone_or c.used (t ▸ none) e) e)) refl (inner_first s q sc (λ j. (cs j).used) 0 env t none y e) (nothing_other s (names_of declared.Hoisted t) (owes strict (many a_declarator) (of declared.Hoisted) t f refl refl)), tt), tt)
   const_handles strict q d c env n ts f = absurd f
 
   -- ---- programs and static blocks
@@ -269,25 +270,25 @@ module _ (b s : ℕ) where
       or_nothing false e = e
 
   program_handles : (strict : Bool) (q : Path) (c : Setting) (env : Environment) (m : Bool) (ds : List (List ℕ)) (n : ℕ) (ts : Trees) → BodyPart strict ts → clashing [] (scope_declarations (shape.Program m ds) q ts) ≡ []
-      → Handles q (not m) (opened c.used (shape.Program m ds) ts) (below ((early b s).orders c (shape.Program m ds) ts) c (shape.Program m ds) n) 0 env ts
+      → Handles (Unit {0}) q (not m) (opened c.used (shape.Program m ds) ts) (below ((early b s).orders c (shape.Program m ds) ts) c (shape.Program m ds) n) 0 env ts
   unfolding scopes_by pace moments scope_declarations
   program_handles strict q c env m ds n (t ▸ none) f z =
       let h : Shape = shape.Program m ds in
       let cs = below ((early b s).orders c h (t ▸ none)) c h n in
       let sc = opened c.used h (t ▸ none) in
-      (λ y e. let inner = inner_first s q (not m) sc (λ j. (cs j).used) 0 env t none y e in
-          let w = listing s (not m) strict f.depth (env ++ sc 0) t f.fit inner (inner_once s q (not m) sc (λ j. (cs j).used) 0 env t none y e) (among_only (not m) t y.lexical) in
+      (λ y e k. let inner = inner_first s q sc (λ j. (cs j).used) 0 env t none y e in
+          let w = listing s (not m) strict f.depth (env ++ sc 0) t f.fit inner (inner_once s q sc (λ j. (cs j).used) 0 env t none y e) (among_only (not m) t (k tt)) in
           inr (item b s strict (many (a_statement f.depth)) refl (cs 0) (env ++ sc 0) t f.fit w.lexical refl inner (w.hoisted (q ++ 0 ∷ []) [] z), tt), tt)
   program_handles strict q c env m ds n ts f z = absurd f
 
   static_handles : (strict : Bool) (q : Path) (c : Setting) (env : Environment) (n : ℕ) (ts : Trees) → BodyPart strict ts → clashing [] (scope_declarations shape.StaticBlock q ts) ≡ []
-      → Handles q true (opened c.used shape.StaticBlock ts) (below ((early b s).orders c shape.StaticBlock ts) c shape.StaticBlock n) 0 env ts
+      → Handles (Unit {0}) q true (opened c.used shape.StaticBlock ts) (below ((early b s).orders c shape.StaticBlock ts) c shape.StaticBlock n) 0 env ts
   unfolding scopes_by pace moments scope_declarations
   static_handles strict q c env n (t ▸ none) f z =
       let h : Shape = shape.StaticBlock in
       let cs = below ((early b s).orders c h (t ▸ none)) c h n in
       let sc = opened c.used h (t ▸ none) in
-      (λ y e. let inner = inner_first s q true sc (λ j. (cs j).used) 0 env t none y e in
-          let w = listing s true strict f.depth (env ++ sc 0) t f.fit inner (inner_once s q true sc (λ j. (cs j).used) 0 env t none y e) (among_only true t y.lexical) in
+      (λ y e k. let inner = inner_first s q sc (λ j. (cs j).used) 0 env t none y e in
+          let w = listing s true strict f.depth (env ++ sc 0) t f.fit inner (inner_once s q sc (λ j. (cs j).used) 0 env t none y e) (among_only true t (k tt)) in
           inr (item b s strict (many (a_statement f.depth)) refl (cs 0) (env ++ sc 0) t f.fit w.lexical refl inner (w.hoisted (q ++ 0 ∷ []) [] z), tt), tt)
   static_handles strict q c env n ts f z = absurd f

@@ -221,7 +221,7 @@ pub record Outer (s : ℕ) (q : Path) (d : Bool) (u : Use) (env : Environment) (
   pub names : early_names q t ≡ []
   pub lexical : is_among (by_symbol s) (lexical_variables d t) ≡ true
 
-pub record AllOuter (s : ℕ) (q : Path) (d : Bool) (sc : ℕ → List Binding) (us : ℕ → Use) (i : ℕ) (env : Environment) (ts : Trees) : Type 0 where
+pub record AllOuter (s : ℕ) (q : Path) (sc : ℕ → List Binding) (us : ℕ → Use) (i : ℕ) (env : Environment) (ts : Trees) : Type 0 where
   pub scoped : AllScoped sc us i env ts
   pub free : times (symbol s) (symbols_in env) ≡ 0
   pub all : times None (declared_from sc us i ts) ≡ 0
@@ -229,10 +229,9 @@ pub record AllOuter (s : ℕ) (q : Path) (d : Bool) (sc : ℕ → List Binding) 
   pub unpatterned : AllUnpatterned s ts
   pub regular : all_regular s ts ≡ true
   pub names : all_early_names q i ts ≡ []
-  pub lexical : is_among (by_symbol s) (all_lexical_variables d ts) ≡ true
 
 -- behind the scope that declares it: the first child, and the others
-module _ (s : ℕ) (q : Path) (d : Bool) (sc : ℕ → List Binding) (us : ℕ → Use) (i : ℕ) (env : Environment) (t : Tree) (ts : Trees) (a : AllOuter s q d sc us i env (t ▸ ts)) (e : times (symbol s) (symbols_in (sc i)) ≡ 1) where
+module _ (s : ℕ) (q : Path) (sc : ℕ → List Binding) (us : ℕ → Use) (i : ℕ) (env : Environment) (t : Tree) (ts : Trees) (a : AllOuter s q sc us i env (t ▸ ts)) (e : times (symbol s) (symbols_in (sc i)) ≡ 1) where
   pub inner_first : Sound s (us i) (env ++ sc i) t
   unfolding Scoped declared_in is_regular
   inner_first =
