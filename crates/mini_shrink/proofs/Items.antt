@@ -100,7 +100,7 @@ module _ (b s : ℕ) where
   pub unbound_settled : (t : Tree) → Unbound s t → Settled t
   unbound_settled (node h xs n ts) a = (ends_none b s h ts a.1, a.1)
 
-  settled_still : (c : Setting) (env : Environment) (t : Tree) → Settled t → AtMost (kept_in (pace (early b s) c env t)) (first_of b s (moments c.used c.around t))
+  pub settled_still : (c : Setting) (env : Environment) (t : Tree) → Settled t → AtMost (kept_in (pace (early b s) c env t)) (first_of b s (moments c.used c.around t))
   settled_still c env (node h xs n ts) a = node_still b s c env h xs n ts a.0 (each_still b s (opened c.used h ts) (below ((early b s).orders c h ts) c h n) 0 env ts a.1)
 
   unordered_ends : (c : Setting) (t : Tree) → c.ordered ≡ false → (early b s).ends c t ≡ false

@@ -33,3 +33,4 @@ pub mod Homes
 mod Bodies
 mod Outside
 mod Inside
+mod Earliest

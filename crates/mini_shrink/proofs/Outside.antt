@@ -43,7 +43,7 @@ times_joined k env bs = ap (times (symbol k)) (map-append (λ (b : Binding). b.n
 
 -- ---- what nothing mentions
 
-abbrev mentioned_at : Shape → List Name → List Name
+abbrev pub mentioned_at : Shape → List Name → List Name
 mentioned_at shape.Identifier xs = xs
 mentioned_at shape.BindingIdentifier xs = xs
 mentioned_at h xs = []
