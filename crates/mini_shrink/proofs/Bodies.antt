@@ -8,7 +8,7 @@ use Rattle.mini_model.specs.declared.shape.Shape.{Shape}
 use Rattle.mini_model.specs.declared.shape.Shape.TheVariants as shape
 use Rattle.mini_model.specs.Tree.{Tree, Trees, node, none, ◌▸◌, shape_of}
 use Rattle.mini_model.specs.Weight.{same_text}
-use Rattle.mini_accept.specs.WellShaped.{Depth, in_module, in_body, nested, a_statement, a_binding, Slot, one, one_or_absent, many, each, filling_by, slots_of, none_if, in_depth, is_sloppy_function, is_same_flag, is_function_body, is_strict_in, is_whole, fits, fill}
+use Rattle.mini_accept.specs.WellShaped.{Depth, in_module, in_body, nested, a_statement, a_binding, one, one_or_absent, many, each, filling_by, slots_of, none_if, in_depth, is_sloppy_function, is_same_flag, is_strict_in, is_whole, fits, fill}
 use Rattle.mini_laws.specs.declared.names.Use.{Use}
 use Rattle.mini_laws.specs.declared.names.Use.TheVariants.{Read, Hoisted}
 use Rattle.mini_laws.specs.declared.names.Binding.{Binding}
@@ -17,11 +17,11 @@ use Rattle.mini_laws.specs.declared.names.Declared.TheVariants as declared
 use Rattle.mini_laws.specs.declared.names.Declared.{Declared}
 use Rattle.mini_laws.specs.DeclaredNames.{names_of, all_names, is_spelled}
 use Rattle.mini_laws.specs.Early.{Path, declarations, is_function_shape, statement_declarations, holds_statements, body_declarations, all_body_declarations, own_declarations, clashes, clashes_any, clashing}
-use Rattle.mini_laws.specs.Foreign.{is_body_by, own_lexical, lexical_variables, all_lexical_variables}
+use Rattle.mini_laws.specs.Foreign.{lexical_variables, all_lexical_variables}
 use Rattle.mini_laws.specs.Mentions.{same_variable, is_among}
 use Rattle.mini_laws.specs.Resolved.{Environment, serves, is_for, or_else, own_symbol, symbol_of}
-use Rattle.mini_laws.specs.Scoped.{NamesScoped, Scoped, AllScoped}
-use Rattle.mini_laws.specs.Scopes.{use_of, is_alone, opened}
+use Rattle.mini_laws.specs.Scoped.{NamesScoped}
+use Rattle.mini_laws.specs.Scopes.{use_of, opened}
 use Rattle.mini_laws.specs.ScopeList.{by_symbol}
 use Rattle.mini_laws.specs.Symbols.{symbols_in, is_same, times}
 use Rattle.mini_kept.specs.KeepsNames.{unplaced}
@@ -32,8 +32,7 @@ use Rattle.mini_kept.proofs.Hoisting.{hoisted_scoped}
 use Rattle.mini_kept.proofs.SameScopes.{same_texts, text_itself}
 use Rattle.mini_kept.proofs.Unbound.{Other, both}
 use Rattle.mini_kept.proofs.Unplaced.{declared_is}
-use Rattle.mini_shrink.proofs.Alone.{lone_none}
-use Rattle.mini_shrink.proofs.Covered.{none_among, by_same, same_by, or_unsame, unfound}
+use Rattle.mini_shrink.proofs.Covered.{none_among, unfound}
 use Rattle.mini_shrink.proofs.Debts.{of}
 use Rattle.mini_shrink.proofs.Finding.{any_both}
 use Rattle.mini_shrink.proofs.Items.{AllSound, owes, nothing_other, sound_below, sound_first, sound_rest, function_unbound_in}

@@ -40,7 +40,7 @@ use Rattle.mini_shrink.proofs.Silence.{silent}
 use Rattle.mini_shrink.proofs.Paces.{AllAtMost, both as follow_both, turned, same}
 use Rattle.mini_shrink.proofs.Regulars.{ordered_slots}
 use Rattle.mini_shrink.proofs.Slotted.{is_bare, filled, variable_there, variable_parts, default_there, default_parts, lone_refused, function_there, class_there, declarator_there, no_function_body, FunctionParts, function_parts, ClassParts, class_parts, DeclaratorParts, declarator_parts, Filled, lone_filled}
-use Rattle.mini_shrink.proofs.Unended.{and_either, turn_unended, kept_unended, other_among, AllLess, Children, node_still, node_ended, ends_none, still, each_still, child_still}
+use Rattle.mini_shrink.proofs.Unended.{and_either, turn_unended, unended, kept_unended, other_among, AllLess, Children, node_still, node_ended, ends_none, still, each_still, child_still}
 
 -- what a slot owes nothing of the part in it has none of
 pub owes : (strict : Bool) (p : Slot) (d : Debt) (t : Tree) → fits strict p t ≡ true → holds_nothing_slot p ≡ true → slot_owes d p ≡ false → owed d t ≡ []
@@ -100,7 +100,7 @@ module _ (b s : ℕ) where
   pub unbound_settled : (t : Tree) → Unbound s t → Settled t
   unbound_settled (node h xs n ts) a = (ends_none b s h ts a.1, a.1)
 
-  settled_still : (c : Setting) (env : Environment) (t : Tree) → Settled t → AtMost (kept_in (pace (early b s) c env t)) (first_of b s (moments c.used c.around t))
+  pub settled_still : (c : Setting) (env : Environment) (t : Tree) → Settled t → AtMost (kept_in (pace (early b s) c env t)) (first_of b s (moments c.used c.around t))
   settled_still c env (node h xs n ts) a = node_still b s c env h xs n ts a.0 (each_still b s (opened c.used h ts) (below ((early b s).orders c h ts) c h n) 0 env ts a.1)
 
   unordered_ends : (c : Setting) (t : Tree) → c.ordered ≡ false → (early b s).ends c t ≡ false
@@ -194,19 +194,26 @@ module _ (b s : ℕ) where
   loud_ends : (c : Setting) (t : Tree) → c.ordered ≡ true → is_loud t ≡ true → (early b s).ends c t ≡ true
   loud_ends c t o e = ap (λ d. d && is_loud t) o ∙ e
 
-  -- a node that hands the list on
-  handed : (c : Setting) (env : Environment) (h : Shape) (xs : List Name) (n : ℕ) (ts : Trees) → c.ordered ≡ true → is_among x (ended_by h ts) ≡ false → Entries (opened c.used h ts) (below ((early b s).orders c h ts) c h n) 0 env ts → is_loud (node h xs n ts) ≡ true → Entry c env (node h xs n ts)
+  -- a node with which nothing ends
+  pub node_at_most : (c : Setting) (env : Environment) (h : Shape) (xs : List Name) (n : ℕ) (ts : Trees) → is_among x (ended_by h ts) ≡ false → Entries (opened c.used h ts) (below ((early b s).orders c h ts) c h n) 0 env ts → AtMost (pace (early b s) c env (node h xs n ts)) (first_of b s (moments c.used c.around (node h xs n ts)))
   unfolding pace moments
-  handed c env h xs n ts o e a l =
+  node_at_most c env h xs n ts e a =
       let own = (early b s).before c env h xs n ts in
       let ps = paces (early b s) (opened c.used h ts) (below ((early b s).orders c h ts) c h n) 0 env ts in
       let ls = moments_from (use_of h c.used) (around_child h c.around n) 0 ts in
       let reads = reads_at (own_mentions c.used c.around h xs) in
+      subst (AtMost (pace (early b s) c env (node h xs n ts))) (sym (first_both b s reads (in_order h ls (ends_at c.around (ended_by h ts))) ∙ ap (followed (first_of b s reads)) (turn_unended b s h ls c.around (ended_by h ts) e)))
+      (follow_both own (first_of b s reads) (in_turn h ps) (in_turn h (firsts b s ls)) (same own (first_of b s reads) (sym (reads_first b s (own_mentions c.used c.around h xs)))) (turned h ps (firsts b s ls) a))
+
+  -- one that hands the list on
+  handed : (c : Setting) (env : Environment) (h : Shape) (xs : List Name) (n : ℕ) (ts : Trees) → c.ordered ≡ true → is_among x (ended_by h ts) ≡ false → Entries (opened c.used h ts) (below ((early b s).orders c h ts) c h n) 0 env ts → is_loud (node h xs n ts) ≡ true → Entry c env (node h xs n ts)
+  handed c env h xs n ts o e a l =
       let q = pace (early b s) c env (node h xs n ts) in
       let m = first_of b s (moments c.used c.around (node h xs n ts)) in
-      subst (λ d. AtMost (ends_after d q) m) (sym (loud_ends c (node h xs n ts) o l))
-      (end_over q m (subst (AtMost q) (sym (first_both b s reads (in_order h ls (ends_at c.around (ended_by h ts))) ∙ ap (followed (first_of b s reads)) (turn_unended b s h ls c.around (ended_by h ts) e)))
-      (follow_both own (first_of b s reads) (in_turn h ps) (in_turn h (firsts b s ls)) (same own (first_of b s reads) (sym (reads_first b s (own_mentions c.used c.around h xs)))) (turned h ps (firsts b s ls) a))))
+      subst (λ d. AtMost (ends_after d q) m) (sym (loud_ends c (node h xs n ts) o l)) (end_over q m (node_at_most c env h xs n ts e a))
+
+  pub settled_entry : (c : Setting) (env : Environment) (t : Tree) → c.ordered ≡ false → Settled t → Entry c env t
+  settled_entry c env t o a = subst (λ e. AtMost (ends_after e (pace (early b s) c env t)) (first_of b s (moments c.used c.around t))) (sym (unordered_ends c t o)) (unended (pace (early b s) c env t) (first_of b s (moments c.used c.around t)) (settled_still c env t a))
 
   -- one with which the declaration ends
   ended : (c : Setting) (env : Environment) (h : Shape) (xs : List Name) (n : ℕ) (ts : Trees) → c.ordered ≡ true → is_catch b s h ≡ false → is_among x (ended_by h ts) ≡ true → (early b s).orders c h ts ≡ false → AllSettled ts → is_loud (node h xs n ts) ≡ true → Entry c env (node h xs n ts)
@@ -222,7 +229,7 @@ module _ (b s : ℕ) where
   holds_nothing (an_inner c) e = absurd (true≢false (sym e))
   holds_nothing c e = refl
 
-  lone_holds : (p : Slot) → lone_slot p ≡ true → holds_nothing_slot p ≡ true
+  pub lone_holds : (p : Slot) → lone_slot p ≡ true → holds_nothing_slot p ≡ true
   lone_holds (one c) e = holds_nothing c e
   lone_holds (one_or_absent c) e = holds_nothing c e
   lone_holds (many (a_statement d)) e = refl
@@ -257,11 +264,11 @@ module _ (b s : ℕ) where
   not_body : (strict : Bool) (c : Class) (xs : List Name) (n : ℕ) (ts : Trees) → slots_of strict c shape.FunctionBody ≡ None → fits strict (one_or_absent c) (node shape.FunctionBody xs n ts) ≡ true → ⊥
   not_body strict c xs n ts q e = refused_here strict (one_or_absent c) shape.FunctionBody xs n ts (ap filling_by q) e
 
-  parent_no_body : (strict : Bool) (t : Tree) → fits strict (one_or_absent (an_inner an_expression)) t ≡ true → is_function_body t ≡ false
+  pub parent_no_body : (strict : Bool) (t : Tree) → fits strict (one_or_absent (an_inner an_expression)) t ≡ true → is_function_body t ≡ false
   parent_no_body strict (node shape.FunctionBody xs n ts) e = absurd (not_body strict (an_inner an_expression) xs n ts refl e)
   parent_no_body strict (node h xs n ts) e = refl
 
-  members_no_body : (strict : Bool) (t : Tree) → fits strict (one a_class_body) t ≡ true → is_function_body t ≡ false
+  pub members_no_body : (strict : Bool) (t : Tree) → fits strict (one a_class_body) t ≡ true → is_function_body t ≡ false
   members_no_body strict (node shape.FunctionBody xs n ts) e = absurd (refused_here strict (one a_class_body) shape.FunctionBody xs n ts refl e)
   members_no_body strict (node h xs n ts) e = refl
 

@@ -1,4 +1,5 @@
 pub mod Paces
+pub mod Either
 pub mod Fitting
 pub mod Lifting
 pub mod Finding
@@ -30,3 +31,6 @@ mod Items
 pub mod SameForeign
 pub mod Homes
 mod Bodies
+mod Outside
+mod Inside
+mod Earliest

@@ -1,5 +1,5 @@
--- What is foreign by what shrinks is foreign by the definition, as binders of one symbol stand in one
--- body, and what is read early by scopes is so by all moments.
+-- What is foreign by what shrinks is foreign by the definition: the binders of one symbol stand in
+-- one body, and what is read early by scopes is read early by all moments.
 use Rattle.std.specs.Prelude.{ℕ, ◌≡◌, refl, Bool, true, false, not, ◌&&◌, ◌||◌, []}
 use Rattle.std.specs.List.{list_any}
 use Rattle.std.proofs.Common.{ap, ◌∙◌, sym, true≢false}
@@ -13,26 +13,22 @@ use Rattle.mini_laws.specs.Shared.{script_tops, reached_by_arguments, program_pa
 use Rattle.mini_laws.specs.Value.{Variable, Declared, Global}
 use Rattle.mini_kept.proofs.Bools.{left, right, both, or_second}
 use Rattle.mini_kept.specs.Without.{Within}
-use Rattle.mini_shrink.specs.Exact.{exactly_of}
 use Rattle.mini_shrink.specs.Pace.{pace}
 use Rattle.mini_shrink.specs.Questions.{at_program, early}
 use Rattle.mini_shrink.specs.SameForeign.{DeclaresOnce, BoundOnce, EarlyByMoments, ForeignByDefinition, stays_by_definition, steady_by_definition, ToldIsAll, ExactIsAll}
 use Rattle.mini_shrink.specs.Told.{is_reads, is_written, is_written_elsewhere, is_bound_elsewhere, is_unready, is_foreign_name, is_steady, stays}
-use Rattle.mini_shrink.specs.ToldOn.{told_by, told_of}
+use Rattle.mini_shrink.specs.ToldOn.{told_by}
+use Rattle.mini_shrink.proofs.Either.{or_parts}
 use Rattle.mini_shrink.proofs.Homes.{bound_once as bound_in_one}
 use Rattle.mini_shrink.proofs.Owns.{or_implied, and_implied}
 use Rattle.mini_shrink.proofs.Spelled.{or_first}
-
-neither : (a b : Bool) → (a || b) ≡ false → (a ≡ false) × (b ≡ false)
-neither true b e = absurd (true≢false e)
-neither false b e = (refl, e)
 
 -- what isn't foreign always no pattern binds
 unpatterned : (t : Tree) (s : ℕ) → is_foreign_always t (by_symbol s) ≡ false → is_among (by_symbol s) (pattern_names t) ≡ false
 unpatterned t s e =
     let x = by_symbol s in
     let before = is_among x (imported_names t) || is_among x (script_tops t) || is_among x (seen_by_eval t) || is_among x (reached_by_arguments false t) in
-    (neither before (is_among x (pattern_names t)) (neither (before || is_among x (pattern_names t)) (is_among x (program_pattern_writes t)) e).0).1
+    (or_parts before (is_among x (pattern_names t)) (or_parts (before || is_among x (pattern_names t)) (is_among x (program_pattern_writes t)) e).0).1
 
 pub bound_once : BoundOnce
 bound_once t d b s e f = bound_in_one s t d.shaped d.scoped d.distinct (unpatterned t s e) b f
