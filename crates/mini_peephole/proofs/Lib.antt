@@ -1,6 +1,13 @@
 mod Chains
+mod CodeLawful
+mod Everywhere
+mod Known
+mod Lightest
+mod Own
+mod Placing
+mod ReadLess
 mod Rules
-mod ToldWithin
+mod SteadyKnown
 pub mod AnswerFloats
 pub mod Answered
 pub mod AnyPasses

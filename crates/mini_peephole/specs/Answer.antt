@@ -43,10 +43,10 @@ numbers_data ns = array (items_of (map (λ n. number (unsigned n)) ns))
 
 -- what is told of an answer besides its program
 abbrev pub told_members : Minified → Members
-told_members m = member (codes "kept") (numbers_data m.kept) (member (codes "passes") (number (unsigned m.passes)) (member (codes "settled") (boolean m.settled) (member (codes "steady") (boolean m.steady) (member (codes "symbols") (numbers_data m.symbols) no_members))))
+told_members m = member (codes "kept") (numbers_data m.kept) (member (codes "passes") (number (unsigned m.passes)) (member (codes "settled") (boolean m.settled) (member (codes "symbols") (numbers_data m.symbols) no_members)))
 
 abbrev pub answer_data : Minified → Data
-answer_data m = object (member (codes "kept") (numbers_data m.kept) (member (codes "passes") (number (unsigned m.passes)) (member (codes "program") (view m.program) (member (codes "settled") (boolean m.settled) (member (codes "steady") (boolean m.steady) (member (codes "symbols") (numbers_data m.symbols) no_members))))))
+answer_data m = object (member (codes "kept") (numbers_data m.kept) (member (codes "passes") (number (unsigned m.passes)) (member (codes "program") (view m.program) (member (codes "settled") (boolean m.settled) (member (codes "symbols") (numbers_data m.symbols) no_members)))))
 
 -- what is written for an answer
 abbrev pub answer_text : Minified → List ℕ

@@ -25,7 +25,6 @@ use mini_logic::{
     MinimizeBodies, MinimizeConditional, MinimizeIf, MinimizeInBooleanContext, MinimizeNegations,
     MinimizeUnary, MinimizeVoid,
 };
-use mini_passes::{SteadyPasses, run_steady_passes};
 use mini_past::{
     PastNamesInBlocks, SubstitutePast, SubstitutePastArrows, SubstitutePastInside,
     SubstitutePastModules, SubstitutePastStatics,
@@ -37,7 +36,9 @@ use mini_syntax::{
     SubstituteArrows, SubstituteDeclarations, SubstituteKeys, SubstitutePropertyKeys,
     SubstituteReturns, SubstituteSpellings,
 };
-use mini_tree::{CompressOptions, Numbers, OutOfMemory, Position, Program, Then, discard, weight};
+use mini_tree::{
+    CompressOptions, Numbers, OutOfMemory, Passes, Position, Program, Then, discard, run_passes, weight,
+};
 use mini_unused::{RemoveUnusedNames, SubstituteCatches};
 use mini_writer::write_program;
 use serde_json::Value;
@@ -56,9 +57,6 @@ pub struct Minified {
     pub passes: u32,
     /// Whether the last pass found nothing to rewrite.
     pub settled: bool,
-    /// Whether what was known of the bodies of functions as each pass began stayed so to the end.
-    /// Where it didn't, no rewrite that rests on that was made.
-    pub steady: bool,
 }
 
 /// An answer, and what its program weighs before and after.
@@ -195,8 +193,8 @@ const KEEPING_RULES: Then<Logic, Then<MinimizeBodies, Spellings>> = Then {
     },
 };
 
-// These keep each name; after them come the rules of names that nothing mentions, and of names that
-// can be written.
+// Rules that keep each name come before those of names that nothing mentions, and of names that can
+// be written.
 type Keeping = Then<Logic, Then<MinimizeBodies, Spellings>>;
 
 type Naming = Then<
@@ -204,7 +202,9 @@ type Naming = Then<
     Then<RemoveUnusedNames, Then<SubstituteCatches, Then<MinimizeWrites, JoinLets>>>,
 >;
 
-const RULES: Then<Keeping, Naming> = Then {
+type Loose = Then<Keeping, Naming>;
+
+const LOOSE_RULES: Loose = Then {
     first: KEEPING_RULES,
     second: Then {
         first: RemoveUnusedDeclarations,
@@ -221,7 +221,7 @@ const RULES: Then<Keeping, Naming> = Then {
     },
 };
 
-// And those that rest on what is known of bodies, which act where no other does.
+// Rules that rest on what is known of bodies act where no other does.
 type AnyCode<W> = Then<Then<Then<InFunctions<W>, InArrows<W>>, InPrograms<W>>, InParts<W>>;
 
 const MEMBERS: AnyCode<SteadyMembers> = Then {
@@ -273,7 +273,7 @@ type Past = Then<
 // Of a `var` further inside a body.
 type Inside = Then<RemoveInside, SubstitutePastInside>;
 
-// And those of blocks further inside a body. Of names that are read once or not at all.
+// Rules of names that are read once or not at all, those of blocks further inside a body among them.
 type Once = Then<Then<Past, AnyCode<PastNamesInBlocks>>, Inside>;
 
 const PAST: Past = Then {
@@ -311,7 +311,9 @@ const IN_BLOCKS: AnyCode<PastNamesInBlocks> = Then {
     },
 };
 
-const STEADY_RULES: Then<OwnRules, Once> = Then {
+type Steady = Then<OwnRules, Once>;
+
+const STEADY_RULES: Steady = Then {
     first: Then {
         first: MEMBERS,
         second: LEXICAL,
@@ -323,6 +325,11 @@ const STEADY_RULES: Then<OwnRules, Once> = Then {
         },
         second: INSIDE,
     },
+};
+
+const RULES: Then<Loose, Steady> = Then {
+    first: LOOSE_RULES,
+    second: STEADY_RULES,
 };
 
 // The answer for a resolved tree, which is rewritten in place.
@@ -337,11 +344,7 @@ fn rewritten(
     ensures made { IfOk result (λ m. (r : IsRewriting tree.old options.now m) × (r.output ≡ tree.new)) }
     ensures plain { IfOk result (λ m. has_float (view m.program) ≡ false) }
 {
-    let SteadyPasses {
-        passes,
-        settled,
-        steady,
-    } = run_steady_passes(&RULES, &STEADY_RULES, alloc, tree, options.passes, context)?;
+    let Passes { passes, settled } = run_passes(&RULES, alloc, tree, options.passes, context)?;
     let program = write_program(alloc, tree)?;
     let kept = numbers_of(alloc, tree)?;
     let symbols = symbols_of(alloc, tree)?;
@@ -351,7 +354,6 @@ fn rewritten(
         symbols,
         passes,
         settled,
-        steady,
     })
 }
 
