@@ -8,20 +8,21 @@ use Rattle.mini_model.specs.Tree.{Tree}
 use Rattle.mini_tree.specs.Context.{KnowsAnew}
 use Rattle.mini_context.specs.declared.context.TraverseCtx.{TraverseCtx}
 use Rattle.mini_context.specs.Known.{Knows}
-use Rattle.mini_laws.specs.Foreign.{all_writes, is_foreign, is_write}
+use Rattle.mini_laws.specs.Foreign.{is_foreign, is_write}
+use Rattle.mini_laws.specs.Mentions.{program_mentions}
 use Rattle.mini_context.specs.declared.mentions.Mentioned.{Mentioned}
 use Rattle.mini_context.specs.declared.mentions.Mentioned.TheVariants as mentioned
 use Rattle.mini_context.specs.Enclosing.{is_around}
 use Rattle.mini_context.specs.declared.scopes.Look.{Look}
-use Rattle.mini_context.specs.Facts.{Facts, Looked, Told, facts_of, foreign, foreign_always, is_changed, is_changed_outside, may_be_unset, shared_always, shares}
+use Rattle.mini_context.specs.Facts.{Facts, Looked, Told, facts_of, foreign, foreign_always, is_assigned, is_changed, is_changed_outside, is_given, may_be_unset, shared_always, shares}
 use Rattle.mini_context.proofs.Shares.{tables_share}
 use Rattle.mini_context.specs.Lists.{holds}
 use Rattle.mini_context.specs.Mentioned.{is_outside, is_somewhere, mentioned_at}
-use Rattle.mini_context.specs.Steady.{is_steady, is_initial, is_unshared, is_unsteady, home_stays, homes_stay, stays_set, only_of, is_this, stays_bound, is_origin, any_below, has_origin, stays_alone, is_widely, stays_unshared, symbol_stays, FunctionsStay, Stays, Answers, StaysTold, TellsBodies, Renewed}
+use Rattle.mini_context.specs.Steady.{is_steady, is_initial, is_unshared, is_unsteady, home_stays, homes_stay, stays_set, only_of, is_this, stays_bound, is_origin, any_below, has_origin, stays_alone, is_widely, stays_unshared, stays_given, symbol_stays, FunctionsStay, Stays, Answers, StaysTold, TellsBodies, Renewed}
 use Rattle.mini_context.specs.Tables.{mark_at, named}
 use Rattle.mini_context.proofs.Enclosing.{and_left}
 use Rattle.mini_context.proofs.Known.{known_anew, refreshed_by}
-use Rattle.mini_context.proofs.Foreigns.{changed_told, tables_foreign}
+use Rattle.mini_context.proofs.Foreigns.{assigned_told, tables_foreign}
 use Rattle.mini_context.proofs.Holding.{within}
 
 -- ---- booleans
@@ -139,15 +140,26 @@ was_set false false true y true e = absurd (false≢true e)
 was_set false false false true true e = absurd (false≢true e)
 was_set false false false false true e = absurd (false≢true e)
 
-is_steady_still : (c a x o h u : Bool) → (c || a) ≡ false → (c ≡ false → o ≡ false) → u ≡ false → (not c && not (a || (x && o) || (not h && c) || u)) ≡ true
-is_steady_still true a x o h u e f g = absurd (false≢true (sym e))
-is_steady_still false true x o h u e f g = absurd (false≢true (sym e))
-is_steady_still false false x o h true e f g = absurd (false≢true (sym g))
-is_steady_still false false x true h false e f g = absurd (false≢true (sym (f refl)))
-is_steady_still false false true false true false e f g = refl
-is_steady_still false false true false false false e f g = refl
-is_steady_still false false false false true false e f g = refl
-is_steady_still false false false false false false e f g = refl
+was_apart : (c a x y u : Bool) → (not c && not (a || x || y || u)) ≡ true → x ≡ false
+was_apart c a false y u e = refl
+was_apart true a true y u e = absurd (false≢true e)
+was_apart false true true y u e = absurd (false≢true e)
+was_apart false false true y u e = absurd (false≢true e)
+
+was_home : (c a x y u : Bool) → (not c && not (a || x || y || u)) ≡ true → y ≡ false
+was_home c a x false u e = refl
+was_home true a x true u e = absurd (false≢true e)
+was_home false true x true u e = absurd (false≢true e)
+was_home false false true true u e = absurd (false≢true e)
+was_home false false false true u e = absurd (false≢true e)
+
+is_steady_still : (c a x y u : Bool) → (c || a) ≡ false → x ≡ false → y ≡ false → u ≡ false → (not c && not (a || x || y || u)) ≡ true
+is_steady_still true a x y u e f g h = absurd (false≢true (sym e))
+is_steady_still false true x y u e f g h = absurd (false≢true (sym e))
+is_steady_still false false true y u e f g h = absurd (false≢true (sym f))
+is_steady_still false false false true u e f g h = absurd (false≢true (sym g))
+is_steady_still false false false false true e f g h = absurd (false≢true (sym h))
+is_steady_still false false false false false e f g h = refl
 
 now_steady : (v u s p : Bool) → (v || (not u && (s && p))) ≡ true → v ≡ false → u ≡ false
 now_steady true u s p e f = absurd (false≢true (sym f))
@@ -172,12 +184,10 @@ or_second_false : (a b : Bool) → (a || b) ≡ false → b ≡ false
 or_second_false false b e = e
 or_second_false true b e = absurd (false≢true (sym e))
 
-outside_nothing : (a w : Mentioned) (b : ℕ) → (is_somewhere a || is_somewhere w) ≡ false → (is_outside a b || is_outside w b) ≡ false
-outside_nothing mentioned.Nowhere mentioned.Nowhere b e = refl
-outside_nothing mentioned.Nowhere (mentioned.In k) b e = absurd (false≢true (sym e))
-outside_nothing mentioned.Nowhere mentioned.Widely b e = absurd (false≢true (sym e))
-outside_nothing (mentioned.In k) w b e = absurd (false≢true (sym e))
-outside_nothing mentioned.Widely w b e = absurd (false≢true (sym e))
+outside_nothing : (w : Mentioned) (b : ℕ) → is_somewhere w ≡ false → is_outside w b ≡ false
+outside_nothing mentioned.Nowhere b e = refl
+outside_nothing (mentioned.In k) b e = absurd (false≢true (sym e))
+outside_nothing mentioned.Widely b e = absurd (false≢true (sym e))
 
 -- of two looks: whether it is lexical, declared in the body, of a `switch`, and read early
 set_still : (lf hf sf ef lg hg sg eg all : Bool) → (lf && (not hf || sf || ef)) ≡ false → (not lg || (lf && (sf || (not sg && all)))) ≡ true → (all ≡ true → hf ≡ true → (ef || (hg && not eg)) ≡ true) → (lg && (not hg || sg || eg)) ≡ false
@@ -208,13 +218,26 @@ both_false : (a b : Bool) → a ≡ false → b ≡ false → (a || b) ≡ false
 both_false false b e f = f
 both_false true b e f = absurd (false≢true (sym e))
 
+symbol_there : (f g : Facts) (n : ℕ) → Stays f g n → (s : ℕ) → s < n → symbol_stays f g s ≡ true
+symbol_there f g n w s h = and_left (symbol_stays f g s) (stays_unshared f g s && (is_unsteady f s || stays_given f g s)) (w.symbols s h)
+
+unshared_there : (f g : Facts) (n : ℕ) → Stays f g n → (s : ℕ) → s < n → stays_unshared f g s ≡ true
+unshared_there f g n w s h = and_left (stays_unshared f g s) (is_unsteady f s || stays_given f g s) (and_after (symbol_stays f g s) (stays_unshared f g s && (is_unsteady f s || stays_given f g s)) (w.symbols s h))
+
+second_so : (a b : Bool) → (a || b) ≡ true → a ≡ false → b ≡ true
+second_so true b e f = absurd (false≢true (sym f))
+second_so false b e f = e
+
+given_there : (f g : Facts) (n : ℕ) → Stays f g n → (s : ℕ) → s < n → is_unsteady f s ≡ false → stays_given f g s ≡ true
+given_there f g n w s h = second_so (is_unsteady f s) (stays_given f g s) (and_after (stays_unshared f g s) (is_unsteady f s || stays_given f g s) (and_after (symbol_stays f g s) (stays_unshared f g s && (is_unsteady f s || stays_given f g s)) (w.symbols s h)))
+
 set_in : (f g : Facts) (n s b : ℕ) → Stays f g n → s < n → is_unsteady f s ≡ false → may_be_unset f s b ≡ false → may_be_unset g s b ≡ false
 set_in f g n s b w h e u =
     let earlier = slice_index_or f.functions s [] in
     let later = slice_index_or g.functions s [] in
     let lost : Bool = mark_at f.lexical s && (not (holds f.homes s b) || mark_at f.switched s || holds f.early s b) in
     let around : Bool = is_around f.functions f.enclosed s b in
-    let there = and_left (symbol_stays f g s) (stays_unshared f g s) (w.symbols s h) in
+    let there = symbol_there f g n w s h in
     let sets = now_set (is_unsteady f s) (is_unsteady g s) (stays_set f g s) (stays_bound earlier later) there e in
     let binds = now_bound (is_unsteady f s) (is_unsteady g s) (stays_set f g s) (stays_bound earlier later) there e in
     both_false (mark_at g.lexical s && (not (holds g.homes s b) || mark_at g.switched s || holds g.early s b)) (is_around g.functions g.enclosed s b)
@@ -222,34 +245,6 @@ set_in f g n s b w h e u =
     (around_still (λ k. holds f.enclosed b k) (λ k. holds g.enclosed b k) earlier later binds
     (λ k j x y i. w.functions b k j i (origin_of f g n s k j h (and_both (not (is_unsteady f s)) (is_this (only_of later) k && is_this (only_of earlier) j) (ap not e) (and_both (is_this (only_of later) k) (is_this (only_of earlier) j) x y))))
     (or_second_false lost around u))
-
-steady_still : (f g : Facts) (n : ℕ) → Stays f g n → (s b : ℕ) → s < n → is_steady f s b ≡ true → is_steady g s b ≡ true
-steady_still f g n w s b h e =
-    let shared = shares f s b && is_changed_outside f s b in
-    let abroad = not (holds f.homes s b) && is_changed f s in
-    let was = was_steady (is_changed f s) (foreign_always f s) shared abroad (may_be_unset f s b) e in
-    let set = was_set (is_changed f s) (foreign_always f s) shared abroad (may_be_unset f s b) e in
-    is_steady_still (is_changed g s) (foreign_always g s) (shares g s b) (is_changed_outside g s b) (holds g.homes s b) (may_be_unset g s b)
-    (now_steady (is_unsteady f s) (is_unsteady g s) (stays_set f g s) (stays_bound (slice_index_or f.functions s []) (slice_index_or g.functions s [])) (and_left (symbol_stays f g s) (stays_unshared f g s) (w.symbols s h)) was)
-    (outside_nothing (mentioned_at g.given s) (mentioned_at g.written s) b)
-    (set_in f g n s b w h was set)
-
--- what isn't lexical, and steady, doesn't become lexical
-
-not_lexical : (lf lg sf rest : Bool) → (not lg || (lf && rest)) ≡ true → not lf ≡ true → not lg ≡ true
-not_lexical lf false sf rest e h = refl
-not_lexical true true sf rest e h = absurd (false≢true h)
-not_lexical false true sf rest e h = absurd (false≢true e)
-
-initial_still : (f g : Facts) (n : ℕ) → Stays f g n → (s b : ℕ) → s < n → is_initial f s b ≡ true → is_initial g s b ≡ true
-initial_still f g n w s b h e =
-    let shared = shares f s b && is_changed_outside f s b in
-    let abroad = not (holds f.homes s b) && is_changed f s in
-    let steady = and_left (is_steady f s b) (not (mark_at f.lexical s)) e in
-    let was = was_steady (is_changed f s) (foreign_always f s) shared abroad (may_be_unset f s b) steady in
-    let sets = now_set (is_unsteady f s) (is_unsteady g s) (stays_set f g s) (stays_bound (slice_index_or f.functions s []) (slice_index_or g.functions s [])) (and_left (symbol_stays f g s) (stays_unshared f g s) (w.symbols s h)) was in
-    and_both (is_steady g s b) (not (mark_at g.lexical s)) (steady_still f g n w s b h steady)
-    (not_lexical (mark_at f.lexical s) (mark_at g.lexical s) (mark_at f.switched s) (mark_at f.switched s || (not (mark_at g.switched s) && homes_stay f g s)) sets (and_after (is_steady f s b) (not (mark_at f.lexical s)) e))
 
 -- ---- what isn't shared
 
@@ -286,8 +281,74 @@ unshared_still f g n w s b h e =
     let always = or_first_false (shared_always f s) (is_outside before b) apart in
     let inside = or_second_false (shared_always f s) (is_outside before b) apart in
     let wide = wide_outside before b inside in
-    let (still, alone) = alone_still (shared_always f s) (is_widely before) (shared_always g s) (stays_alone before after) always wide (and_after (symbol_stays f g s) (stays_unshared f g s) (w.symbols s h)) in
+    let (still, alone) = alone_still (shared_always f s) (is_widely before) (shared_always g s) (stays_alone before after) always wide (unshared_there f g n w s h) in
     ap not (both_false (shared_always g s) (is_outside after b) still (outside_still before after b wide alone inside))
+
+-- ---- what a `var` gives a value
+
+inside_apart : (x o : Bool) → o ≡ false → (x && o) ≡ false
+inside_apart true o e = e
+inside_apart false o e = refl
+
+given_apart : (m l : Mentioned) (b : ℕ) (all : Bool) → (not (is_somewhere l) || (stays_alone m l && all)) ≡ true → is_outside m b ≡ false → is_outside l b ≡ false
+given_apart m mentioned.Nowhere b all e h = refl
+given_apart m (mentioned.In k) b all e h = outside_still m (mentioned.In k) b (wide_outside m b h) (and_left (stays_alone m (mentioned.In k)) all e) h
+given_apart m mentioned.Widely b all e h = outside_still m mentioned.Widely b (wide_outside m b h) (and_left (stays_alone m mentioned.Widely) all e) h
+
+-- where a body shares it, and only then is it asked whether another writes it
+apart_still : (x y o p c d : Bool) → (x && (o || c)) ≡ false → (not x ≡ true → not y ≡ true) → (o ≡ false → p ≡ false) → d ≡ false → (y && (p || d)) ≡ false
+apart_still false y o p c d e u f h = ap (λ v. v && (p || d)) (not_false y (u refl))
+apart_still true y o p c d e u f h = inside_apart y (p || d) (both_false p d (f (or_first_false o c e)) h)
+
+alone_somewhere : (m l : Mentioned) (all : Bool) → (not (is_somewhere l) || (stays_alone m l && all)) ≡ true → is_somewhere l ≡ true → (is_somewhere m ≡ true) × (all ≡ true)
+alone_somewhere m mentioned.Nowhere all e h = absurd (false≢true h)
+alone_somewhere mentioned.Nowhere (mentioned.In k) all e h = absurd (false≢true e)
+alone_somewhere (mentioned.In j) (mentioned.In k) all e h = (refl, and_after (stays_alone (mentioned.In j) (mentioned.In k)) all e)
+alone_somewhere mentioned.Widely (mentioned.In k) all e h = (refl, e)
+alone_somewhere mentioned.Nowhere mentioned.Widely all e h = absurd (false≢true e)
+alone_somewhere (mentioned.In j) mentioned.Widely all e h = absurd (false≢true e)
+alone_somewhere mentioned.Widely mentioned.Widely all e h = (refl, e)
+
+-- of two looks: whether the body declares it, and whether it is given a value and assigned to
+home_still : (hf hg cf af cg ag all : Bool) → (not hf && (cf || af)) ≡ false → (cg ≡ true → (cf ≡ true) × (all ≡ true)) → ag ≡ false → (all ≡ true → hf ≡ true → hg ≡ true) → (not hg && (cg || ag)) ≡ false
+home_still hf true cf af cg ag all e f g h = refl
+home_still hf false cf af false ag all e f g h = g
+home_still true false cf af true ag all e f g h = absurd (false≢true (h (f refl).1 refl))
+home_still false false cf af true ag all e f g h = absurd (false≢true (sym e ∙ or_left cf af (f refl).0))
+
+steady_still : (f g : Facts) (n : ℕ) → Stays f g n → (s b : ℕ) → s < n → is_steady f s b ≡ true → is_steady g s b ≡ true
+steady_still f g n w s b h e =
+    let shared = shares f s b && is_changed_outside f s b in
+    let abroad = not (holds f.homes s b) && is_changed f s in
+    let homes = list_all (holds g.homes s) (slice_index_or f.homes s []) in
+    let was = was_steady (is_assigned f s) (foreign_always f s) shared abroad (may_be_unset f s b) e in
+    let set = was_set (is_assigned f s) (foreign_always f s) shared abroad (may_be_unset f s b) e in
+    let given = given_there f g n w s h was in
+    let now = now_steady (is_unsteady f s) (is_unsteady g s) (stays_set f g s) (stays_bound (slice_index_or f.functions s []) (slice_index_or g.functions s [])) (symbol_there f g n w s h) was in
+    let unassigned = or_first_false (is_assigned g s) (foreign_always g s) now in
+    is_steady_still (is_assigned g s) (foreign_always g s) (shares g s b && is_changed_outside g s b) (not (holds g.homes s b) && is_changed g s) (may_be_unset g s b) now
+    (apart_still (shares f s b) (shares g s b) (is_outside (mentioned_at f.given s) b) (is_outside (mentioned_at g.given s) b) (is_outside (mentioned_at f.written s) b) (is_outside (mentioned_at g.written s) b)
+    (was_apart (is_assigned f s) (foreign_always f s) shared abroad (may_be_unset f s b) e) (unshared_still f g n w s b h) (given_apart (mentioned_at f.given s) (mentioned_at g.given s) b homes given) (outside_nothing (mentioned_at g.written s) b unassigned))
+    (home_still (holds f.homes s b) (holds g.homes s b) (is_given f s) (is_assigned f s) (is_given g s) (is_assigned g s) homes
+    (was_home (is_assigned f s) (foreign_always f s) shared abroad (may_be_unset f s b) e) (alone_somewhere (mentioned_at f.given s) (mentioned_at g.given s) homes given) unassigned (λ a i. each_of (holds g.homes s) (slice_index_or f.homes s []) a b i))
+    (set_in f g n s b w h was set)
+
+-- what isn't lexical, and steady, doesn't become lexical
+
+not_lexical : (lf lg sf rest : Bool) → (not lg || (lf && rest)) ≡ true → not lf ≡ true → not lg ≡ true
+not_lexical lf false sf rest e h = refl
+not_lexical true true sf rest e h = absurd (false≢true h)
+not_lexical false true sf rest e h = absurd (false≢true e)
+
+initial_still : (f g : Facts) (n : ℕ) → Stays f g n → (s b : ℕ) → s < n → is_initial f s b ≡ true → is_initial g s b ≡ true
+initial_still f g n w s b h e =
+    let shared = shares f s b && is_changed_outside f s b in
+    let abroad = not (holds f.homes s b) && is_changed f s in
+    let steady = and_left (is_steady f s b) (not (mark_at f.lexical s)) e in
+    let was = was_steady (is_assigned f s) (foreign_always f s) shared abroad (may_be_unset f s b) steady in
+    let sets = now_set (is_unsteady f s) (is_unsteady g s) (stays_set f g s) (stays_bound (slice_index_or f.functions s []) (slice_index_or g.functions s [])) (symbol_there f g n w s h) was in
+    and_both (is_steady g s b) (not (mark_at g.lexical s)) (steady_still f g n w s b h steady)
+    (not_lexical (mark_at f.lexical s) (mark_at g.lexical s) (mark_at f.switched s) (mark_at f.switched s || (not (mark_at g.switched s) && homes_stay f g s)) sets (and_after (is_steady f s b) (not (mark_at f.lexical s)) e))
 
 -- ---- `this`
 
@@ -304,8 +365,8 @@ told_still f g n w = record {
   has_this = λ b. unmarked_still (mark_at f.asking b) (mark_at g.asking b) (w.asking b);
 }
 
-pub steady_told : (f : Facts) (n : ℕ) (t : Tree) → Looked f n t → (s b : ℕ) → s < n → is_steady f s b ≡ (not (list_any (is_write (named s)) (all_writes t)) && not (is_foreign t b (named s)))
-steady_told f n t w s b h = ap (λ v. not v && not (foreign f s b)) (changed_told f n t w s h) ∙ ap (λ v. not (list_any (is_write (named s)) (all_writes t)) && not v) (tables_foreign f n t w s b h)
+pub steady_told : (f : Facts) (n : ℕ) (t : Tree) → Looked f n t → (s b : ℕ) → s < n → is_steady f s b ≡ (not (list_any (is_write (named s)) (program_mentions t)) && not (is_foreign t b (named s)))
+steady_told f n t w s b h = ap (λ v. not v && not (foreign f s b)) (assigned_told f n t w s h) ∙ ap (λ v. not (list_any (is_write (named s)) (program_mentions t)) && not v) (tables_foreign f n t w s b h)
 
 pub bodies_told : (f : Facts) (n : ℕ) (t : Tree) → Told f n t → TellsBodies f n t
 bodies_told f n t w = record {

@@ -47,6 +47,22 @@ a_binding_in_other_bodies = refl
 a_binding_that_is_written : is_steady (record binding { written = In 1 ∷ [] }) 0 1 ≡ false
 a_binding_that_is_written = refl
 
+-- a `var` of the body 1, which gives it a value
+abbrev given_variable : Facts
+given_variable = record untold { given = In 1 ∷ []; homes = (1 ∷ []) ∷ [] }
+
+a_given_variable_at_home : is_steady given_variable 0 1 ≡ true
+a_given_variable_at_home = refl
+
+a_given_variable_in_other_bodies : is_steady given_variable 0 2 ≡ false
+a_given_variable_in_other_bodies = refl
+
+a_given_variable_that_is_written : is_steady (record given_variable { written = In 1 ∷ [] }) 0 1 ≡ false
+a_given_variable_that_is_written = refl
+
+a_variable_without_a_value : is_steady (record given_variable { given = [] }) 0 2 ≡ true
+a_variable_without_a_value = refl
+
 a_write_more : symbol_stays parameter (record parameter { written = In 1 ∷ [] }) 0 ≡ false
 a_write_more = refl
 

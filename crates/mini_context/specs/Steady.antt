@@ -1,30 +1,31 @@
--- What the tables tell of a body: which names are steady in it, that is nothing writes them, and
--- they aren't foreign to it; which of these it begins with; which names it doesn't share; and
+-- What the tables tell of a body: which names are steady in it, that is no reference writes them,
+-- and they aren't foreign to it; which of these it begins with; which names it doesn't share; and
 -- whether it has a `this` that it needn't ask for. And whether that stays so from one look at a
 -- program to the next. In
 --
---     function f(x, y) { let z = 1; return () => x + z; }
+--     function f(x, y) { let z = 1; var v = 2; return () => x + z + v; }
 --
--- x and y are steady in f and in the arrow, and z in f alone, as the arrow may be called before z
--- is declared. With `y = 2` in it the arrow writes y, which then is steady in no body. Both begin
--- with x and y, and neither shares y.
+-- x and y are steady in f and in the arrow, and z and v in f alone, as the arrow may be called
+-- before z is declared and before v has its value. With `y = 2` in it the arrow writes y, which
+-- then is steady in no body. Both begin with x and y, f begins with v (which is undefined then), and
+-- neither shares y.
 use Rattle.std.specs.Prelude.{ℕ, zero, suc, ◌≡◌, ◌<◌, nat_eq, nat_lt, Bool, true, false, not, ◌&&◌, ◌||◌, List, [], ◌∷◌, length, slice_index_or, Option, Some, None}
 use Rattle.std.specs.List.{list_all, list_any}
 use Rattle.mini_model.specs.Tree.{Tree}
-use Rattle.mini_laws.specs.Foreign.{all_writes, is_foreign, is_write, lexical_variables}
-use Rattle.mini_context.specs.Facts.{Facts, Looked, Refreshed, Told, foreign, foreign_always, is_changed, shared_always, shares}
+use Rattle.mini_laws.specs.Foreign.{is_foreign, is_write, lexical_variables}
+use Rattle.mini_context.specs.Facts.{Facts, Looked, Refreshed, Told, foreign, foreign_always, is_assigned, is_given, shared_always, shares}
 use Rattle.mini_context.specs.Asking.{asks_as}
 use Rattle.mini_context.specs.Mentioned.{mentioned_at}
 use Rattle.mini_context.specs.declared.mentions.Mentioned.{Mentioned}
 use Rattle.mini_context.specs.declared.mentions.Mentioned.TheVariants as mentioned
 use Rattle.mini_laws.specs.Bodies.{bodies_in}
-use Rattle.mini_laws.specs.Mentions.{is_among}
+use Rattle.mini_laws.specs.Mentions.{is_among, program_mentions}
 use Rattle.mini_laws.specs.Shared.{is_shared}
 use Rattle.mini_context.specs.Lists.{holds}
 use Rattle.mini_context.specs.Tables.{mark_at, named}
 
 abbrev pub is_steady : Facts → ℕ → ℕ → Bool
-is_steady f s b = not (is_changed f s) && not (foreign f s b)
+is_steady f s b = not (is_assigned f s) && not (foreign f s b)
 
 -- the tables have no room for the symbol
 abbrev pub is_past : Facts → ℕ → Bool
@@ -44,7 +45,7 @@ has_this f b = not (mark_at f.asking b)
 
 -- the symbol is steady in no body
 abbrev pub is_unsteady : Facts → ℕ → Bool
-is_unsteady f s = is_changed f s || foreign_always f s
+is_unsteady f s = is_assigned f s || foreign_always f s
 
 -- ---- what may be uninitialised
 
@@ -112,13 +113,20 @@ is_widely m = false
 abbrev pub stays_unshared : Facts → Facts → ℕ → Bool
 stays_unshared f g s = shared_always f s || is_widely (mentioned_at f.mentioned s) || (not (shared_always g s) && stays_alone (mentioned_at f.mentioned s) (mentioned_at g.mentioned s))
 
+-- ---- what a `var` gives a value
+
+-- none does, or in the body alone in which one did, or in any where any did; and the bodies that
+-- declared the symbol still do
+abbrev pub stays_given : Facts → Facts → ℕ → Bool
+stays_given f g s = not (is_given g s) || (stays_alone (mentioned_at f.given s) (mentioned_at g.given s) && list_all (holds g.homes s) (slice_index_or f.homes s []))
+
 -- ---- the whole
 
 abbrev pub symbol_stays : Facts → Facts → ℕ → Bool
 symbol_stays f g s = is_unsteady f s || (not (is_unsteady g s) && (stays_set f g s && stays_bound (slice_index_or f.functions s []) (slice_index_or g.functions s [])))
 
 abbrev pub all_stays : Facts → Facts → ℕ → Bool
-all_stays f g s = symbol_stays f g s && stays_unshared f g s
+all_stays f g s = symbol_stays f g s && (stays_unshared f g s && (is_unsteady f s || stays_given f g s))
 
 -- no body asks for `this` that didn't
 abbrev pub AskingStays : Facts → Facts → Type 0
@@ -162,13 +170,13 @@ StayingTells = (f g : Facts) (n : ℕ) → Stays f g n → StaysTold f g n
 
 -- the tables tell of the program what is steady
 abbrev pub SteadyTells : Type 0
-SteadyTells = (f : Facts) (n : ℕ) (t : Tree) → Looked f n t → (s b : ℕ) → s < n → is_steady f s b ≡ (not (list_any (is_write (named s)) (all_writes t)) && not (is_foreign t b (named s)))
+SteadyTells = (f : Facts) (n : ℕ) (t : Tree) → Looked f n t → (s b : ℕ) → s < n → is_steady f s b ≡ (not (list_any (is_write (named s)) (program_mentions t)) && not (is_foreign t b (named s)))
 
 -- and all of it
 pub record TellsBodies (f : Facts) (n : ℕ) (t : Tree) : Type 0 where
-  pub steady : (s b : ℕ) → s < n → is_steady f s b ≡ (not (list_any (is_write (named s)) (all_writes t)) && not (is_foreign t b (named s)))
+  pub steady : (s b : ℕ) → s < n → is_steady f s b ≡ (not (list_any (is_write (named s)) (program_mentions t)) && not (is_foreign t b (named s)))
   pub unshared : (s b : ℕ) → s < n → is_unshared f s b ≡ not (is_shared t b (named s))
-  pub initial : (s b : ℕ) → s < n → is_initial f s b ≡ ((not (list_any (is_write (named s)) (all_writes t)) && not (is_foreign t b (named s))) && not (is_among (named s) (lexical_variables false t)))
+  pub initial : (s b : ℕ) → s < n → is_initial f s b ≡ ((not (list_any (is_write (named s)) (program_mentions t)) && not (is_foreign t b (named s))) && not (is_among (named s) (lexical_variables false t)))
   pub has_this : (b : ℕ) → has_this f b ≡ not (list_any (asks_as b) (bodies_in t))
 
 abbrev pub BodiesTold : Type 0

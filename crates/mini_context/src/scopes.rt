@@ -6,7 +6,7 @@ ghost use Rattle.mini_laws.specs.References.{references, reads as is_read, write
 ghost use Rattle.mini_laws.specs.Shared.{script_tops as script_tops_of};
 ghost use Rattle.mini_context.specs.Mentioned.{is_outside as is_outside_of, mentioned_at as entry_at};
 ghost use Rattle.mini_context.specs.Own.{is_script_shape};
-ghost use Rattle.mini_context.specs.Facts.{Refreshed, Tells, Told, facts_of, foreign, foreign_always, is_changed as changes, is_changed_outside, may_be_unset, shared_always, shares};
+ghost use Rattle.mini_context.specs.Facts.{Refreshed, Tells, Told, facts_of, foreign, foreign_always, is_assigned as assigned, is_changed as changes, is_changed_outside, may_be_unset, shared_always, shares};
 ghost use Rattle.mini_context.specs.Found.{Found, FoundScopes};
 ghost use Rattle.mini_laws.specs.Foreign.{is_read_early, moments as moments_of};
 ghost use Rattle.mini_laws.specs.Mentions.{outermost};
@@ -24,7 +24,7 @@ use crate::marks::{is_marked, mark_bindings, no_marks};
 use crate::mentions::{is_outside, mentioned_at};
 use crate::params::is_around;
 use crate::standing::{at_top, first_reading};
-use crate::steady::{is_changed, is_foreign_always, is_shared_always, look_stays};
+use crate::steady::{is_assigned, is_foreign_always, is_given, is_shared_always, look_stays};
 use crate::steps::Steps;
 use crate::survey::{Tables, empty_tables, open_tables, survey_node};
 use crate::writable::mark_writable;
@@ -267,12 +267,12 @@ impl Scopes {
         symbol.0 as usize >= self.look.counts.reads.len()
     }
 
-    /// Whether the symbol is steady in the body with this number: nothing writes it, and it isn't
-    /// foreign to the body.
+    /// Whether the symbol is steady in the body with this number: no reference writes it, and it
+    /// isn't foreign to the body. What a `var` of the body gives it isn't counted.
     pub fn is_steady(&self, symbol: SymbolId, body: u32) -> bool
         ensures { result ≡ steady self.now symbol.0 body }
     {
-        !self.is_changed(symbol.0) && !self.is_foreign(symbol, body)
+        !self.is_assigned(symbol.0) && !self.is_foreign(symbol, body)
     }
 
     /// Whether no event of the body with this number shows the symbol: the body doesn't share it.
@@ -410,11 +410,18 @@ impl Scopes {
         is_foreign_always(&self.look, symbol)
     }
 
-    // Whether something writes the symbol.
+    // Whether a reference writes the symbol.
+    fn is_assigned(&self, symbol: u32) -> bool
+        ensures { result ≡ assigned self.now symbol }
+    {
+        is_assigned(&self.look, symbol)
+    }
+
+    // Whether a `var` gives the symbol a value, or a reference writes it.
     fn is_changed(&self, symbol: u32) -> bool
         ensures { result ≡ changes self.now symbol }
     {
-        is_changed(&self.look, symbol)
+        is_given(&self.look, symbol) || self.is_assigned(symbol)
     }
 
     // Whether something writes the symbol in another body than this or in a carried node.

@@ -42,15 +42,16 @@ fn all_stand_in(lists: &[OwnedList<u32>], at: usize, numbers: &OwnedList<u32>) -
     true
 }
 
-fn origins_stand_in(
+/// Whether the numbers in the one list stand in the list at an index of others.
+pub fn all_listed_stand_in(
     lists: &[OwnedList<u32>],
     at: usize,
-    origins: &[OwnedList<u32>],
-    function: u32,
+    listed: &[OwnedList<u32>],
+    which: u32,
 ) -> bool
-    ensures { result ≡ list_all (holds lists.now at) (slice_index_or origins.now function []) }
+    ensures { result ≡ list_all (holds lists.now at) (slice_index_or listed.now which []) }
 {
-    match origins.get(function as usize) {
+    match listed.get(which as usize) {
         Some(numbers) => all_stand_in(lists, at, numbers),
         None => true,
     }
@@ -65,7 +66,7 @@ fn body_stays(
     ensures { result ≡ list_all (λ k. list_all (holds lists.now at) (slice_index_or origins.now k [])) functions.now }
 {
     for function in functions.as_slice() {
-        if !origins_stand_in(lists, at, origins, *function) {
+        if !all_listed_stand_in(lists, at, origins, *function) {
             return false;
         }
     }

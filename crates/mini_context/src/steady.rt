@@ -2,25 +2,33 @@
 
 ghost use Rattle.std.specs.Prelude.{◌≡◌, ℕ, ◌||◌, [], true, false, OnOk, IfOk};
 ghost use Rattle.std.specs.List.{list_all};
-ghost use Rattle.mini_context.specs.Facts.{facts_of, foreign_always, is_changed as changes, shared_always};
+ghost use Rattle.mini_context.specs.Facts.{facts_of, foreign_always, is_assigned as assigned, is_given as given, shared_always};
 ghost use Rattle.mini_context.specs.Lists.{holds};
 ghost use Rattle.mini_context.specs.Tables.{mark_at};
-ghost use Rattle.mini_context.specs.Steady.{has_origin, home_stays as stays_home, homes_stay as stay_homes, is_origin, is_unsteady as unsteady, is_widely as stands_widely, all_stays as stays_all, stays_alone as alone_stays, stays_set as set_stays, stays_unshared as unshared_stays, symbol_stays as stays_symbol, Answers, AskingStays, FunctionsStay, Stays, SymbolsStay};
+ghost use Rattle.mini_context.specs.Steady.{has_origin, home_stays as stays_home, homes_stay as stay_homes, is_origin, is_unsteady as unsteady, is_widely as stands_widely, all_stays as stays_all, stays_alone as alone_stays, stays_given as given_stays, stays_set as set_stays, stays_unshared as unshared_stays, symbol_stays as stays_symbol, Answers, AskingStays, FunctionsStay, Stays, SymbolsStay};
 
 use crate::lists::holds_number;
 use crate::marks::is_marked;
 use crate::mentions::{Mentioned, is_somewhere, mentioned_at};
 use crate::scopes::Look;
-use crate::staying::{bodies_stay, marks_stay, only_at, put_origin, stays_bound};
+use crate::staying::{
+    all_listed_stand_in, bodies_stay, marks_stay, only_at, put_origin, stays_bound,
+};
 use mini_model::{OutOfMemory, OwnedList};
 use std::alloc::Global;
 
-/// Whether something writes the symbol.
-pub fn is_changed(look: &Look, symbol: u32) -> bool
-    ensures { result ≡ changes (facts_of look.now []) symbol }
+/// Whether a `var` gives the symbol a value.
+pub fn is_given(look: &Look, symbol: u32) -> bool
+    ensures { result ≡ given (facts_of look.now []) symbol }
 {
     is_somewhere(mentioned_at(look.tables.given.as_slice(), symbol))
-        || is_somewhere(mentioned_at(look.tables.written.as_slice(), symbol))
+}
+
+/// Whether a reference writes the symbol.
+pub fn is_assigned(look: &Look, symbol: u32) -> bool
+    ensures { result ≡ assigned (facts_of look.now []) symbol }
+{
+    is_somewhere(mentioned_at(look.tables.written.as_slice(), symbol))
 }
 
 /// Whether the symbol is foreign to every body.
@@ -50,7 +58,7 @@ pub fn is_shared_always(look: &Look, symbol: u32) -> bool
 fn is_unsteady(look: &Look, symbol: u32) -> bool
     ensures { result ≡ unsteady (facts_of look.now []) symbol }
 {
-    is_changed(look, symbol) || is_foreign_always(look, symbol)
+    is_assigned(look, symbol) || is_foreign_always(look, symbol)
 }
 
 fn is_early(look: &Look, symbol: u32, body: u32) -> bool
@@ -151,10 +159,28 @@ fn stays_unshared(earlier: &Look, later: &Look, symbol: u32) -> bool
         || (!is_shared_always(later, symbol) && stays_alone(before, after))
 }
 
+// Whether a `var` gives the symbol a value in no further body, and what declared it still does.
+fn gives_stay(earlier: &Look, later: &Look, symbol: u32) -> bool
+    ensures { result ≡ given_stays (facts_of earlier.now []) (facts_of later.now []) symbol }
+{
+    let before = mentioned_at(earlier.tables.given.as_slice(), symbol);
+    let after = mentioned_at(later.tables.given.as_slice(), symbol);
+    !is_given(later, symbol)
+        || (stays_alone(before, after)
+            && all_listed_stand_in(
+                later.tables.homes.as_slice(),
+                symbol as usize,
+                earlier.tables.homes.as_slice(),
+                symbol,
+            ))
+}
+
 fn all_stays(earlier: &Look, later: &Look, symbol: u32) -> bool
     ensures { result ≡ stays_all (facts_of earlier.now []) (facts_of later.now []) symbol }
 {
-    symbol_stays(earlier, later, symbol) && stays_unshared(earlier, later, symbol)
+    symbol_stays(earlier, later, symbol)
+        && (stays_unshared(earlier, later, symbol)
+            && (is_unsteady(earlier, symbol) || gives_stay(earlier, later, symbol)))
 }
 
 fn asking_stays(earlier: &Look, later: &Look) -> bool

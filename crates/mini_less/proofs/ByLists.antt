@@ -65,7 +65,7 @@ value_quiet t e = (and_parts (is_quiet (shape_of t)) (is_no_inner (shape_of t)) 
 pub value_lexical : (t : Tree) → is_value (shape_of t) ≡ true → names_of declared.Lexical t ≡ []
 value_lexical t e = no_names declared.Lexical t (value_quiet t e)
 
-value_bound : (t : Tree) → is_value (shape_of t) ≡ true → names_of declared.Bound t ≡ []
+pub value_bound : (t : Tree) → is_value (shape_of t) ≡ true → names_of declared.Bound t ≡ []
 value_bound t e = no_names declared.Bound t (value_quiet t e)
 
 pub hoisted : (u : Use) → is_statement_use u ≡ true → hoisted_by u ≡ Hoisted
@@ -78,11 +78,11 @@ abbrev pub declaring : Use → Setting → Setting
 declaring v c = record c { used = v; is_body = false }
 
 -- a declaration of lexical names in a list is used as the list
-abbrev declared_use : VariableDeclarationKind → Use
+abbrev pub declared_use : VariableDeclarationKind → Use
 declared_use Var = Hoisted
 declared_use k = Read
 
-kind_use : (k : VariableDeclarationKind) → use_of (shape.VariableDeclaration k) Read 0 ≡ declared_use k
+pub kind_use : (k : VariableDeclarationKind) → use_of (shape.VariableDeclaration k) Read 0 ≡ declared_use k
 kind_use Var = refl
 kind_use Let = refl
 kind_use Const = refl
@@ -136,7 +136,7 @@ module _ (o : Own) (t : TellsLists o) (c : Setting) (env : Environment) (r : c.u
     no_scope : (ds : Trees) → env ++ opened (use_by c.used u) (shape.VariableDeclaration k) (listed ds ▸ none) 0 ≡ env
     no_scope ds = ap (λ b. env ++ b) (closed ds) ∙ append-nil env
 
-    var_lacks : (ds : Trees) → Q u (declaration k ds) → (o (at u) env (shape.VariableDeclaration k) [] 0 (listed ds ▸ none) ≡ false) × All (Declares v) AsWholeItem ds
+    pub var_lacks : (ds : Trees) → Q u (declaration k ds) → (o (at u) env (shape.VariableDeclaration k) [] 0 (listed ds ▸ none) ≡ false) × All (Declares v) AsWholeItem ds
     unfolding finds
     var_lacks ds a =
         let b = below false (at u) (shape.VariableDeclaration k) 0 0 in
@@ -148,7 +148,7 @@ module _ (o : Own) (t : TellsLists o) (c : Setting) (env : Environment) (r : c.u
               (subst (λ s. finds o s env (listed ds) ≡ false) around_declarators (subst (λ r. finds o b r (listed ds) ≡ false) (no_scope ds) z))).1,
         )
 
-    lacks_var : (ds : Trees) → o (at u) env (shape.VariableDeclaration k) [] 0 (listed ds ▸ none) ≡ false → All (Declares v) AsWholeItem ds → Q u (declaration k ds)
+    pub lacks_var : (ds : Trees) → o (at u) env (shape.VariableDeclaration k) [] 0 (listed ds ▸ none) ≡ false → All (Declares v) AsWholeItem ds → Q u (declaration k ds)
     unfolding finds
     lacks_var ds e a =
         let b = below false (at u) (shape.VariableDeclaration k) 0 0 in
@@ -171,7 +171,7 @@ module _ (o : Own) (t : TellsLists o) (c : Setting) (env : Environment) (r : c.u
     same_scope : (env ++ []) ++ [] ≡ env
     same_scope = append-nil (env ++ []) ∙ append-nil env
 
-    declarator_lacks : (id d : Tree) → Declares v AsWholeItem (declarator id d) → (o (setting o t.plainly (declaring v c) env AsWholeItem) env shape.VariableDeclarator [] 0 (id ▸ (d ▸ none)) ≡ false) × (Declares v AsWholeItem id × Q AsValue d)
+    pub declarator_lacks : (id d : Tree) → Declares v AsWholeItem (declarator id d) → (o (setting o t.plainly (declaring v c) env AsWholeItem) env shape.VariableDeclarator [] 0 (id ▸ (d ▸ none)) ≡ false) × (Declares v AsWholeItem id × Q AsValue d)
     unfolding finds scopes_by
     declarator_lacks id d a =
         let k = setting o t.plainly (declaring v c) env AsWholeItem in
@@ -197,7 +197,7 @@ module _ (o : Own) (t : TellsLists o) (c : Setting) (env : Environment) (r : c.u
         let value = subst (λ r. finds o second r d ≡ false) (sym same_scope) (subst (λ s. finds o s env d ≡ false) (sym around_value) z) in
         λ j. x j || (name j || (value j || false))
 
-    valued_lacks : (id d e : Tree) → is_absent d ≡ is_absent e → Declares v AsWholeItem (declarator id d) → Q AsValue d × (Q AsValue e → Declares v AsWholeItem (declarator id e))
+    pub valued_lacks : (id d e : Tree) → is_absent d ≡ is_absent e → Declares v AsWholeItem (declarator id d) → Q AsValue d × (Q AsValue e → Declares v AsWholeItem (declarator id e))
     valued_lacks id d e same a =
         let (x, (y, z)) = declarator_lacks id d a in
         (z, λ q. lacks_declarator id e (t.valued (setting o t.plainly (declaring v c) env AsWholeItem) env id d e same x) y q)
@@ -343,10 +343,10 @@ module _ (m s : ℕ) (c : Setting) (env : Environment) (r : c.used ≡ Read) whe
         (λ j. followed (ends_after ((early m s).ends (calm_around (no_order k j) j) (listed ds)) (pace (early m s) (calm_around (no_order k j) j) later (listed ds))) Silent)
         ∙ ap (λ r. followed (ends_after false (pace (early m s) (listing false) r (listed ds))) Silent) (ap (λ b. env ++ b) (closed ds) ∙ append-nil env)
 
-    var_calm : (ds : Trees) → C u (declaration k ds) → All (Declaring v) AsWholeItem ds
+    pub var_calm : (ds : Trees) → C u (declaration k ds) → All (Declaring v) AsWholeItem ds
     var_calm ds a = all_of Any (Declaring v) AsWholeItem 0 ds ((calm_local m s (declaring v c) env).down AList AsWholeList ds tt (split (pace (early m s) (listing false) env (listed ds)) Silent (sym (ap is_reads (var_says ds)) ∙ a)).0).1
 
-    calm_var : (ds : Trees) → All (Declaring v) AsWholeItem ds → C u (declaration k ds)
+    pub calm_var : (ds : Trees) → All (Declaring v) AsWholeItem ds → C u (declaration k ds)
     calm_var ds a = ap is_reads (var_says ds) ∙ join (pace (early m s) (listing false) env (listed ds)) Silent ((calm_local m s (declaring v c) env).up AList AsWholeList ds tt tt (of_all Any (Declaring v) AsWholeItem 0 ds a)) refl
 
   -- a declarator
@@ -364,7 +364,7 @@ module _ (m s : ℕ) (c : Setting) (env : Environment) (r : c.used ≡ Read) whe
     unfolding pace scopes_by
     declarator_says id d = λ j. followed (ends_after false (pace (early m s) (name_around j) (append-nil env j) id)) (followed (ends_after false (pace (early m s) (value_around j) ((append-nil (env ++ []) ∙ append-nil env) j) d)) Silent)
 
-    declarator_calm : (id d : Tree) → Declaring v AsWholeItem (declarator id d) → Declaring v AsWholeItem id × C AsValue d
+    pub declarator_calm : (id d : Tree) → Declaring v AsWholeItem (declarator id d) → Declaring v AsWholeItem id × C AsValue d
     declarator_calm id d a =
         let (x, y) = split (pace (early m s) naming env id) (followed (ends_after false (pace (early m s) (stood AsValue) env d)) Silent) (sym (ap is_reads (declarator_says id d)) ∙ a) in
         (x, (split (pace (early m s) (stood AsValue) env d) Silent y).0)

@@ -2,6 +2,7 @@
 //! function's contract is a law, and its body is empty.
 #![tactic(auto)]
 
+ghost use Rattle.mini_shrink.specs.Cover.{ProgramsAreCovered};
 ghost use Rattle.mini_shrink.specs.Exact.{ExactIsSo, ExactWithin};
 ghost use Rattle.mini_shrink.specs.Examples.{after_it};
 ghost use Rattle.mini_shrink.specs.Facts.{ReadsLessShrinks};
@@ -29,6 +30,12 @@ pub fn told_shrinks<R: Rewrites>()
 /// Each program has the shape on which the order of reads and declarations rests.
 pub fn programs_are_regular()
     ensures { ProgramsAreRegular }
+{}
+
+/// Each binder of a program is spelled in a scope of its own body, or by the pattern in which it
+/// stands.
+pub fn programs_are_covered()
+    ensures { ProgramsAreCovered }
 {}
 
 /// A body that reads a symbol early, by all moments of the program, does so by the ends that scopes
