@@ -8,6 +8,7 @@ mod Placing
 mod ReadLess
 mod Rules
 mod SteadyKnown
+mod ToldExactly
 pub mod AnswerFloats
 pub mod Answered
 pub mod AnyPasses

@@ -52,6 +52,7 @@ use Rattle.mini_peephole.proofs.Everywhere.{everywhere_with}
 use Rattle.mini_peephole.proofs.Known.{less_is_known}
 use Rattle.mini_peephole.proofs.ReadLess.{AllReadLess, rewrites_read_less}
 use Rattle.mini_peephole.proofs.SteadyKnown.{known_join, known_narrowed, steady_known}
+use Rattle.mini_peephole.proofs.ToldExactly.{told_within}
 use Rattle.mini_unused.specs.Allowed.{allowed_in}
 
 -- the rows of the rules are among the rows
@@ -203,7 +204,7 @@ all_lawful h o q e =
     let W = writable_in q in
     let S = exactly_of q in
     rooted_join (LooseGives o q) (SteadyGives o q) K W S (steady_is_rooted (LooseGives o q) K W S (loose_is_steady (LooseGives o q) K W S (loose_lawful o q)))
-    (rooted_wider (SteadyGives o q) K W W (told_in q) S (λ x k. k) (h.exact q e) (steady_lawful K (allowed_in o q) (told_in q)))
+    (rooted_wider (SteadyGives o q) K W W (told_in q) S (λ x k. k) (told_within h.exact q e) (steady_lawful K (allowed_in o q) (told_in q)))
 
 -- they keep what is known of bodies
 pub all_known : AllReadLess → KnownStays AllGives

@@ -41,8 +41,10 @@ use Rattle.mini_peephole.proofs.CodeLawful.{steady_code, lexical_code, block_cod
 use Rattle.mini_peephole.proofs.Known.{known_by_less, less_is_known}
 use Rattle.mini_peephole.proofs.Own.{code_known, steady_shapes, lexical_shapes, block_places, block_shapes}
 use Rattle.mini_peephole.proofs.Placing.{places_join, shapes_join, places_narrowed, shapes_narrowed}
+use Rattle.mini_less.proofs.Joined.{reads_less_joins}
+use Rattle.mini_less.proofs.LexicalLess.{lexical_names_read_less}
 use Rattle.mini_less.proofs.OwnLess.{steady_rows_read_less}
-use Rattle.mini_peephole.proofs.ReadLess.{AllReadLess, either_less}
+use Rattle.mini_peephole.proofs.ReadLess.{AllReadLess}
 
 -- of two relations that keep it
 pub known_join : (R Q : Position → Tree → Tree → Type 0) → KeepsKnown R → KeepsKnown Q → KeepsKnown (Either R Q)
@@ -60,12 +62,12 @@ module _ (h : AllReadLess) (K : Shape → Bool) (S : BodySets) (L : Liberties) w
   own_known : KeepsKnown (Either (AnyCode SteadyRow S) (AnyCode LexicalRows S))
   own_known =
       known_join (AnyCode SteadyRow S) (AnyCode LexicalRows S) (code_known SteadyRow S K W (steady_code K W S) steady_places steady_shapes steady_rows_read_less)
-      (code_known LexicalRows S K W (lexical_code K W S) lexical_places lexical_shapes h.lexical)
+      (code_known LexicalRows S K W (lexical_code K W S) lexical_places lexical_shapes lexical_names_read_less)
 
   -- ---- of names that are read past others
 
   code_past : KeepsKnown (Either (PastFunction S L) (PastArrow S L))
-  code_past = less_is_known K W S (Either (PastFunction S L) (PastArrow S L)) (past_code_lawful K L S) (either_less (PastFunction S L) (PastArrow S L) (h.functions S L) (h.arrows S L))
+  code_past = less_is_known K W S (Either (PastFunction S L) (PastArrow S L)) (past_code_lawful K L S) (reads_less_joins (PastFunction S L) (PastArrow S L) (h.functions S L) (h.arrows S L))
 
   modules_past : KeepsKnown (PastModule S L)
   modules_past =
