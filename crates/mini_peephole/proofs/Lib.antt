@@ -7,6 +7,7 @@ mod Own
 mod Placing
 mod ReadLess
 mod Rules
+mod SeenAgain
 mod SteadyKnown
 mod ToldExactly
 pub mod AnswerFloats
