@@ -8,6 +8,7 @@ mod Placing
 mod ReadLess
 mod Rules
 mod SeenAgain
+mod SeenLater
 mod SteadyKnown
 mod ToldExactly
 pub mod AnswerFloats

@@ -138,7 +138,7 @@ module _ (ks ss : List ℕ) where
     mutual
       unfolding renumbered mapped numbers
 
-      seen_again : (t : Tree) → AllFound t → Stand (numbers t) → carried ks (map symbol ss) t ≡ rename (symbol_at ss) (other ks) t
+      pub seen_again : (t : Tree) → AllFound t → Stand (numbers t) → carried ks (map symbol ss) t ≡ rename (symbol_at ss) (other ks) t
       seen_again (node h xs n ts) f g =
           let own : Stand (with_number n []) = λ k c. g k (let e = own_count k n (all_numbers ts) in omega (arith, e, c)) in
           let below : Stand (all_numbers ts) = λ k c. g k (let e = own_count k n (all_numbers ts) in omega (arith, e, c)) in
