@@ -20,7 +20,7 @@ use Rattle.mini_accept.proofs.Depths.{one_tree}
 use Rattle.mini_kept.specs.Rooted.{LawfulRooted}
 use Rattle.mini_kept.specs.Without.{BodySets}
 use Rattle.mini_kept.proofs.InPreorder.{preorder_same}
-use Rattle.mini_kept.proofs.ReadBack.{IsRead}
+use Rattle.mini_kept.proofs.ReadBack.{IsRead, IsReadBack}
 use Rattle.mini_kept.proofs.Texts.{text, text_resolved}
 use Rattle.mini_shrink.specs.Exact.{exactly_of}
 use Rattle.mini_writer.specs.Written.{program_data}
@@ -101,7 +101,7 @@ module _ (o : CompressOptions) (t : Tree) (f : IsRewritten o t) where
   made_by_row p n w (inr r) = inr r
 
   -- so passes over it leave it, one after another
-  no_pass_moves : {k : ℕ} {s u : Tree} → PassesReach (AllGives o) k s u → s ≡ t → u ≡ t
+  pub no_pass_moves : {k : ℕ} {s u : Tree} → PassesReach (AllGives o) k s u → s ≡ t → u ≡ t
   no_pass_moves (no_pass s) e = e
   no_pass_moves (one_more k s u w r others) e =
       let before = no_pass_moves r e in
@@ -131,20 +131,23 @@ module _ (d : Data) (o : CompressOptions) (m : Minified) (t : Tree) (read : Acce
   known : (q : Tree) → KeepsKnown (AllGives o q)
   known = all_known all_read_less o
 
-  abbrev again : (u : Tree) × Accepts (program_data r.output) u × (text u ≡ text r.output)
+  abbrev pub again : (u : Tree) × Accepts (program_data r.output) u × (text u ≡ text r.output)
   again = any.again (AllGives o) (AllRests o) o lawful known d m t read free r
 
   start : IsRead t read.1
   start = any.start (AllGives o) (AllRests o) o lawful known d m t read free r
 
-  answer_read : IsRead again.0 again.1.1
+  pub answer_read : IsRead again.0 again.1.1
   answer_read = any.answer_read (AllGives o) (AllRests o) o lawful known d m t read free r
 
-  written : Accepts (view m.program) again.0
+  pub written : Accepts (view m.program) again.0
   written = any.written (AllGives o) (AllRests o) o lawful known d m t read free r
 
-  whole_is : faith.later m again.0 ≡ r.output
+  pub whole_is : faith.later m again.0 ≡ r.output
   whole_is = any.whole_is (AllGives o) (AllRests o) o lawful known d m t read free r
+
+  pub back : IsReadBack t r.output again.0
+  back = (any.made (AllGives o) (AllRests o) o lawful known d m t read free r).back
 
   pub faithful : weight Elsewhere t < 2 ^ 32 → Faithful d o m
   faithful light = record {

@@ -1,5 +1,6 @@
 mod Chains
 mod CodeLawful
+mod ComesBack
 mod Everywhere
 mod Known
 mod Lightest
@@ -10,7 +11,9 @@ mod Rules
 mod SeenAgain
 mod SeenLater
 mod SteadyKnown
+mod Survives
 mod ToldExactly
+mod WrittenAlike
 pub mod AnswerFloats
 pub mod Answered
 pub mod AnyPasses

@@ -11,6 +11,7 @@ use Rattle.mini_tree.specs.declared.options.CompressOptions.{CompressOptions}
 use Rattle.mini_accept.specs.Accept.{program_at, Accepts}
 use Rattle.mini_scope.specs.Pointers.{early_fault}
 use Rattle.mini_model.specs.Faults.{Fault, fault_of, name_of_defect}
+use Rattle.mini_peephole.specs.ComesBack.{ComesBack}
 use Rattle.mini_peephole.specs.Faithful.{earlier, later, Faithful, PassesBounded}
 use Rattle.mini_peephole.specs.Minified.{IsMinified, HasDefect}
 use Rattle.mini_peephole.specs.declared.minify.Minified.{Minified}
@@ -76,6 +77,7 @@ pub record HasAnswer (o : CompressOptions) (input : List ℕ) (m : Minified) : T
   pub faithful : Faithful value o m
   pub passes : PassesBounded value o m
   pub minified : IsMinified value o m
+  pub again : ComesBack o m
 
 -- of a value this is an answer that is faithful and was made by rewrites, and its program and the
 -- answer's weigh this

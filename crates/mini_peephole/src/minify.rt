@@ -10,6 +10,7 @@ ghost use Rattle.mini_laws.specs.Resolved.{symbols};
 ghost use Rattle.mini_laws.specs.declared.names.Use.TheVariants as variant;
 ghost use Rattle.mini_scope.specs.Pointers.{early_fault};
 ghost use Rattle.mini_model.specs.Faults.{fault_of};
+ghost use Rattle.mini_peephole.specs.ComesBack.{ComesBack};
 ghost use Rattle.mini_peephole.specs.Faithful.{Faithful, PassesBounded};
 ghost use Rattle.mini_peephole.specs.Answer.{IsWeighed};
 ghost use Rattle.mini_peephole.specs.Minified.{IsAnswer, IsWeighedAnswer, IsMinified, IsRewriting, IsRefusal};
@@ -411,6 +412,7 @@ pub fn minify_estree(
     ensures faithful { IfOk result (λ m. Faithful (view program.now) options.now m) }
     ensures passes { IfOk result (λ m. PassesBounded (view program.now) options.now m) }
     ensures rewritten { IfOk result (λ m. IsMinified (view program.now) options.now m) }
+    ensures again { IfOk result (λ m. ComesBack options.now m) }
     ensures plain { IfOk result (λ m. has_float (view m.program) ≡ false) }
     ensures refused { IfErr result (λ e. IsRefusal (view program.now) options.now e) }
 {
@@ -430,6 +432,7 @@ pub fn minify_value(
     ensures faithful { IfOk result (λ m. Faithful (view program) options.now m) }
     ensures passes { IfOk result (λ m. PassesBounded (view program) options.now m) }
     ensures rewritten { IfOk result (λ m. IsMinified (view program) options.now m) }
+    ensures again { IfOk result (λ m. ComesBack options.now m) }
     ensures plain { IfOk result (λ m. has_float (view m.program) ≡ false) }
     ensures refused { IfErr result (λ e. IsRefusal (view program) options.now e) }
 {
