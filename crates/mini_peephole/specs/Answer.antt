@@ -70,7 +70,7 @@ abbrev pub IsNotJson : List ℕ → Type 0
 IsNotJson input = IsUtf8 input → read input ≡ None
 
 -- the bytes are JSON, of a program to which this answer is faithful, and from which it was made by
--- rewrites
+-- rewrites; given again, it comes back
 pub record HasAnswer (o : CompressOptions) (input : List ℕ) (m : Minified) : Type 0 where
   pub value : Data
   pub reads : read input ≡ Some value
