@@ -8,7 +8,7 @@ use Rattle.mini_context.specs.declared.count.Tally.TheVariants.{Out}
 use Rattle.mini_context.specs.Tallies.{tallied}
 use Rattle.mini_context.specs.declared.mentions.Mentioned.TheVariants.{In}
 use Rattle.mini_context.specs.Facts.{Facts}
-use Rattle.mini_context.specs.Steady.{is_steady, stays_bound, symbol_stays}
+use Rattle.mini_context.specs.Steady.{is_steady}
 
 steps_of_a_sum : length (references Read (sum (reference_of 1 p) (reference_of 1 p))) ≡ 2
 unfolding references
@@ -62,20 +62,3 @@ a_given_variable_that_is_written = refl
 
 a_variable_without_a_value : is_steady (record given_variable { given = [] }) 0 2 ≡ true
 a_variable_without_a_value = refl
-
-a_write_more : symbol_stays parameter (record parameter { written = In 1 ∷ [] }) 0 ≡ false
-a_write_more = refl
-
-a_write_less : symbol_stays (record parameter { written = In 1 ∷ [] }) parameter 0 ≡ true
-a_write_less = refl
-
--- `{ let z; f(z); }` that becomes `{ f(z); let z; }`
-an_early_read : symbol_stays binding (record binding { early = (1 ∷ []) ∷ [] }) 0 ≡ false
-an_early_read = refl
-
--- a function before it is gone
-another_number : symbol_stays (record parameter { functions = (1 ∷ []) ∷ [] }) parameter 0 ≡ true
-another_number = refl
-
-a_parameter_more : stays_bound [] (0 ∷ []) ≡ false
-a_parameter_more = refl

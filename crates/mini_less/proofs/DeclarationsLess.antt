@@ -1,6 +1,6 @@
 -- A `let` asks less without the value `undefined`, wherever it stands: in a list, exported, and in
 -- the head of a `for`.
-use Rattle.std.specs.Prelude.{ℕ, ◌≡◌, ◌≤◌, refl, nat_eq, Bool, true, false, ◌||◌, ◌&&◌, [], ◌++◌, map, codes}
+use Rattle.std.specs.Prelude.{ℕ, ◌≡◌, refl, nat_eq, Bool, true, false, ◌||◌, ◌&&◌, [], ◌++◌, map, codes}
 use Rattle.std.specs.List.{list_any}
 use Rattle.std.proofs.Common.{ap, ◌∙◌, inl, inr, arith, sym, subst, true≢false}
 use Rattle.std.proofs.lemmas.List.{append-nil}
@@ -10,7 +10,7 @@ use Rattle.mini_model.specs.declared.place.Position.{Position}
 use Rattle.mini_model.specs.declared.place.Position.TheVariants.{Stmt, StatementList, BodyList}
 use Rattle.mini_model.specs.declared.shape.Shape.TheVariants as shape
 use Rattle.mini_model.specs.Paths.{append}
-use Rattle.mini_model.specs.Tree.{Tree, Trees, none, ◌▸◌, listed, absent, identifier, unresolved, is_absent}
+use Rattle.mini_model.specs.Tree.{Tree, Trees, none, ◌▸◌, listed, absent, identifier, unresolved}
 use Rattle.mini_laws.specs.declared.names.Declared.{Declared}
 use Rattle.mini_laws.specs.declared.names.Declared.TheVariants as declared
 use Rattle.mini_laws.specs.declared.names.Use.{Use}
@@ -29,7 +29,7 @@ use Rattle.mini_shrink.specs.Pace.{Pace, Ends, Silent, Reads, AtMost, followed, 
 use Rattle.mini_shrink.specs.Questions.{asks, early}
 use Rattle.mini_shrink.proofs.Owns.{or_implied}
 use Rattle.mini_shrink.proofs.Paces.{itself, both}
-use Rattle.mini_rows.specs.Declarations.{binding, declarator, Row61, Item, Alone, Exported, held, Row61Item, Row61For, DeclarationRow, DeclarationContracts}
+use Rattle.mini_rows.specs.Declarations.{binding, declarator, Row61, Item, Alone, Exported, held, Row61Item, DeclarationRow, DeclarationContracts}
 use Rattle.mini_rows.specs.Lists.{declaration, for_loop, InList}
 use Rattle.mini_rows.specs.Spellings.{void_zero, IsUndefined}
 use Rattle.mini_less.specs.Declarations.{DeclarationsReadLess}

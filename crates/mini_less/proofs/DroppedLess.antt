@@ -23,7 +23,6 @@ use Rattle.mini_laws.specs.Shared.{names_arguments}
 use Rattle.mini_shrink.specs.Facts.{Fact, Written, WrittenElsewhere, Given, GivenElsewhere, GivenByPattern, MentionedElsewhere, BoundElsewhere, IsLexical, IsSwitched, InPattern, UnderCatch, ByArguments, ByEval, AmongParameters, ReadEarly, question}
 use Rattle.mini_shrink.specs.Pace.{Pace, Ends, Silent, Reads, AtMost, followed, ends_after, Setting, below, Question, pace, reads_if}
 use Rattle.mini_shrink.specs.Questions.{Own, asks, early}
-use Rattle.mini_shrink.proofs.Owns.{implied}
 use Rattle.mini_shrink.proofs.Paces.{itself, same, both, ended}
 use Rattle.mini_rows.specs.Lists.{binding, declarator, declaration}
 use Rattle.mini_rows.specs.Sketches.{Empty, Asked, AsWholeItem}

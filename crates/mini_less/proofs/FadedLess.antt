@@ -1,6 +1,5 @@
 -- A lexical declaration that never runs asks less without what would initialize its names.
 use Rattle.std.specs.Prelude.{ℕ, suc, ◌≡◌, refl, nat_eq, pos, not, Bool, true, false, ◌||◌, ◌&&◌, List, [], ◌∷◌, ◌++◌}
-use Rattle.std.specs.List.{list_any}
 use Rattle.std.proofs.Common.{ap, ◌∙◌, inl, inr, sym, subst, true≢false}
 use Rattle.std.proofs.lemmas.Bool.{and_parts}
 use Rattle.std.proofs.lemmas.List.{append-nil}
@@ -12,19 +11,19 @@ use Rattle.mini_model.specs.declared.place.Position.TheVariants.{StatementList, 
 use Rattle.mini_model.specs.declared.shape.Shape.{Shape}
 use Rattle.mini_model.specs.declared.shape.Shape.TheVariants as shape
 use Rattle.mini_model.specs.Paths.{append}
-use Rattle.mini_model.specs.Tree.{Tree, Trees, node, none, ◌▸◌, count, listed, absent, shape_of, children}
-use Rattle.mini_accept.specs.WellShaped.{a_statement, one, fits, fill, each}
+use Rattle.mini_model.specs.Tree.{Tree, Trees, node, none, ◌▸◌, count, listed, shape_of, children}
+use Rattle.mini_accept.specs.WellShaped.{a_statement, one}
 use Rattle.mini_laws.specs.declared.names.Around.{Around}
 use Rattle.mini_laws.specs.declared.names.Declared.TheVariants as declared
 use Rattle.mini_laws.specs.declared.names.Use.TheVariants.{Read, Hoisted}
 use Rattle.mini_laws.specs.DeclaredNames.{names_of, all_names, bound_names}
-use Rattle.mini_laws.specs.Foreign.{is_write, has_number, any_has_number, own_lexical}
-use Rattle.mini_laws.specs.Mentions.{Mention, mentions, is_among, is_elsewhere, same_variable}
+use Rattle.mini_laws.specs.Foreign.{has_number, any_has_number, own_lexical}
+use Rattle.mini_laws.specs.Mentions.{Mention, is_among, is_elsewhere, same_variable}
 use Rattle.mini_laws.specs.Naming.{is_lexical as is_lexical_kind}
 use Rattle.mini_laws.specs.References.{reads, writes}
 use Rattle.mini_laws.specs.Resolved.{Environment}
 use Rattle.mini_laws.specs.ScopeList.{has_eval, any_has_eval, by_symbol}
-use Rattle.mini_laws.specs.Scopes.{opened, scopes_by}
+use Rattle.mini_laws.specs.Scopes.{opened}
 use Rattle.mini_laws.specs.Shared.{names_arguments, any_names_arguments, is_arguments, is_of_function}
 use Rattle.mini_laws.specs.Value.{VariableSet}
 use Rattle.mini_kept.specs.Placed.{is_statement_list}
@@ -40,21 +39,21 @@ use Rattle.mini_rows.specs.Lists.{binding, declarator, declaration, encloses_by,
 use Rattle.mini_rows.proofs.DeadLexicalKept.{names_given}
 use Rattle.mini_less.specs.Families.{LessAt, NeighboursLess}
 use Rattle.mini_less.specs.Lets.{LetsReadLess}
-use Rattle.mini_less.specs.Neighbours.{PassesLists, of_items, items_say}
+use Rattle.mini_less.specs.Neighbours.{of_items, items_say}
 use Rattle.mini_less.specs.TellsLists.{Names}
 use Rattle.mini_less.proofs.ByQuestion.{by_question}
 use Rattle.mini_less.proofs.Calm.{unseen}
 use Rattle.mini_less.proofs.DeclarationsLess.{at, root_silent, valued_says, absent_silent}
 use Rattle.mini_less.proofs.Finding.{never}
 use Rattle.mini_less.proofs.Flags.{none_of, unlike}
-use Rattle.mini_less.proofs.HoistedNames.{Within, AsksWithin, lexical_unasked, lexical_sparing}
+use Rattle.mini_less.proofs.HoistedNames.{AsksWithin, lexical_unasked, lexical_sparing}
 use Rattle.mini_less.proofs.LessRows.{any_names, reads_less_by}
 use Rattle.mini_less.proofs.LetsLess.{known_silent, row_70_let_less}
 use Rattle.mini_less.proofs.ListHeads.{behind, first_fits}
 use Rattle.mini_less.proofs.ListJoins.{quiet_after}
-use Rattle.mini_less.proofs.ListMade.{Fits, SaysLess}
+use Rattle.mini_less.proofs.ListMade.{SaysLess}
 use Rattle.mini_less.proofs.Neighbours.{listed_is}
-use Rattle.mini_less.proofs.Plainly.{is_reads, split, join}
+use Rattle.mini_less.proofs.Plainly.{is_reads, join}
 use Rattle.mini_less.proofs.StretchTold.{ToldStretch, passes, stretch_told_less}
 use Rattle.mini_less.proofs.TellingLists.{among_both, declaration_opens, elsewhere_within, both_true}
 

@@ -1,12 +1,11 @@
 -- A `for` asks less without a declarator in its head of a name that nothing mentions.
-use Rattle.std.specs.Prelude.{ℕ, suc, ◌≡◌, refl, Bool, true, false, ◌||◌, List, [], ◌∷◌, ◌++◌}
-use Rattle.std.proofs.Common.{ap, ◌∙◌, inl, inr, sym}
+use Rattle.std.specs.Prelude.{ℕ, suc, ◌≡◌, refl, true, false, ◌||◌, List, []}
+use Rattle.std.proofs.Common.{◌∙◌, inl, inr, sym}
 use Rattle.std.proofs.lemmas.List.{append-nil}
 use Rattle.mini_model.specs.declared.kind.VariableDeclarationKind.{VariableDeclarationKind}
 use Rattle.mini_model.specs.declared.name.Name.{Name}
 use Rattle.mini_model.specs.declared.place.Position.TheVariants.{Stmt}
 use Rattle.mini_model.specs.declared.seat.StmtSeat.{StmtSeat}
-use Rattle.mini_model.specs.declared.shape.Shape.TheVariants as shape
 use Rattle.mini_model.specs.Paths.{append}
 use Rattle.mini_model.specs.Tree.{Tree, Trees, none, ◌▸◌}
 use Rattle.mini_laws.specs.declared.names.Declared.TheVariants as declared
@@ -15,7 +14,7 @@ use Rattle.mini_laws.specs.Foreign.{has_number, any_has_number}
 use Rattle.mini_laws.specs.ScopeList.{has_eval, any_has_eval}
 use Rattle.mini_laws.specs.Shared.{names_arguments}
 use Rattle.mini_kept.specs.KeepsNames.{is_read}
-use Rattle.mini_rows.specs.Lists.{declaration, for_loop}
+use Rattle.mini_rows.specs.Lists.{for_loop}
 use Rattle.mini_rows.specs.Unused.{resolved, names, any_names, declared_among, head_left, ForRow}
 use Rattle.mini_rows.proofs.DeclaredKept.{idle_leaves, idle_names, none_in}
 use Rattle.mini_rows.proofs.ForHeadKept.{for_less}
@@ -28,7 +27,7 @@ use Rattle.mini_less.proofs.DroppedLess.{head_less, head_told}
 use Rattle.mini_less.proofs.Flags.{unlike}
 use Rattle.mini_less.proofs.LessRows.{evals_add, numbers_add, names_add, any_names as any_arguments}
 use Rattle.mini_less.proofs.ListJoins as joins
-use Rattle.mini_less.proofs.Losing.{Lost, Loses}
+use Rattle.mini_less.proofs.Losing.{Loses}
 use Rattle.mini_less.proofs.LosingNodes.{on_way, Wrote, over_wrote, lost_less}
 use Rattle.mini_less.proofs.Plainly.{read}
 

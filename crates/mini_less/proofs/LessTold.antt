@@ -20,11 +20,10 @@ use Rattle.mini_laws.specs.Edits.{Kept, AllKept}
 use Rattle.mini_laws.specs.Foreign.{is_write, has_number, any_has_number, own_lexical, own_pattern_names, own_switched, own_params_around, params_with}
 use Rattle.mini_laws.specs.Mentions.{own_mentions, is_among, is_elsewhere}
 use Rattle.mini_laws.specs.Resolved.{Environment, with_symbol, gives_value}
-use Rattle.mini_laws.specs.ScopeList.{any_has_eval, by_symbol, calls_eval, has_eval, is_eval_call, is_eval_callee, names_in}
+use Rattle.mini_laws.specs.ScopeList.{any_has_eval, by_symbol, has_eval, is_eval_call, is_eval_callee, names_in}
 use Rattle.mini_laws.specs.Scopes.{use_of, opened, opening_of, scopes_by}
-use Rattle.mini_laws.specs.Shared.{given_values, is_arguments, is_name_of_variable, is_of_function, is_pattern, names_arguments, any_names_arguments, names_in_pattern, own_caught, own_pattern_writes, reached_params, spelled_among, write_at, written_by}
+use Rattle.mini_laws.specs.Shared.{given_values, is_arguments, is_name_of_variable, is_of_function, is_pattern, names_arguments, any_names_arguments, own_caught, own_pattern_writes, reached_params, spelled_among, write_at, written_by}
 use Rattle.mini_laws.specs.Strict.{is_strict_in}
-use Rattle.mini_laws.specs.Value.{Declared}
 use Rattle.mini_laws.proofs.Changes.{all_names_kept, as_it_is, at_same, below as kept_below, scopes_kept}
 use Rattle.mini_kept.specs.KeepsNames.{Stands}
 use Rattle.mini_kept.specs.Placed.{fits_place}

@@ -1,6 +1,6 @@
 -- A `let` and an assignment of a value after it ask less as one.
-use Rattle.std.specs.Prelude.{ℕ, ℤ, ◌≡◌, ◌≤◌, refl, nat_eq, pos, Bool, true, false, ◌||◌, ◌&&◌, List, [], ◌++◌}
-use Rattle.std.proofs.Common.{ap, ◌∙◌, arith, sym, subst, true≢false}
+use Rattle.std.specs.Prelude.{ℕ, ℤ, ◌≡◌, refl, nat_eq, pos, Bool, true, false, ◌||◌, ◌&&◌, List, [], ◌++◌}
+use Rattle.std.proofs.Common.{ap, ◌∙◌, arith, sym, true≢false}
 use Rattle.mini_model.specs.declared.kind.VariableDeclarationKind.TheVariants.{Var, Let, Const}
 use Rattle.mini_model.specs.declared.name.Name.{Name}
 use Rattle.mini_model.specs.declared.operator.UnaryOperator.TheVariants.{LogicalNot, Void}
@@ -27,7 +27,7 @@ use Rattle.mini_shrink.proofs.Owns.{or_implied}
 use Rattle.mini_shrink.proofs.Paces.{same}
 use Rattle.mini_rows.specs.DeadCases.{Known, a_number, a_text, a_truth, a_null, undefined, known}
 use Rattle.mini_rows.specs.Lets.{Row70Let}
-use Rattle.mini_rows.specs.Lists.{Each, EachIn, EachOf, Statement, Heading, Going, Declaring, Looping, Beginning, Alone, Init, Before, begun, begun_without, begins_well, binding, declarator, declaration, assigned, resolved, sequence, are_unscoped}
+use Rattle.mini_rows.specs.Lists.{EachIn, EachOf, Statement, Heading, Going, Declaring, Looping, Beginning, Alone, Init, Before, begun, begun_without, begins_well, binding, declarator, declaration, assigned, resolved, sequence, are_unscoped}
 use Rattle.mini_rows.specs.Sketches.{Null, Number, String, Unary}
 use Rattle.mini_less.specs.Families.{NeighboursLess}
 use Rattle.mini_less.specs.Less.{TellsPlainly}
@@ -37,7 +37,7 @@ use Rattle.mini_less.proofs.EntersLess.{alone_in_order, begun_parts}
 use Rattle.mini_less.proofs.LessTold.{Likewise, LessTold, over_less}
 use Rattle.mini_less.proofs.ListHeads.{first_fits, head_unscoped}
 use Rattle.mini_less.proofs.ListMade.{ListMade, StretchLess, made_stretch, made_in_order}
-use Rattle.mini_less.proofs.StretchTold.{ToldStretch, of_stretch, of_one, in_turn, stretch_told_less}
+use Rattle.mini_less.proofs.StretchTold.{of_stretch, of_one, in_turn, stretch_told_less}
 
 -- ---- a value that is written out tells nothing
 

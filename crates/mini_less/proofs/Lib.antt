@@ -81,3 +81,6 @@ pub mod Losing
 pub mod LosingNodes
 pub mod ChildStands
 pub mod LosingLists
+pub mod RowsOnce
+pub mod OnceNext
+pub mod PastLess

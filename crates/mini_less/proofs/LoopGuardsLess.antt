@@ -8,7 +8,7 @@ use Rattle.mini_model.specs.declared.place.Position.TheVariants.{Stmt, Statement
 use Rattle.mini_model.specs.declared.seat.StmtSeat.{StmtSeat}
 use Rattle.mini_model.specs.declared.shape.Shape.TheVariants as shape
 use Rattle.mini_model.specs.Paths.{append}
-use Rattle.mini_model.specs.Tree.{Tree, Trees, none, ◌▸◌, listed, absent, child_or_absent, if_alone, if_else, negation}
+use Rattle.mini_model.specs.Tree.{Tree, Trees, none, ◌▸◌, listed, absent, child_or_absent, negation}
 use Rattle.mini_accept.specs.WellShaped.{a_statement, nested, many, one, fits}
 use Rattle.mini_laws.specs.declared.names.Declared.{Declared}
 use Rattle.mini_laws.specs.declared.names.Declared.TheVariants as declared
@@ -24,15 +24,15 @@ use Rattle.mini_laws.specs.Scopes.{opened, scopes_by, lexical_scope, at_or_empty
 use Rattle.mini_laws.specs.Shared.{names_arguments}
 use Rattle.mini_shrink.specs.Facts.{Fact, Written, WrittenElsewhere, Given, GivenElsewhere, GivenByPattern, MentionedElsewhere, BoundElsewhere, IsLexical, IsSwitched, InPattern, UnderCatch, ByArguments, ByEval, AmongParameters, ReadEarly, question}
 use Rattle.mini_shrink.specs.Pace.{AtMost, Setting, Question, pace, reads_if}
-use Rattle.mini_shrink.specs.Questions.{Own, asks, early, seen_from}
+use Rattle.mini_shrink.specs.Questions.{asks, early, seen_from}
 use Rattle.mini_shrink.proofs.Owns.{implied, or_implied, and_implied}
 use Rattle.mini_shrink.proofs.Paces.{same}
 use Rattle.mini_rows.specs.Branches.{Surrounding, Consequent, Alternate, WhileBody, DoBody, ForBody, InBody, OfBody, around, is_loop, bare_continue}
-use Rattle.mini_rows.specs.Lists.{block, is_unscoped, are_unscoped, alternate_of, Row75, Row75Block}
+use Rattle.mini_rows.specs.Lists.{block, is_unscoped, are_unscoped, alternate_of}
 use Rattle.mini_rows.specs.LoopGuards.{TurnsGuard, LoopGuardRow, LoopGuardContracts}
 use Rattle.mini_rows.specs.Sketches.{Asked, AsBranch, AsItem}
 use Rattle.mini_rows.specs.Switches.{Switches}
-use Rattle.mini_rows.proofs.Arranging.{All, Any, first_all}
+use Rattle.mini_rows.proofs.Arranging.{Any, first_all}
 use Rattle.mini_rows.proofs.BranchAround.{around_plain}
 use Rattle.mini_rows.proofs.BranchLawful.{around_read, as_statement}
 use Rattle.mini_rows.proofs.CaseKept.{no_lexicals}
@@ -42,13 +42,11 @@ use Rattle.mini_rows.proofs.LoopGuardsKept.{turned, in_loop}
 use Rattle.mini_less.specs.Families.{LessAt}
 use Rattle.mini_less.specs.LoopGuards.{LoopGuardsReadLess}
 use Rattle.mini_less.specs.Neighbours.{PassesLists}
-use Rattle.mini_less.specs.TellsLists.{TellsLists}
 use Rattle.mini_less.proofs.BodiesLess.{around_less}
 use Rattle.mini_less.proofs.ByQuestion.{by_question}
-use Rattle.mini_less.proofs.EachFact.{Unordered}
 use Rattle.mini_less.proofs.IfsLess.{if_parts, an_if, nothing}
 use Rattle.mini_less.proofs.LessRows.{reads_less_by}
-use Rattle.mini_less.proofs.LessTold.{LessTold, Likewise, Anyhow, node_less, over_less, less_told, told_along}
+use Rattle.mini_less.proofs.LessTold.{LessTold, Anyhow, node_less, over_less, less_told, told_along}
 use Rattle.mini_less.proofs.ListHeads.{all_unscoped, block_items, block_of_items, row_75_made, row_75_block_made}
 use Rattle.mini_less.proofs.ListMade.{SaysLess, StretchLess, Fits, ListMade, made_stretch, no_bound, stretch_less}
 use Rattle.mini_less.proofs.ListRowsLess.{append_none}

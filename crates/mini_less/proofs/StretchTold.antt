@@ -1,8 +1,7 @@
 -- Neighbours in a list that tell at most what others do, fact by fact.
-use Rattle.std.specs.Prelude.{ℕ, zero, suc, ◌≡◌, refl, nat_eq, Bool, true, false, ◌&&◌, ◌||◌, []}
+use Rattle.std.specs.Prelude.{ℕ, zero, suc, ◌≡◌, nat_eq, Bool, true, false, ◌&&◌, ◌||◌, []}
 use Rattle.std.proofs.Common.{ap, ◌∙◌, inl, sym, subst, true≢false}
 use Rattle.mini_model.specs.declared.place.Position.{Position}
-use Rattle.mini_model.specs.declared.place.Position.TheVariants.{StatementList}
 use Rattle.mini_model.specs.Paths.{append}
 use Rattle.mini_model.specs.Tree.{Tree, Trees, none, ◌▸◌, listed, shape_of}
 use Rattle.mini_accept.specs.WellShaped.{a_statement, Slot, one, each, fill, fits}
@@ -16,7 +15,7 @@ use Rattle.mini_kept.specs.KeepsNames.{is_used}
 use Rattle.mini_kept.specs.Placed.{is_statement_list, fits_place}
 use Rattle.mini_kept.proofs.Placed.{statements_slot}
 use Rattle.mini_shrink.specs.Facts.{Fact, question}
-use Rattle.mini_shrink.specs.Pace.{Pace, AtMost, followed, ends_after, Setting, Question, pace}
+use Rattle.mini_shrink.specs.Pace.{Pace, AtMost, followed, ends_after, Setting, pace}
 use Rattle.mini_shrink.proofs.Owns.{or_implied}
 use Rattle.mini_shrink.proofs.Paces.{both, ended}
 use Rattle.mini_less.specs.Families.{LessAt}

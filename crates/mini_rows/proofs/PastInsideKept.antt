@@ -53,7 +53,7 @@ use Rattle.mini_rows.proofs.UnusedNames.{or_parts, all_avoided, declared_other}
 -- ---- the list
 
 -- the names of the statements that go and of those that are written
-past_vars : (V : Assured) (W : Liberties) (o : Tree) (a b : Trees) (r : PastRow V W o a b) → passes_var r ≡ true → let t = behind V W o a b r in VarThere (resolved t.spelling t.symbol) t.d t.w
+pub past_vars : (V : Assured) (W : Liberties) (o : Tree) (a b : Trees) (r : PastRow V W o a b) → passes_var r ≡ true → let t = behind V W o a b r in VarThere (resolved t.spelling t.symbol) t.d t.w
 unfolding behind of_head of_next
 past_vars V W o a b (inl r) v =
     let x = resolved r.spelling r.symbol in
@@ -64,7 +64,7 @@ past_vars V W o a b (inr r) v =
     let x = resolved r.spelling r.symbol in
     no_var r.kind (λ K. VarThere x (declared_among K x r.first r.init (declarator r.binds r.value ▸ r.last) ▸ none) (declaration K (append r.first (declarator r.binds (put_first x r.init r.value) ▸ r.last)) ▸ none)) v (next_vars x r.first r.init r.binds r.value (put_first x r.init r.value) r.last r.declared_earlier r.other r.declared_later)
 
-abbrev of_behind : (V : Assured) (W : VariableSet) (o : Tree) (a b : Trees) → Behind V W o a b → Losing a b
+abbrev pub of_behind : (V : Assured) (W : VariableSet) (o : Tree) (a b : Trees) → Behind V W o a b → Losing a b
 of_behind V W o a b t = record {
   spelling = t.spelling;
   symbol = t.symbol;

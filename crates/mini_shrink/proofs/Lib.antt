@@ -25,4 +25,8 @@ pub mod Covering
 mod Unended
 mod Covered
 mod Parts
+mod Slotted
+mod Items
+pub mod SameForeign
 pub mod Homes
+mod Bodies

@@ -28,7 +28,8 @@ use Rattle.mini_kept.proofs.Unbound.{Other, both, Unbound}
 use Rattle.mini_shrink.specs.Cover.{Spellings, is_hoisting, use_if, is_covered}
 use Rattle.mini_shrink.specs.Regular.{is_regular, all_regular}
 use Rattle.mini_shrink.proofs.Covered.{Far, Undeclared, Unpatterned, AllUnpatterned, UnboundIn, AllUnboundIn, spelled_far, flagged, covered_unbound, unbound_both}
-use Rattle.mini_shrink.proofs.Debts.{may_be_alone_slot}
+use Rattle.mini_shrink.proofs.Covering.{part_covered}
+use Rattle.mini_shrink.proofs.Debts.{may_be_alone_slot, holds_nothing_slot}
 use Rattle.mini_shrink.proofs.Moments.{or_either}
 use Rattle.mini_shrink.proofs.Spelled.{Spells, or_first}
 
@@ -109,18 +110,11 @@ pub record Sound (k : ℕ) (u : Use) (env : Environment) (t : Tree) : Type 0 whe
   pub unpatterned : Unpatterned k t
   pub regular : is_regular k t ≡ true
 
--- a part is covered by what spells the names that it declares around it: where it stands alone, its
--- lexical names are its own
-abbrev pub PartsAreCovered : Type 0
-PartsAreCovered =
-    (strict : Bool) (p : Slot) (u : Use) (spells : Spellings) (t : Tree) → fits strict p t ≡ true → (is_alone u ≡ true → may_be_alone_slot p ≡ true) → is_function_body t ≡ false
-    → Spells spells (is_hoisting u) (names_of declared.Bound t) → (is_alone u ≡ false → Spells spells false (names_of declared.Lexical t)) → Spells spells true (names_of declared.Hoisted t) → is_covered u spells t ≡ true
-
 abbrev pub kind_of : Bool → Declared
 kind_of true = declared.Hoisted
 kind_of false = declared.Lexical
 
-module _ (covered : PartsAreCovered) (k : ℕ) where
+module _ (k : ℕ) where
   -- what spells the names of a part, which alone are to be other ones
   abbrev declares : Use → Bool → Bool
   declares u true = true
@@ -152,11 +146,11 @@ module _ (covered : PartsAreCovered) (k : ℕ) where
       let d = left (not (is_alone u)) (is_spelled s (names_of declared.Lexical t)) f in
       spelled_far k Read false refl env (names_of declared.Lexical t) (lexical_scoped u (not_alone u d) env t a) (o d) s (right (not (is_alone u)) (is_spelled s (names_of declared.Lexical t)) f)
 
-  pub part_unbound_in : (v strict : Bool) (p : Slot) (u : Use) (env : Environment) (t : Tree) → fits strict p t ≡ true → (is_alone u ≡ true → may_be_alone_slot p ≡ true) → is_function_body t ≡ false → Sound k u env t
+  pub part_unbound_in : (v strict : Bool) (p : Slot) (u : Use) (env : Environment) (t : Tree) → fits strict p t ≡ true → holds_nothing_slot p ≡ true → (is_alone u ≡ true → may_be_alone_slot p ≡ true) → is_function_body t ≡ false → Sound k u env t
       → Other k (names_of declared.Bound t) → Others v u t → UnboundIn k v u t
-  part_unbound_in v strict p u env t f e g a o q =
+  part_unbound_in v strict p u env t f m e g a o q =
       covered_unbound k v u (around u t) env t
-      (covered strict p u (around u t) t f e g
+      (part_covered strict p u (around u t) t m f e g
       (λ s m. or_first (is_same_flag (is_hoisting u) (is_hoisting u) && is_spelled s (names_of declared.Bound t)) (declares u (is_hoisting u) && is_spelled s (names_of (kind_of (is_hoisting u)) t)) (and_both (is_same_flag (is_hoisting u) (is_hoisting u)) (is_spelled s (names_of declared.Bound t)) (same_flag (is_hoisting u)) m))
       (λ n s m. or_second (is_same_flag false (is_hoisting u) && is_spelled s (names_of declared.Bound t)) (not (is_alone u) && is_spelled s (names_of declared.Lexical t)) (and_both (not (is_alone u)) (is_spelled s (names_of declared.Lexical t)) (alone_not u n) m))
       (λ s m. or_second (is_same_flag true (is_hoisting u) && is_spelled s (names_of declared.Bound t)) (is_spelled s (names_of declared.Hoisted t)) m))
@@ -169,9 +163,9 @@ module _ (covered : PartsAreCovered) (k : ℕ) where
           by (inl h) = let (w, r) = flagged k u v (is_spelled s (names_of declared.Bound t)) h in spelled_far k u v w env (names_of declared.Bound t) (bound_scoped u env t a.scoped) o s r
           by (inr h) = named_far v u env t a.scoped q s h
 
-  pub part_unbound : (strict : Bool) (p : Slot) (u : Use) (env : Environment) (t : Tree) → fits strict p t ≡ true → (is_alone u ≡ true → may_be_alone_slot p ≡ true) → is_function_body t ≡ false → Sound k u env t
+  pub part_unbound : (strict : Bool) (p : Slot) (u : Use) (env : Environment) (t : Tree) → fits strict p t ≡ true → holds_nothing_slot p ≡ true → (is_alone u ≡ true → may_be_alone_slot p ≡ true) → is_function_body t ≡ false → Sound k u env t
       → Other k (names_of declared.Bound t) → (is_alone u ≡ false → Other k (names_of declared.Lexical t)) → Other k (names_of declared.Hoisted t) → Unbound k t
-  part_unbound strict p u env t f e g a o q r = unbound_both k u t (part_unbound_in true strict p u env t f e g a o (λ d. r)) (part_unbound_in false strict p u env t f e g a o (λ d. q (not_alone u d)))
+  part_unbound strict p u env t f m e g a o q r = unbound_both k u t (part_unbound_in true strict p u env t f m e g a o (λ d. r)) (part_unbound_in false strict p u env t f m e g a o (λ d. q (not_alone u d)))
 
 -- ---- lexical names
 

@@ -75,7 +75,7 @@ unended Ends m l = l
 unended Silent m l = l
 unended Reads m l = l
 
-kept_unended : (q m : Pace) → AtMost (kept_in q) m → AtMost (kept_in (ends_after false q)) m
+pub kept_unended : (q m : Pace) → AtMost (kept_in q) m → AtMost (kept_in (ends_after false q)) m
 kept_unended Ends m l = l
 kept_unended Silent m l = l
 kept_unended Reads m l = l
@@ -139,7 +139,7 @@ module _ (b s : ℕ) where
   first_unbound none a = refl
   first_unbound (t ▸ ts) a = other_among s (names_of declared.Bound t) (named s declared.Bound t a.0)
 
-  ends_none : (h : Shape) (ts : Trees) → AllUnbound s ts → is_among (x b s) (ended_by h ts) ≡ false
+  pub ends_none : (h : Shape) (ts : Trees) → AllUnbound s ts → is_among (x b s) (ended_by h ts) ≡ false
   ends_none shape.VariableDeclarator ts a = first_unbound ts a
   ends_none (shape.Function true g ds) ts a = first_unbound ts a
   ends_none (shape.Class true) ts a = first_unbound ts a

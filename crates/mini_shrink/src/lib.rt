@@ -7,6 +7,7 @@ ghost use Rattle.mini_shrink.specs.Exact.{ExactIsSo, ExactWithin};
 ghost use Rattle.mini_shrink.specs.Examples.{after_it};
 ghost use Rattle.mini_shrink.specs.Facts.{ReadsLessShrinks};
 ghost use Rattle.mini_shrink.specs.Regular.{EarlyByScopes, ForeignByScopes, ProgramsAreRegular};
+ghost use Rattle.mini_shrink.specs.SameForeign.{BoundOnce};
 ghost use Rattle.mini_shrink.specs.Told.{ToldShrinks};
 ghost use Rattle.mini_shrink.specs.ToldOn.{PlacesShow, ToldIsSo, ToldOn, ToldWithin};
 
@@ -36,6 +37,12 @@ pub fn programs_are_regular()
 /// stands.
 pub fn programs_are_covered()
     ensures { ProgramsAreCovered }
+{}
+
+/// A symbol that is bound in a body is bound in no other, but for symbols that are foreign to every
+/// body, as those that a pattern binds.
+pub fn symbols_are_bound_once()
+    ensures { BoundOnce }
 {}
 
 /// A body that reads a symbol early, by all moments of the program, does so by the ends that scopes

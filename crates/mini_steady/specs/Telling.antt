@@ -1,6 +1,5 @@
 -- The tables of a context tell what is known of bodies, of every symbol: of those for which they
--- have room by what they say, and of others nothing is said in the program. And what was told of
--- one program is told of the next that stays so.
+-- have room by what they say, and of others nothing is said in the program.
 use Rattle.std.specs.Prelude.{ℕ, zero, suc, ◌≡◌, ◌<◌, refl, nat_eq, nat_lt, Bool, true, false, not, ◌&&◌, ◌||◌, List, [], ◌∷◌, length}
 use Rattle.std.specs.List.{list_any}
 use Rattle.std.proofs.Common.{ap, ◌∙◌, sym, subst}
@@ -17,15 +16,14 @@ use Rattle.mini_laws.specs.Shared.{is_shared, is_shared_always, program_var_writ
 use Rattle.mini_laws.specs.Substitution.{alone}
 use Rattle.mini_laws.specs.Value.{Declared, Global, Variable, choose, is_in, variable_eq, variables}
 use Rattle.mini_laws.specs.Writable.{mentions, any_mentions}
-use Rattle.mini_kept.specs.Without.{Within}
 use Rattle.mini_kept.proofs.Undeclared.{unshared, native}
 use Rattle.mini_context.specs.declared.context.TraverseCtx.{TraverseCtx}
 use Rattle.mini_context.specs.Facts.{Facts, Told}
 use Rattle.mini_context.specs.Known.{Knows}
-use Rattle.mini_context.specs.Steady.{is_initial, is_past, is_steady, is_unshared, StaysTold, TellsBodies, Renewed}
+use Rattle.mini_context.specs.Steady.{is_initial, is_past, is_steady, is_unshared, TellsBodies}
 use Rattle.mini_context.specs.Tables.{named}
 use Rattle.mini_context.proofs.Known.{told_length}
-use Rattle.mini_context.proofs.Stays.{bodies_told}
+use Rattle.mini_context.proofs.Foreigns.{bodies_told}
 use Rattle.mini_steady.specs.Told.{is_assigned, is_steady_in_body, of_symbols, told_by, told_in}
 
 -- ---- a symbol that a program doesn't mention
@@ -155,49 +153,6 @@ module _ (f : Facts) (q : Tree) (n : ℕ) (w : Told f n q) where
 
 pub tells_all : (f : Facts) (q : Tree) (n : ℕ) → Told f n q → told_by f ≡ told_in q
 tells_all f q n w = (λ i b. all_of f q n w b i)
-
--- ---- what stays told
-
-carried_on : (n s : ℕ) (was before after is : Bool) → (s < n → before ≡ was) → (s < n → before ≡ true → after ≡ true) → (s < n → after ≡ is) → (nat_lt s n ≡ false → is ≡ true) → was ≡ true → is ≡ true
-carried_on n s was before after is f g h k e = by (nat_lt s n) refl
-  where
-    by : (b : Bool) → nat_lt s n ≡ b → is ≡ true
-    by true r = let small = ltb-true s n r in sym (h small) ∙ g small (f small ∙ e)
-    by false r = k r
-
-module _ (f g : Facts) (q u : Tree) (n : ℕ) (v : Told f n q) (w : Told g n u) (stays : StaysTold f g n) where
-  was : TellsBodies f n q
-  was = bodies_told f n q v
-
-  now : TellsBodies g n u
-  now = bodies_told g n u w
-
-  gone : (s : ℕ) → nat_lt s n ≡ false → mentions u (Declared s) ≡ false
-  gone s h = unmentioned_by (mentions u (Declared s)) (λ e. false≢true (sym h ∙ lt-ltb s n (w.whole s e)))
-
-  kept_on : (b : ℕ) → Within (told_in q b) (told_in u b)
-  kept_on b = record { steady = steady; unshared = shown; initial = begun; has_this = λ e. sym (now.has_this b) ∙ stays.has_this b (was.has_this b ∙ e) }
-    where
-      steady : (x : Variable) → (told_in q b).steady x ≡ true → (told_in u b).steady x ≡ true
-      steady (Declared s) e = carried_on n s (is_steady_in_body q b s) (is_steady f s b) (is_steady g s b) (is_steady_in_body u b s) (was.steady s b) (stays.steady s b) (now.steady s b) (λ h. stays_there s u (gone s h) b) e
-      steady (Global s) e = absurd (false≢true e)
-
-      shown : (x : Variable) → (told_in q b).unshared x ≡ true → (told_in u b).unshared x ≡ true
-      shown (Declared s) e = carried_on n s (not (is_shared q b (named s))) (is_unshared f s b) (is_unshared g s b) (not (is_shared u b (named s))) (was.unshared s b) (stays.unshared s b) (now.unshared s b) (λ h. unshared_there s u (gone s h) b) e
-      shown (Global s) e = absurd (false≢true e)
-
-      begun : (x : Variable) → (told_in q b).initial x ≡ true → (told_in u b).initial x ≡ true
-      begun (Declared s) e = carried_on n s (is_steady_in_body q b s && not (is_among (named s) (lexical_variables false q))) (is_initial f s b) (is_initial g s b) (is_steady_in_body u b s && not (is_among (named s) (lexical_variables false u))) (was.initial s b) (stays.initial s b) (now.initial s b) (λ h. initial_there s u (gone s h) b) e
-      begun (Global s) e = absurd (false≢true e)
-
--- what a context told of the program that it knew it tells of the next, if a second look says that
--- it stays so
-pub told_stays : (c d : TraverseCtx) (o : CompressOptions) (q u : Tree) → Knows c o q → Renewed true c.scopes d.scopes u → (b : ℕ) → Within (told_in q b) (told_in u b)
-told_stays c d o q u k r =
-    let n = length k.told.reads in
-    let before = k.refreshed.told in
-    let same : length c.scopes.reads ≡ n = told_length c.scopes n q before in
-    kept_on c.scopes d.scopes q u n before (subst (λ m. Told d.scopes m u) same r.refreshed.told) (subst (λ m. StaysTold c.scopes d.scopes m) same (r.stays refl))
 
 -- a context tells of the program that it knows
 pub told_known : (c : TraverseCtx) (o : CompressOptions) (q : Tree) → Knows c o q → told_by c.scopes ≡ told_in q
