@@ -49,7 +49,8 @@ use Rattle.mini_tree.specs.Passes.{PassesReach, MakesPasses}
 use Rattle.mini_peephole.specs.Environments.{name_of, shared_by, foreign_to, is_declared, initialised_at, initialised_for, asks_as, steady_in, environment_with}
 use Rattle.mini_laws.specs.Foreign.{is_foreign}
 use Rattle.mini_laws.specs.Shared.{is_shared}
-use Rattle.mini_peephole.specs.AnyPasses.{IsResolved, KeepsKnown, PassesFaithful, NothingLeft}
+use Rattle.mini_shrink.specs.SameForeign.{DeclaresOnce}
+use Rattle.mini_peephole.specs.AnyPasses.{KeepsKnown, PassesFaithful, NothingLeft}
 use Rattle.mini_peephole.specs.Minified.{IsWritten}
 use Rattle.mini_rows.specs.Switches.{let_go}
 use Rattle.mini_peephole.specs.Faithful as faith
@@ -182,7 +183,7 @@ module _ (G : Tree → Position → Tree → Tree → Type 0) (D : Tree → Posi
       }
 
 -- what is lawful by what is known of the bodies of each program, and keeps that
-module _ (G : Tree → Position → Tree → Tree → Type 0) (D : Tree → Position → Tree → Type 0) (o : CompressOptions) (l : (q : Tree) → IsResolved q → LawfulRooted (let_go (switches o)) (writable_in q) (exactly_of q) (G q)) (stay : (q : Tree) → KeepsKnown (G q)) (d : Data) (m : Minified) (t : Tree) (read : Accepts d t) (free : early_fault t ≡ None) (r : IsWritten G D (resolved_program t) o.passes m) where
+module _ (G : Tree → Position → Tree → Tree → Type 0) (D : Tree → Position → Tree → Type 0) (o : CompressOptions) (l : (q : Tree) → DeclaresOnce q → LawfulRooted (let_go (switches o)) (writable_in q) (exactly_of q) (G q)) (stay : (q : Tree) → KeepsKnown (G q)) (d : Data) (m : Minified) (t : Tree) (read : Accepts d t) (free : early_fault t ≡ None) (r : IsWritten G D (resolved_program t) o.passes m) where
   pub start : IsRead t read.1
   start = is_read d read.0 read.1 t read.2
 
@@ -192,11 +193,11 @@ module _ (G : Tree → Position → Tree → Tree → Type 0) (D : Tree → Posi
   abbrev S : BodySets
   S = steady_in r.output
 
-  resolved : IsResolved (resolved_program t)
+  resolved : DeclaresOnce (resolved_program t)
   resolved = record { shaped = shaped; scoped = scoped Read [] 0 t; distinct = resolved_distinct t; once = names_resolved [] t ∙ (free_of t free).0 }
 
   -- the names of each program at which a pass began are resolved
-  pub began : {k : ℕ} {w : Tree} → PassesReach G k (resolved_program t) w → IsResolved w
+  pub began : {k : ℕ} {w : Tree} → PassesReach G k (resolved_program t) w → DeclaresOnce w
   began reach = (each_known G (let_go (switches o)) l stay reach resolved).0
 
   -- all that was known as a pass began is so of the last program

@@ -27,7 +27,8 @@ use Rattle.mini_kept.specs.Without.{Assured, BodySets, Within}
 use Rattle.mini_kept.proofs.Gone.{avoids}
 use Rattle.mini_kept.proofs.Rooted.{step_on, step_of, rooted_keeps, rooted_wider}
 use Rattle.mini_kept.proofs.WithoutLists.{Part, PartEach, each_itself}
-use Rattle.mini_peephole.specs.AnyPasses.{IsResolved, KeepsKnown}
+use Rattle.mini_shrink.specs.SameForeign.{DeclaresOnce}
+use Rattle.mini_peephole.specs.AnyPasses.{KeepsKnown}
 
 -- ---- what a program that has its names' symbols mentions it declares
 
@@ -94,15 +95,15 @@ within_through U V W f g = record {
 
 -- ---- what is known as passes begin
 
-module _ (G : Tree → Position → Tree → Tree → Type 0) (K : Shape → Bool) (l : (q : Tree) → IsResolved q → LawfulRooted K (writable_in q) (exactly_of q) (G q)) (stay : (q : Tree) → KeepsKnown (G q)) where
+module _ (G : Tree → Position → Tree → Tree → Type 0) (K : Shape → Bool) (l : (q : Tree) → DeclaresOnce q → LawfulRooted K (writable_in q) (exactly_of q) (G q)) (stay : (q : Tree) → KeepsKnown (G q)) where
   -- a step leads to a program whose names are resolved, of whose bodies no less is known
   abbrev Leads : Tree → Tree → Type 0
-  Leads t u = IsResolved u × PartEach (exactly_of t) (exactly_of u)
+  Leads t u = DeclaresOnce u × PartEach (exactly_of t) (exactly_of u)
 
-  resolved_on : (q t u : Tree) → ProgramIsKeptUnder K (writable_in q) (exactly_of q) t u → IsResolved t → IsResolved u
+  resolved_on : (q t u : Tree) → ProgramIsKeptUnder K (writable_in q) (exactly_of q) t u → DeclaresOnce t → DeclaresOnce u
   resolved_on q t u k e = record { shaped = k.names.shaped e.shaped; scoped = k.names.scoped e.shaped e.scoped; distinct = k.names.distinct e.shaped e.scoped e.distinct; once = k.names.once e.shaped e.once }
 
-  steps_lead : (q : Tree) → IsResolved q → {p : Position} {t u : Tree} → Reaches (G q) p t u → p ≡ Elsewhere → IsResolved t → Leads t u
+  steps_lead : (q : Tree) → DeclaresOnce q → {p : Position} {t u : Tree} → Reaches (G q) p t u → p ≡ Elsewhere → DeclaresOnce t → Leads t u
   steps_lead q d (done p t) f e = (e, each_itself (exactly_of t))
   steps_lead q d (more p t u v s r) f e =
       let st : Step (G q) Elsewhere t u = subst (λ o. Step (G q) o t u) f s in
@@ -113,14 +114,14 @@ module _ (G : Tree → Position → Tree → Tree → Type 0) (K : Shape → Boo
   -- what holds of each program at which a pass begins: its names are resolved, and all that is known of its bodies is in S
   abbrev pub EachKnown : BodySets → {k : ℕ} {s u : Tree} → PassesReach G k s u → Type 0
   EachKnown S (no_pass s) = Unit {0}
-  EachKnown S (one_more k s u v r others) = EachKnown S r × (IsResolved u × PartEach (exactly_of u) S)
+  EachKnown S (one_more k s u v r others) = EachKnown S r × (DeclaresOnce u × PartEach (exactly_of u) S)
 
   pub known_more : (Q S : BodySets) → PartEach Q S → {k : ℕ} {s u : Tree} (r : PassesReach G k s u) → EachKnown Q r → EachKnown S r
   known_more Q S f (no_pass s) h = tt
   known_more Q S f (one_more k s u v r others) h = (known_more Q S f r h.0, (h.1.0, λ b. within_through (exactly_of u b) (Q b) (S b) (h.1.1 b) (f b)))
 
   -- so all that is known of bodies as a pass begins is known of those of the last program
-  pub each_known : {k : ℕ} {s u : Tree} (r : PassesReach G k s u) → IsResolved s → IsResolved u × EachKnown (exactly_of u) r
+  pub each_known : {k : ℕ} {s u : Tree} (r : PassesReach G k s u) → DeclaresOnce s → DeclaresOnce u × EachKnown (exactly_of u) r
   each_known (no_pass s) e = (e, tt)
   each_known (one_more k s u v r others) e =
       let (there, before) = each_known r e in
@@ -129,10 +130,10 @@ module _ (G : Tree → Position → Tree → Tree → Type 0) (K : Shape → Boo
 
 -- ---- passes as steps of one relation
 
-module _ (G : Tree → Position → Tree → Tree → Type 0) (K : Shape → Bool) (l : (q : Tree) → IsResolved q → LawfulRooted K (writable_in q) (exactly_of q) (G q)) (stay : (q : Tree) → KeepsKnown (G q)) (S : BodySets) (t : Tree) where
+module _ (G : Tree → Position → Tree → Tree → Type 0) (K : Shape → Bool) (l : (q : Tree) → DeclaresOnce q → LawfulRooted K (writable_in q) (exactly_of q) (G q)) (stay : (q : Tree) → KeepsKnown (G q)) (S : BodySets) (t : Tree) where
   -- a program whose names are resolved, in which nothing can be written that the first forbids to write, and of whose bodies nothing is known but S
   abbrev Over : Type 0
-  Over = (q : Tree) × IsResolved q × Part (writable_in q) (writable_by t) × PartEach (exactly_of q) S
+  Over = (q : Tree) × DeclaresOnce q × Part (writable_in q) (writable_by t) × PartEach (exactly_of q) S
 
   -- what is made of a tree over such a program
   abbrev pub Any : Position → Tree → Tree → Type 0

@@ -27,7 +27,8 @@ use Rattle.mini_writer.specs.Written.{program_data}
 use Rattle.mini_rows.specs.Switches.{let_go, Liberties}
 use Rattle.mini_rows.specs.Redex.{Rewrites, IsSettled}
 use Rattle.mini_steady.specs.Told.{told_in}
-use Rattle.mini_peephole.specs.AnyPasses.{IsResolved, KeepsKnown, NothingLeft}
+use Rattle.mini_shrink.specs.SameForeign.{DeclaresOnce}
+use Rattle.mini_peephole.specs.AnyPasses.{KeepsKnown, NothingLeft}
 use Rattle.mini_peephole.specs.Minified.{IsRewriting}
 use Rattle.mini_peephole.specs.SteadyRows.{SteadyRewrites, IsSteadilySettled}
 use Rattle.mini_peephole.specs.Rules.{AllGives, AllRests}
@@ -45,7 +46,7 @@ use Rattle.mini_unused.specs.Allowed.{allowed_in}
 -- ---- a program in which nothing is left to rewrite stays
 
 module _ (R : Position → Tree → Tree → Type 0) where
-  abbrev ReadsNothing : Position → Tree → Type 0
+  abbrev pub ReadsNothing : Position → Tree → Type 0
   ReadsNothing p t = (w : Tree) → R p t w → ⊥
 
   mutual
@@ -62,7 +63,7 @@ module _ (R : Position → Tree → Tree → Type 0) where
   stays (more p t w u st r) f = absurd (no_step st f)
 
 -- a node on which the rows rest that rest on what is known of bodies is read by none of them
-read_by_none : (S : BodySets) (W : Liberties) (p : Position) (n : Tree) → IsSteadilySettled S W p n → ReadsNothing (SteadyRewrites S W) p n
+pub read_by_none : (S : BodySets) (W : Liberties) (p : Position) (n : Tree) → IsSteadilySettled S W p n → ReadsNothing (SteadyRewrites S W) p n
 read_by_none S W p n x w (inl (inl (inl (inl (inl c))))) = x.0.0.0.0.0 w c
 read_by_none S W p n x w (inl (inl (inl (inl (inr c))))) = x.0.0.0.0.1 w c
 read_by_none S W p n x w (inl (inl (inl (inr c)))) = x.0.0.0.1 w c
@@ -125,7 +126,7 @@ nothing_left o m t u light f = record {
 }
 
 module _ (d : Data) (o : CompressOptions) (m : Minified) (t : Tree) (read : Accepts d t) (free : early_fault t ≡ None) (r : IsRewriting (resolved_program t) o m) where
-  lawful : (q : Tree) → IsResolved q → LawfulRooted (let_go (switches o)) (writable_in q) (exactly_of q) (AllGives o q)
+  lawful : (q : Tree) → DeclaresOnce q → LawfulRooted (let_go (switches o)) (writable_in q) (exactly_of q) (AllGives o q)
   lawful = all_lawful all_read_less o
 
   known : (q : Tree) → KeepsKnown (AllGives o q)

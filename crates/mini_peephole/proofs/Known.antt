@@ -26,13 +26,14 @@ use Rattle.mini_shrink.proofs.Exact.{exact_is_so, exactly_within}
 use Rattle.mini_shrink.proofs.ToldOn.{false_not, told_on}
 use Rattle.mini_shrink.proofs.Tops.{shows_less}
 use Rattle.mini_shrink.proofs.Within.{asks_less}
-use Rattle.mini_peephole.specs.AnyPasses.{IsResolved, KeepsKnown}
+use Rattle.mini_shrink.specs.SameForeign.{DeclaresOnce}
+use Rattle.mini_peephole.specs.AnyPasses.{KeepsKnown}
 use Rattle.mini_peephole.specs.Environments.{steady_in}
 
 -- ---- after steps
 
 module _ (Q : Position → Tree → Tree → Type 0) (places : KeepsPlaces Q) (shapes : KeepsShapes Q) (reads : ReadsLess Q) where
-  known_after : (t u : Tree) → Reaches Q Elsewhere t u → IsResolved t → AskNoMore t u → (b : ℕ) → Within (exactly_of t b) (exactly_of u b)
+  known_after : (t u : Tree) → Reaches Q Elsewhere t u → DeclaresOnce t → AskNoMore t u → (b : ℕ) → Within (exactly_of t b) (exactly_of u b)
   known_after t u r e asks b =
       let shows = shows_less Q places shapes in
       exactly_within Q places.names shapes reads shows t u r e.shaped e.scoped e.distinct b (told_on Q places.names shapes reads shows t u r e.shaped e.scoped e.distinct asks b)
@@ -59,7 +60,7 @@ all_so : (g h : Bool) → g ≡ true → h ≡ true → (g && h) ≡ true
 all_so true h e f = f
 all_so false h e f = absurd (true≢false (sym e))
 
-module _ (t : Tree) (e : IsResolved t) (b : ℕ) where
+module _ (t : Tree) (e : DeclaresOnce t) (b : ℕ) where
   native : (s : ℕ) → (exactly_of t b).steady (Declared s) ≡ true → not (is_foreign t b (by_symbol s)) ≡ true
   native s h = false_not (is_foreign t b (by_symbol s)) ((exact_is_so t b s e.shaped e.scoped).steady h)
 

@@ -8,35 +8,27 @@ use Rattle.mini_rows.specs.Catches.{CatchContracts}
 use Rattle.mini_rows.specs.Inside.{InsideContracts}
 use Rattle.mini_rows.specs.Lets.{LetContracts}
 use Rattle.mini_rows.specs.Names.{NameContracts}
-use Rattle.mini_rows.specs.Past.{PastFunction}
-use Rattle.mini_rows.specs.PastArrows.{PastArrow}
 use Rattle.mini_rows.specs.PastBlocks.{PastBlocks}
 use Rattle.mini_rows.specs.PastInside.{PastInside}
-use Rattle.mini_rows.specs.PastModules.{PastModule}
-use Rattle.mini_rows.specs.PastStatics.{PastStatic}
 use Rattle.mini_rows.specs.Redex.{Contracts, Rewrites}
 use Rattle.mini_rows.specs.Switches.{Switches, Liberties, liberties}
 use Rattle.mini_rows.specs.Unused.{UnusedContracts}
 use Rattle.mini_rows.specs.Writes.{WriteContracts}
 use Rattle.mini_shrink.specs.Facts.{ReadsLess}
+use Rattle.mini_shrink.specs.SameForeign.{ExactIsAll}
 use Rattle.mini_less.proofs.FadedLess.{lets_read_less}
 use Rattle.mini_less.proofs.Joined.{reads_less_joins}
 use Rattle.mini_less.proofs.NamesLess.{names_read_less, catches_read_less}
 use Rattle.mini_less.proofs.Whole.{rows_read_less}
 use Rattle.mini_less.proofs.WritesLess.{writes_read_less}
-use Rattle.mini_peephole.proofs.ToldExactly.{ForeignIsExact}
 
 -- ---- what is still to be shown
 
 pub record AllReadLess : Type 0 where
-  pub exact : ForeignIsExact
+  pub exact : ExactIsAll
   pub unused : (W : Liberties) → ReadsLess (UnusedContracts W)
   pub inside : (W : Liberties) → ReadsLess (InsideContracts W)
   pub blocks : (o : Switches) (V : Assured) → ReadsLess (PastBlocks o V)
-  pub functions : (S : BodySets) (W : Liberties) → ReadsLess (PastFunction S W)
-  pub arrows : (S : BodySets) (W : Liberties) → ReadsLess (PastArrow S W)
-  pub modules : (S : BodySets) (W : Liberties) → ReadsLess (PastModule S W)
-  pub statics : (S : BodySets) (W : Liberties) → ReadsLess (PastStatic S W)
   pub past_inside : (S : BodySets) (W : Liberties) → ReadsLess (PastInside S W)
 
 -- ---- all rows but those that rest on bodies

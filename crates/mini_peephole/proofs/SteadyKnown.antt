@@ -35,7 +35,8 @@ use Rattle.mini_rows.proofs.PastLawful.{functions_behind_lawful}
 use Rattle.mini_rows.proofs.PastModuleLawful.{module_places, module_shapes, past_modules_are_lawful}
 use Rattle.mini_rows.proofs.PastStaticLawful.{static_places, static_shapes, past_statics_are_lawful}
 use Rattle.mini_past.proofs.Lawful.{past_code_lawful}
-use Rattle.mini_peephole.specs.AnyPasses.{IsResolved, KeepsKnown}
+use Rattle.mini_less.proofs.PastLess.{past_read_less}
+use Rattle.mini_peephole.specs.AnyPasses.{KeepsKnown}
 use Rattle.mini_peephole.specs.SteadyRows.{AnyCode, PastCode, InsideCode, SteadyRewrites}
 use Rattle.mini_peephole.proofs.CodeLawful.{steady_code, lexical_code, block_code}
 use Rattle.mini_peephole.proofs.Known.{known_by_less, less_is_known}
@@ -67,19 +68,19 @@ module _ (h : AllReadLess) (K : Shape → Bool) (S : BodySets) (L : Liberties) w
   -- ---- of names that are read past others
 
   code_past : KeepsKnown (Either (PastFunction S L) (PastArrow S L))
-  code_past = less_is_known K W S (Either (PastFunction S L) (PastArrow S L)) (past_code_lawful K L S) (reads_less_joins (PastFunction S L) (PastArrow S L) (h.functions S L) (h.arrows S L))
+  code_past = less_is_known K W S (Either (PastFunction S L) (PastArrow S L)) (past_code_lawful K L S) (reads_less_joins (PastFunction S L) (PastArrow S L) (past_read_less.functions S L) (past_read_less.arrows S L))
 
   modules_past : KeepsKnown (PastModule S L)
   modules_past =
       let R = PastModule S L in
       let Q = ModulesBehind S W in
-      known_by_less K W S R R (past_modules_are_lawful K L S) (λ t u s. s) (places_narrowed R Q (modules_behind S L) (module_places S W)) (shapes_narrowed R Q (modules_behind S L) (module_shapes S W)) (h.modules S L)
+      known_by_less K W S R R (past_modules_are_lawful K L S) (λ t u s. s) (places_narrowed R Q (modules_behind S L) (module_places S W)) (shapes_narrowed R Q (modules_behind S L) (module_shapes S W)) (past_read_less.modules S L)
 
   statics_past : KeepsKnown (PastStatic S L)
   statics_past =
       let R = PastStatic S L in
       let Q = StaticsBehind S W in
-      known_by_less K W S R R (past_statics_are_lawful K L S) (λ t u s. s) (places_narrowed R Q (statics_behind S L) (static_places S W)) (shapes_narrowed R Q (statics_behind S L) (static_shapes S W)) (h.statics S L)
+      known_by_less K W S R R (past_statics_are_lawful K L S) (λ t u s. s) (places_narrowed R Q (statics_behind S L) (static_places S W)) (shapes_narrowed R Q (statics_behind S L) (static_shapes S W)) (past_read_less.statics S L)
 
   blocks_past : KeepsKnown (AnyCode (PastBlocks L.switches) S)
   blocks_past = code_known (PastBlocks L.switches) S K W (block_code L.switches K W S) (block_places L.switches) (block_shapes L.switches) (h.blocks L.switches)

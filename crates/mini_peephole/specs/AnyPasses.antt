@@ -1,5 +1,5 @@
 -- Passes of any rule that is lawful and reads less are faithful.
-use Rattle.std.specs.Prelude.{◌≡◌, ℕ, Bool, None, []}
+use Rattle.std.specs.Prelude.{◌≡◌, ℕ, Bool, None}
 use Rattle.serde_json.specs.Data.{Data}
 use Rattle.mini_model.specs.declared.place.Position.{Position}
 use Rattle.mini_model.specs.declared.place.Position.TheVariants.{Elsewhere}
@@ -7,14 +7,9 @@ use Rattle.mini_model.specs.declared.shape.Shape.{Shape}
 use Rattle.mini_model.specs.Tree.{Tree}
 use Rattle.mini_model.specs.Rewriting.{Step, Everywhere}
 use Rattle.mini_accept.specs.Accept.{Accepts}
-use Rattle.mini_accept.specs.WellShaped.{IsWellShaped}
-use Rattle.mini_laws.specs.declared.names.Use.TheVariants.{Read}
 use Rattle.mini_laws.specs.Resolved.{resolved_program}
-use Rattle.mini_laws.specs.Scoped.{Scoped}
-use Rattle.mini_laws.specs.Symbols.{declared_symbols, Distinct}
 use Rattle.mini_laws.specs.Value.{VariableSet}
 use Rattle.mini_laws.specs.Writable.{writable_in}
-use Rattle.mini_kept.specs.KeepsNames.{NamesOnce}
 use Rattle.mini_kept.specs.Loosely.{LawfulUnder}
 use Rattle.mini_kept.specs.Rooted.{LawfulRooted}
 use Rattle.mini_kept.specs.Without.{BodySets, Within}
@@ -22,6 +17,7 @@ use Rattle.mini_rows.specs.Switches.{let_go}
 use Rattle.mini_scope.specs.Pointers.{early_fault}
 use Rattle.mini_shrink.specs.Exact.{exactly_of}
 use Rattle.mini_shrink.specs.Facts.{ReadsLess}
+use Rattle.mini_shrink.specs.SameForeign.{DeclaresOnce}
 use Rattle.mini_tree.specs.declared.options.CompressOptions.{CompressOptions}
 use Rattle.mini_peephole.specs.Faithful.{switches, FaithfulWith}
 use Rattle.mini_peephole.specs.Minified.{IsWritten}
@@ -29,18 +25,10 @@ use Rattle.mini_peephole.specs.declared.minify.Minified.{Minified}
 
 -- ---- what is known of bodies
 
--- A program whose names are resolved: each has the symbol that the scopes around it give, no symbol
--- is declared twice, and neither is a name in one scope (ECMA-262, "Static Semantics: Early
--- Errors")
-pub record IsResolved (t : Tree) : Type 0 where
-  pub shaped : IsWellShaped t
-  pub scoped : Scoped Read [] t
-  pub distinct : Distinct (declared_symbols t)
-  pub once : NamesOnce [] t
-
--- what is known of each body of such a program is known of it after a step
+-- what is known of each body of a program in which each name is declared once is known of it after
+-- a step
 abbrev pub KeepsKnown : (Position → Tree → Tree → Type 0) → Type 0
-KeepsKnown R = (t u : Tree) → Step R Elsewhere t u → IsResolved t → (b : ℕ) → Within (exactly_of t b) (exactly_of u b)
+KeepsKnown R = (t u : Tree) → Step R Elsewhere t u → DeclaresOnce t → (b : ℕ) → Within (exactly_of t b) (exactly_of u b)
 
 -- so it is where each step is lawful and reads less
 abbrev pub LessIsKnown : (Position → Tree → Tree → Type 0) → Type 0
@@ -49,8 +37,8 @@ LessIsKnown R = (K : Shape → Bool) (W : VariableSet) (S : BodySets) → Lawful
 -- ---- rules
 
 -- What a rule makes is lawful, and may drop names that nothing mentions, under any options and over
--- any program at which its context has looked, whose names are resolved: names of functions and
--- classes where the options let them go. It may rest on it that the variables can be written that
+-- any such program at which its context has looked: names of functions and classes where the options
+-- let them go. It may rest on it that the variables can be written that
 -- this program mentions and lets be written, and on what is known of each body of it, as that no
 -- answer changes a name while the body runs; of the program itself it may give another, by what is
 -- known of its own body. What is lawful without that is so (`LawfulIsLoose`, `LooseIsSteady`,
@@ -61,7 +49,7 @@ LessIsKnown R = (K : Shape → Bool) (W : VariableSet) (S : BodySets) → Lawful
 -- for such a rule the law has to be weakened to the nodes of a tree that steps of the same pass
 -- reach from it, the program being well shaped and its names scoped.
 abbrev pub LawfulFor : (CompressOptions → Tree → Position → Tree → Tree → Type 0) → Type 0
-LawfulFor G = (o : CompressOptions) (q : Tree) → IsResolved q → LawfulRooted (let_go (switches o)) (writable_in q) (exactly_of q) (G o q)
+LawfulFor G = (o : CompressOptions) (q : Tree) → DeclaresOnce q → LawfulRooted (let_go (switches o)) (writable_in q) (exactly_of q) (G o q)
 
 -- and what is known of the bodies of any program stays so
 abbrev pub KnownStays : (CompressOptions → Tree → Position → Tree → Tree → Type 0) → Type 0
