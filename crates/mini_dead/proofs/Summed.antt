@@ -49,7 +49,7 @@ default_fact f = f
 abbrev nothing_read : Summary
 nothing_read = record { facts = no_facts; lets = []; name = None; functions = [] }
 
-is_in_append : (x : Variable) (a b : List Variable) → is_in x (a ++ b) ≡ choose (is_in x a) true (is_in x b)
+pub is_in_append : (x : Variable) (a b : List Variable) → is_in x (a ++ b) ≡ choose (is_in x a) true (is_in x b)
 is_in_append x [] b = refl
 is_in_append x (y ∷ a) b = go (is_in_append x a b) (variable_eq y x)
   where

@@ -6,6 +6,7 @@ ghost use Rattle.mini_dead.specs.Creations.{WithoutNone, WithoutTwice};
 ghost use Rattle.mini_dead.specs.Differences.{UnansweredDiffers, LoneDeclarationDiffers};
 ghost use Rattle.mini_dead.specs.Pruned.{PrunedSame};
 ghost use Rattle.mini_dead.specs.PrunedBodies.{PrunedProgram};
+ghost use Rattle.mini_dead.specs.Drops.{DropsKeepBodies};
 
 /// A body from whose lists of statements dead items go does what it did, but for the creation of the functions that went.
 pub fn pruned_is_same()
@@ -28,4 +29,10 @@ pub fn dropping_may_differ()
 /// went.
 pub fn pruned_program()
     ensures { PrunedProgram }
+{}
+
+/// Each body of a program that lost dead items is one that it had, and does what that did, but for the creation of the functions that
+/// went, whatever its events show of the variables that it shares.
+pub fn drops_keep_bodies()
+    ensures { DropsKeepBodies }
 {}
