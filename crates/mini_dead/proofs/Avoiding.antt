@@ -1,19 +1,22 @@
 -- A variable that no node of a tree names: each declaration of the tree lets it be written, and no
 -- body of the tree shares it.
-use Rattle.std.proofs.Common.{◌≡◌, ℕ, Bool, true, false, List, [], ◌∷◌, ◌++◌, Option, Some, refl, sym, ap, ◌∙◌, true≢false}
+use Rattle.std.proofs.Common.{◌≡◌, ℕ, Bool, true, false, List, [], ◌∷◌, ◌++◌, Option, Some, refl, sym, ap, ◌∙◌, true≢false, eq-eqb}
+use Rattle.std.specs.Prelude.{◌||◌}
 use Rattle.mini_model.specs.declared.kind.VariableDeclarationKind.{VariableDeclarationKind}
 use Rattle.mini_model.specs.declared.operator.UnaryOperator.TheVariants.{LogicalNot}
 use Rattle.mini_model.specs.declared.shape.Shape.{Shape}
 use Rattle.mini_model.specs.declared.shape.Shape.TheVariants as shape
 use Rattle.mini_model.specs.Tree.{Tree, Trees, node, none, ◌▸◌}
-use Rattle.mini_laws.specs.Value.{Variable, VariableSet, Declared, choose, variable_eq, is_in, variables}
+use Rattle.mini_laws.specs.Value.{Variable, VariableSet, Declared, Global, choose, variable_eq, is_in, variables}
 use Rattle.mini_laws.specs.State.{Writable}
 use Rattle.mini_laws.specs.Naming.{AClass, Summary, Declared as DeclaredKind, facts_all, first_facts, class_lets, lets_all, lets_first, lets_of, front, is_lexical, summary, summaries}
 use Rattle.mini_laws.specs.Fixity.{fixity_by, lets_fourth, declared_by, stricter, fixed_by, fixed_by_any}
+use Rattle.mini_laws.specs.Writable.{mentions, any_mentions}
 use Rattle.mini_laws.specs.Congruence.{NoneIn, Avoids, AllAvoid}
 use Rattle.mini_laws.specs.Substitution.{alone}
 use Rattle.mini_laws.specs.Shared.{is_shared}
 use Rattle.mini_laws.specs.ScopeList.{by_symbol}
+use Rattle.mini_kept.proofs.SameScopes.{text_itself}
 use Rattle.mini_kept.proofs.Undeclared.{unshared}
 use Rattle.mini_dead.proofs.Lean.{same_variables}
 use Rattle.mini_dead.proofs.Summed.{is_in_append}
@@ -123,5 +126,43 @@ module _ (D : VariableSet) (x : Variable) (named : D x ≡ true) where
     all_avoid_it none a = tt
     all_avoid_it (t ▸ ts) a = (avoids_it t a.0, all_avoid_it ts a.1)
 
-pub not_shared : (D : VariableSet) (s : ℕ) → D (Declared s) ≡ true → (t : Tree) → Avoids D t → (b : ℕ) → is_shared t b (by_symbol s) ≡ false
-not_shared D s named t a b = unshared s t (avoids_it D (Declared s) named t a) b
+-- no node of it names the variable
+mutual
+  pub unnamed_in : (D : VariableSet) (x : Variable) → D x ≡ true → (t : Tree) → Avoids D t → mentions t x ≡ false
+  unnamed_in D x named (node h xs n ts) a = ap (λ b. b || any_mentions ts x) (none_is_it D x named (variables xs) a.0) ∙ all_unnamed_in D x named ts a.1
+
+  all_unnamed_in : (D : VariableSet) (x : Variable) → D x ≡ true → (ts : Trees) → AllAvoid D ts → any_mentions ts x ≡ false
+  all_unnamed_in D x named none a = refl
+  all_unnamed_in D x named (t ▸ ts) a = ap (λ b. b || any_mentions ts x) (unnamed_in D x named t a.0) ∙ all_unnamed_in D x named ts a.1
+
+-- ---- a variable that no node names
+
+none_such : (x : Variable) (ys : List Variable) → is_in x ys ≡ false → NoneIn (λ y. variable_eq y x) ys
+none_such x [] a = tt
+none_such x (y ∷ ys) a = by (variable_eq y x) refl a (none_such x ys)
+  where
+    by : (b : Bool) → variable_eq y x ≡ b → choose b true (is_in x ys) ≡ false → (is_in x ys ≡ false → NoneIn (λ y. variable_eq y x) ys) → (variable_eq y x ≡ false) × NoneIn (λ y. variable_eq y x) ys
+    by true q r f = absurd (true≢false r)
+    by false q r f = (q, f r)
+
+neither : (a b : Bool) → (a || b) ≡ false → (a ≡ false) × (b ≡ false)
+neither true b p = absurd (true≢false p)
+neither false b p = (refl, p)
+
+mutual
+  avoids_unnamed : (x : Variable) (t : Tree) → mentions t x ≡ false → Avoids (λ y. variable_eq y x) t
+  avoids_unnamed x (node h xs n ts) a = let p = neither (is_in x (variables xs)) (any_mentions ts x) a in (none_such x (variables xs) p.0, all_avoid_unnamed x ts p.1)
+
+  all_avoid_unnamed : (x : Variable) (ts : Trees) → any_mentions ts x ≡ false → AllAvoid (λ y. variable_eq y x) ts
+  all_avoid_unnamed x none a = tt
+  all_avoid_unnamed x (t ▸ ts) a = let p = neither (mentions t x) (any_mentions ts x) a in (avoids_unnamed x t p.0, all_avoid_unnamed x ts p.1)
+
+pub itself : (x : Variable) → variable_eq x x ≡ true
+itself (Declared k) = eq-eqb k k refl
+itself (Global s) = text_itself s
+
+pub unnamed_writable : (t : Tree) (x : Variable) → mentions t x ≡ false → fixed_by t x ≡ Writable
+unnamed_writable t x a = writable (λ y. variable_eq y x) x (itself x) t (avoids_unnamed x t a)
+
+pub unnamed_unshared : (t : Tree) (s : ℕ) → mentions t (Declared s) ≡ false → (b : ℕ) → is_shared t b (by_symbol s) ≡ false
+unnamed_unshared t s a b = unshared s t (avoids_it (λ y. variable_eq y (Declared s)) (Declared s) (itself (Declared s)) t (avoids_unnamed (Declared s) t a)) b

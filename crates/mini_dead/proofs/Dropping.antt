@@ -1,9 +1,11 @@
 -- What a program does from which dead items go.
 use Rattle.std.proofs.Common.{◌≡◌, ℕ, zero, suc, Bool, true, false, List, [], ◌∷◌, ◌++◌, Option, Some, None, refl, sym, ap, ◌∙◌, subst, subst₂, true≢false, eq-eqb, inl, inr, arith}
-use Rattle.std.specs.Prelude.{◌+◌, ◌≤◌, ◌<◌, ◌⊎◌, Contains, nat_eq, not, ◌||◌, is_none, is_some, if◌then◌else◌}
+use Rattle.std.specs.Prelude.{◌+◌, ◌≤◌, ◌<◌, ◌⊎◌, Contains, nat_eq, not, ◌&&◌, ◌||◌, is_none, is_some, if◌then◌else◌}
 use Rattle.mini_model.specs.declared.name.Name.{Name}
 use Rattle.mini_model.specs.declared.name.SymbolId.{SymbolId}
-use Rattle.mini_model.specs.Tree.{Tree, Trees}
+use Rattle.mini_model.specs.declared.shape.Shape.{Shape}
+use Rattle.mini_model.specs.declared.shape.Shape.TheVariants as shape
+use Rattle.mini_model.specs.Tree.{Tree, Trees, node, none, ◌▸◌}
 use Rattle.mini_accept.specs.WellShaped.{IsWellShaped, one, a_program}
 use Rattle.mini_laws.specs.declared.names.Use.TheVariants.{Read}
 use Rattle.mini_laws.specs.Value.{Variable, Declared, Global, VariableSet, variable_by, variable_of, variables, variable_eq, choose, is_in}
@@ -14,26 +16,26 @@ use Rattle.mini_laws.specs.Fixity.{written_in}
 use Rattle.mini_laws.specs.Shared.{is_shared_always, script_tops, module_names, reached_by_arguments, caught, program_pattern_writes}
 use Rattle.mini_laws.specs.ScopeList.{seen_by_eval}
 use Rattle.mini_laws.specs.Mentions.{is_among}
+use Rattle.mini_laws.specs.Writable.{mentions, any_mentions}
 use Rattle.mini_laws.specs.Congruence.{NoneIn, Apart, Avoids, AllAvoid}
 use Rattle.mini_laws.specs.Body.{environment_in}
 use Rattle.mini_laws.specs.Bodies.{Body, bodies_in}
 use Rattle.mini_kept.specs.Carried.{with_number, numbers, all_numbers}
-use Rattle.mini_kept.proofs.SameScopes.{text_itself}
 use Rattle.mini_dead.specs.Creations.{FunctionSet, SameWithout}
-use Rattle.mini_dead.specs.Pruned.{Spot, Elsewhere, Role, DeclaratorList, role, spot_below, Lone, lone_number, Initializer, without_effect, of_function, Declarator, declarator, Item, function_item, declaration_item, lone_item, Pruned, prune, Prunings, end, stays, goes, declarator_goes, earlier, earlier_all, later, later_all, HoldsItems, HoldsDeclarators, AnyDeclarator, InitializerGoes, TakesValue, DeclaratorGoes, DeclaratorsGo, ItemGoes, Prunes, PrunesAll}
+use Rattle.mini_dead.specs.Pruned.{Spot, Elsewhere, Role, DeclaratorList, role, spot_below, Lone, lone_number, Initializer, without_effect, of_function, initializer_tree, own_name, Declarator, declarator, declarator_tree, declarator_trees, item_tree, Item, function_item, declaration_item, lone_item, Pruned, prune, Prunings, end, stays, goes, declarator_goes, earlier, earlier_all, later, later_all, HoldsItems, HoldsDeclarators, AnyDeclarator, InitializerGoes, TakesValue, DeclaratorGoes, DeclaratorsGo, ItemGoes, Prunes, PrunesAll}
 use Rattle.mini_dead.specs.PrunedBodies.{MayWrite, BodyWithout, BodiesWithout}
 use Rattle.mini_dead.specs.Drops as law
-use Rattle.mini_dead.specs.Drops.{declarator_name, declarator_names, item_names, gone_names, all_gone_names, gone, NameIsDead, InitializerIsDead, DeclaratorIsDead, DeclaratorsAreDead, ItemIsDead, DropsDead, AllDropDead, gone_from, times_in, NumbersOnce, ShowsShared, BodyStays, BodiesStay, Drops}
+use Rattle.mini_dead.specs.Drops.{lost_from, declarator_name, declarator_names, item_names, gone_names, all_gone_names, gone, NameIsDead, InitializerIsDead, DeclaratorIsDead, DeclaratorsAreDead, ItemIsDead, DropsDead, AllDropDead, gone_from, times_in, NumbersOnce, ShowsShared, BodyStays, BodiesStay, Drops}
 use Rattle.mini_dead.proofs.Effects.{without_effect_still}
 use Rattle.mini_dead.proofs.Lean.{same_variables}
-use Rattle.mini_dead.proofs.Avoiding.{writable, not_shared}
+use Rattle.mini_dead.proofs.Avoiding.{unnamed_in, itself}
 use Rattle.mini_dead.proofs.Numbers as number
-use Rattle.mini_dead.proofs.Numbers.{initializer_functions, declarator_functions, declarators_functions, item_functions, gone_functions, all_gone_functions, fits_numbered}
+use Rattle.mini_dead.proofs.Numbers.{Numbered, initializer_functions, declarator_functions, declarators_functions, item_functions, gone_functions, all_gone_functions, fits_numbered}
 use Rattle.mini_dead.proofs.PrunedBodies.{pruned_program}
 
 -- ---- a test that holds of each of a list
 
-abbrev Each : {A : Type 0} → (A → Bool) → List A → Type 0
+abbrev pub Each : {A : Type 0} → (A → Bool) → List A → Type 0
 Each f [] = Unit {0}
 Each f (x ∷ xs) = (f x ≡ true) × Each f xs
 
@@ -53,10 +55,6 @@ both_parts f (x ∷ xs) ys a b = (a.0, both_parts f xs ys a.1 b)
 each_counted : (f : ℕ → Bool) (ks : List ℕ) → ((n : ℕ) → 1 ≤ times_in n ks → f n ≡ true) → Each f ks
 each_counted f [] h = tt
 each_counted f (k ∷ ks) h = (h k (omega (arith, ap (λ b. (if b then 1 else 0) + times_in k ks) (eq-eqb k k refl))), each_counted f ks (λ n m. h n (omega (arith, m))))
-
-itself : (x : Variable) → variable_eq x x ≡ true
-itself (Declared k) = eq-eqb k k refl
-itself (Global s) = text_itself s
 
 -- of the names whose variable stands in a list
 later_name : (y x : Variable) (xs : List Variable) → is_in y xs ≡ true → is_in y (x ∷ xs) ≡ true
@@ -165,7 +163,7 @@ module _ (t : Tree) (D : VariableSet) (rounds : ℕ → ℕ) where
     all_names_known r i (goes c ps) a = both_parts has_symbol_at_all (item_names c) (all_gone_names ps) (item_known c a.1) (all_names_known r (suc i) ps a.2)
     all_names_known r i (declarator_goes c ps) a = (declarator_known c a.1, all_names_known r (suc i) ps a.2)
 
-abbrev Known : Variable → Type 0
+abbrev pub Known : Variable → Type 0
 Known x = (s : ℕ) × (x ≡ Declared s)
 
 by_its_symbol : (s : List ℕ) (o : Option SymbolId) → is_some o ≡ true → Known (variable_by s o)
@@ -180,57 +178,92 @@ known (y ∷ ys) a x p = by (variable_eq (variable_of y) x) refl p (known ys a.1
     by true q r f = subst Known (same_variables (variable_of y) x q) (by_its_symbol y.spelling y.symbol a.0)
     by false q r f = f r
 
--- ---- the bodies that stay
+-- ---- the symbols that go are named in the earlier tree alone
 
-module _ (u : Tree) (d : FunctionSet) (D : VariableSet) (symbols : (x : Variable) → D x ≡ true → Known x) (v : Avoids D u) where
-  written : (strict : Bool) (x : Variable) → D x ≡ true → (environment_in u (λ y. false) (λ y. false) strict false).fixed x ≡ Writes
-  written strict x p = subst (λ y. (environment_in u (λ z. false) (λ z. false) strict false).fixed y ≡ Writes) (sym (symbols x p).1) (at (symbols x p).0 (ap D (sym (symbols x p).1) ∙ p))
-    where
-      by : (strict : Bool) (s : ℕ) → written_in strict (Declared s) Writable ≡ Writes
-      by true s = refl
-      by false s = refl
+each_weaker : {A : Type 0} (f g : A → Bool) (xs : List A) → ((x : A) → f x ≡ true → g x ≡ true) → Each f xs → Each g xs
+each_weaker f g [] h a = tt
+each_weaker f g (x ∷ xs) h a = (h x a.0, each_weaker f g xs h a.1)
 
-      at : (s : ℕ) → D (Declared s) ≡ true → (environment_in u (λ z. false) (λ z. false) strict false).fixed (Declared s) ≡ Writes
-      at s q = ap (written_in strict (Declared s)) (writable D (Declared s) q u v) ∙ by strict s
+in_first : (t : Tree) (ts : Trees) (x : Variable) → mentions t x ≡ true → any_mentions (t ▸ ts) x ≡ true
+in_first t ts x p = ap (λ b. b || any_mentions ts x) p
 
-  apart_from : (b : ℕ) (shared : VariableSet) → ShowsShared u b shared → (x : Variable) → D x ≡ true → shared x ≡ false
-  apart_from b shared h x p = ap shared (symbols x p).1 ∙ h (symbols x p).0 (not_shared D (symbols x p).0 (ap D (sym (symbols x p).1) ∙ p) u v b)
+in_others : (t : Tree) (ts : Trees) (x : Variable) → any_mentions ts x ≡ true → any_mentions (t ▸ ts) x ≡ true
+in_others t ts x p = by (mentions t x) p
+  where
+    by : (b : Bool) → any_mentions ts x ≡ true → (b || any_mentions ts x) ≡ true
+    by true p = refl
+    by false p = p
 
-  body_stays : (t : Tree) → gone_from t u ≡ d → (b c : Body) → BodyWithout d D b c → BodyStays t u b c
-  body_stays t same b c w = record {
-    number = w.number;
-    kind = w.kind;
-    strict = w.strict;
-    asks_this = w.asks_this;
-    same = λ shared foreign h.
-        let e = environment_in u shared foreign c.strict c.asks_this in
-        subst₂ (λ f k. SameWithout f e k b.root c.root) (sym same) w.kind (w.same e (λ x p. written c.strict x p) (apart_from c.number shared h));
-  }
+in_node : (h : Shape) (xs : List Name) (n : ℕ) (ts : Trees) (x : Variable) → any_mentions ts x ≡ true → mentions (node h xs n ts) x ≡ true
+in_node h xs n ts x p = by (is_in x (variables xs)) p
+  where
+    by : (b : Bool) → any_mentions ts x ≡ true → (b || any_mentions ts x) ≡ true
+    by true p = refl
+    by false p = p
 
-  find : (t : Tree) → gone_from t u ≡ d → (bs cs : List Body) → BodiesWithout d D bs cs → (c : Body) → Contains cs c → (b : Body) × Contains bs b × BodyStays t u b c
-  find t same bs [] w c (i, less, at) = absurd (omega (arith, less))
-  find t same [] (c' ∷ cs) w c m = absurd w
-  find t same (b ∷ bs) (c' ∷ cs) (inl w) c (zero, less, at) = (b, (zero, omega arith, refl), subst (BodyStays t u b) at (body_stays t same b c' w.0))
-  find t same (b ∷ bs) (c' ∷ cs) (inl w) c (suc i, less, at) = further (find t same bs cs w.1 c (i, omega (arith, less), at))
-    where
-      further : (b' : Body) × Contains bs b' × BodyStays t u b' c → (b' : Body) × Contains (b ∷ bs) b' × BodyStays t u b' c
-      further (b', (j, below, is), s) = (b', (suc j, omega (arith, below), is), s)
-  find t same (b ∷ bs) (c' ∷ cs) (inr w) c m = further (find t same bs (c' ∷ cs) w c m)
-    where
-      further : (b' : Body) × Contains bs b' × BodyStays t u b' c → (b' : Body) × Contains (b ∷ bs) b' × BodyStays t u b' c
-      further (b', (j, below, is), s) = (b', (suc j, omega (arith, below), is), s)
+own_named : (x : Name) (m : ℕ) → mentions (own_name x m) (variable_of x) ≡ true
+own_named x m = ap (λ b. choose b true false || false) (itself (variable_of x))
 
--- of a pruned tree
-of_pruned : (p : Pruned) (rounds : ℕ → ℕ) → DropsDead (earlier p) (gone p) rounds Elsewhere p → Avoids (gone p) (later p) → IsWellShaped (earlier p) → NumbersOnce (earlier p) → BodiesStay (earlier p) (later p)
-of_pruned p rounds a v shaped once c m =
+declarator_named : (c : Declarator) → mentions (declarator_tree c) (variable_of (declarator_name c)) ≡ true
+declarator_named (declarator n x m init) = in_first (own_name x m) (initializer_tree init ▸ none) (variable_of x) (own_named x m)
+
+declarators_named : (cs : List Declarator) → Each (named (any_mentions (declarator_trees cs))) (declarator_names cs)
+declarators_named [] = tt
+declarators_named (c ∷ cs) =
+    (in_first (declarator_tree c) (declarator_trees cs) (variable_of (declarator_name c)) (declarator_named c),
+    each_weaker (named (any_mentions (declarator_trees cs))) (named (any_mentions (declarator_trees (c ∷ cs)))) (declarator_names cs) (λ x p. in_others (declarator_tree c) (declarator_trees cs) (variable_of x) p) (declarators_named cs))
+
+item_named : (i : Item) → Each (named (mentions (item_tree i))) (item_names i)
+item_named (function_item g ds xs n x m ts) = (in_node (shape.Function true g ds) xs n (own_name x m ▸ ts) (variable_of x) (in_first (own_name x m) ts (variable_of x) (own_named x m)), tt)
+item_named (declaration_item k xs n ys m c cs) =
+    each_weaker (named (any_mentions (declarator_trees (c ∷ cs)))) (named (mentions (item_tree (declaration_item k xs n ys m c cs)))) (declarator_names (c ∷ cs))
+    (λ x p. in_node (shape.VariableDeclaration k) xs n (node shape.Listed ys m (declarator_trees (c ∷ cs)) ▸ none) (variable_of x) (in_first (node shape.Listed ys m (declarator_trees (c ∷ cs))) none (variable_of x) (in_node shape.Listed ys m (declarator_trees (c ∷ cs)) (variable_of x) p)))
+    (declarators_named (c ∷ cs))
+item_named (lone_item xs n f) = tt
+
+all_of : (t : Tree) (ps : Prunings) (xs : List Name) → Each (named (mentions t)) xs → Each (named (any_mentions (earlier_all ps))) (all_gone_names ps) → Each (named (any_mentions (t ▸ earlier_all ps))) (xs ++ all_gone_names ps)
+all_of t ps xs a b = both_parts (named (any_mentions (t ▸ earlier_all ps))) xs (all_gone_names ps) (each_weaker (named (mentions t)) (named (any_mentions (t ▸ earlier_all ps))) xs (λ x p. in_first t (earlier_all ps) (variable_of x) p) a)
+    (each_weaker (named (any_mentions (earlier_all ps))) (named (any_mentions (t ▸ earlier_all ps))) (all_gone_names ps) (λ x p. in_others t (earlier_all ps) (variable_of x) p) b)
+
+mutual
+  names_named : (p : Pruned) → Each (named (mentions (earlier p))) (gone_names p)
+  names_named (prune h xs n ps) = each_weaker (named (any_mentions (earlier_all ps))) (named (mentions (node h xs n (earlier_all ps)))) (all_gone_names ps) (λ x p. in_node h xs n (earlier_all ps) (variable_of x) p) (all_names_named ps)
+
+  all_names_named : (ps : Prunings) → Each (named (any_mentions (earlier_all ps))) (all_gone_names ps)
+  all_names_named end = tt
+  all_names_named (stays p ps) = all_of (earlier p) ps (gone_names p) (names_named p) (all_names_named ps)
+  all_names_named (goes c ps) = all_of (item_tree c) ps (item_names c) (item_named c) (all_names_named ps)
+  all_names_named (declarator_goes c ps) = all_of (declarator_tree c) ps (declarator_name c ∷ []) (declarator_named c, tt) (all_names_named ps)
+
+-- a set that has the variable of each name has each variable of theirs
+has_each : (D : VariableSet) (xs : List Name) → Each (named D) xs → (x : Variable) → is_in x (variables xs) ≡ true → D x ≡ true
+has_each D [] a x p = absurd (true≢false (sym p))
+has_each D (y ∷ ys) a x p = by (variable_eq (variable_of y) x) refl p (has_each D ys a.1 x)
+  where
+    by : (b : Bool) → variable_eq (variable_of y) x ≡ b → choose b true (is_in x (variables ys)) ≡ true → (is_in x (variables ys) ≡ true → D x ≡ true) → D x ≡ true
+    by true q r f = ap D (sym (same_variables (variable_of y) x q)) ∙ a.0
+    by false q r f = f r
+
+lost_declared : (t u : Tree) (x : Variable) → Known x → mentions t x ≡ true → mentions u x ≡ false → lost_from t u x ≡ true
+lost_declared t u x (s, same) p q =
+    ap (lost_from t u) same ∙ ap (λ b. b && not (mentions u (Declared s))) (ap (mentions t) (sym same) ∙ p) ∙ ap not (ap (mentions u) (sym same) ∙ q)
+
+pub of_gone : (p : Pruned) (rounds : ℕ → ℕ) → DropsDead (earlier p) (gone p) rounds Elsewhere p → Avoids (gone p) (later p) → (x : Variable) → gone p x ≡ true → lost_from (earlier p) (later p) x ≡ true
+of_gone p rounds a v x g =
+    lost_declared (earlier p) (later p) x (known (gone_names p) (names_known (earlier p) (gone p) rounds Elsewhere p a) x g) (has_each (mentions (earlier p)) (gone_names p) (names_named p) x g) (unnamed_in (gone p) x g (later p) v)
+
+-- a body that hides a set of names hides each part of it
+pub hides_less : (d : FunctionSet) (C D : VariableSet) → ((x : Variable) → C x ≡ true → D x ≡ true) → (bs cs : List Body) → BodiesWithout d C bs cs → BodiesWithout d D bs cs
+hides_less d C D f bs [] a = tt
+hides_less d C D f [] (c ∷ cs) a = absurd a
+hides_less d C D f (b ∷ bs) (c ∷ cs) (inl a) = inl (record { number = a.0.number; kind = a.0.kind; strict = a.0.strict; asks_this = a.0.asks_this; same = λ e may apart. a.0.same e (λ x p. may x (f x p)) (λ x p. apart x (f x p)) }, hides_less d C D f bs cs a.1)
+hides_less d C D f (b ∷ bs) (c ∷ cs) (inr a) = inr (hides_less d C D f bs (c ∷ cs) a)
+
+-- a program that lost dead items once
+pub of_pruned : (p : Pruned) (rounds : ℕ → ℕ) → DropsDead (earlier p) (gone p) rounds Elsewhere p → Avoids (gone p) (later p) → Numbered (earlier p) → NumbersOnce (earlier p) → BodiesWithout (gone_from (earlier p) (later p)) (lost_from (earlier p) (later p)) (bodies_in (earlier p)) (bodies_in (later p))
+of_pruned p rounds a v numbered once =
     let d = gone_from (earlier p) (later p) in
-    let numbered = fits_numbered false (one a_program) (earlier p) shaped in
-    find (later p) d (gone p) (known (gone_names p) (names_known (earlier p) (gone p) rounds Elsewhere p a)) v (earlier p) refl (bodies_in (earlier p)) (bodies_in (later p))
+    hides_less d (gone p) (lost_from (earlier p) (later p)) (of_gone p rounds a v) (bodies_in (earlier p)) (bodies_in (later p))
     (pruned_program d (gone p) p (number.zero_stays (earlier p) (later p)) (λ e may.
         prunes (earlier p) (gone p) rounds d (number.zero_stays (earlier p) (later p)) e may Elsewhere p a v (each_name (named (gone p)) (gone_names p) (λ x q. q))
-        (each_counted d (gone_functions p) (λ n k. number.function_gone n p numbered once k)) (each_counted (kept d) (numbers (later p)) (λ n k. ap not (number.number_stays n p k))))) c m
-
-pub drops_keep_bodies : law.DropsKeepBodies
-drops_keep_bodies t u n w shaped once =
-    subst₂ BodiesStay w.before w.after
-    (of_pruned w.pruned w.rounds (subst (λ t. DropsDead t (gone w.pruned) w.rounds Elsewhere w.pruned) (sym w.before) w.dead) (subst (Avoids (gone w.pruned)) (sym w.after) w.unnamed) (subst IsWellShaped (sym w.before) shaped) (subst NumbersOnce (sym w.before) once))
+        (each_counted d (gone_functions p) (λ n k. number.function_gone n p numbered once k)) (each_counted (kept d) (numbers (later p)) (λ n k. ap not (number.number_stays n p k)))))

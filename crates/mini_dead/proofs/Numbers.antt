@@ -162,6 +162,19 @@ module _ (n : ℕ) where
     all_counted (declarator_goes c ps) a =
         omega (arith, declarator_counted c a.0, all_counted ps a.1, times_append (declarator_functions c) (all_gone_functions ps), times_append (numbers (declarator_tree c)) (all_numbers (earlier_all ps)))
 
+  mutual
+    unfolding numbers
+
+    pub fewer : (p : Pruned) → times_in n (numbers (later p)) ≤ times_in n (numbers (earlier p))
+    fewer (prune h xs zero ps) = all_fewer ps
+    fewer (prune h xs (suc k) ps) = omega (arith, all_fewer ps)
+
+    all_fewer : (ps : Prunings) → times_in n (all_numbers (later_all ps)) ≤ times_in n (all_numbers (earlier_all ps))
+    all_fewer end = omega arith
+    all_fewer (stays p ps) = omega (arith, fewer p, all_fewer ps, times_append (numbers (later p)) (all_numbers (later_all ps)), times_append (numbers (earlier p)) (all_numbers (earlier_all ps)))
+    all_fewer (goes i ps) = omega (arith, all_fewer ps, times_append (numbers (item_tree i)) (all_numbers (earlier_all ps)))
+    all_fewer (declarator_goes c ps) = omega (arith, all_fewer ps, times_append (numbers (declarator_tree c)) (all_numbers (earlier_all ps)))
+
   -- ---- whether a number is there at all
 
   some_times : (ks : List ℕ) → 1 ≤ times_in n ks → list_any (nat_eq n) ks ≡ true
@@ -179,6 +192,17 @@ module _ (n : ℕ) where
       by : (b : Bool) → (if b then 1 else 0) + times_in n ks ≡ 0 → (times_in n ks ≡ 0 → list_any (nat_eq n) ks ≡ false) → (b || list_any (nat_eq n) ks) ≡ false
       by true a f = absurd (omega (arith, a))
       by false a f = f (omega (arith, a))
+
+  there : (ks : List ℕ) → list_any (nat_eq n) ks ≡ true → 1 ≤ times_in n ks
+  there [] p = absurd (true≢false (sym p))
+  there (k ∷ ks) p = by (nat_eq n k) p (there ks)
+    where
+      by : (b : Bool) → (b || list_any (nat_eq n) ks) ≡ true → (list_any (nat_eq n) ks ≡ true → 1 ≤ times_in n ks) → 1 ≤ (if b then 1 else 0) + times_in n ks
+      by true p f = omega arith
+      by false p f = omega (arith, f p)
+
+  pub was_there : (p : Pruned) → list_any (nat_eq n) (numbers (later p)) ≡ true → list_any (nat_eq n) (numbers (earlier p)) ≡ true
+  was_there p q = some_times (numbers (earlier p)) (omega (arith, fewer p, there (numbers (later p)) q))
 
   pub function_gone : (p : Pruned) → Numbered (earlier p) → NumbersOnce (earlier p) → 1 ≤ times_in n (gone_functions p) → gone_from (earlier p) (later p) n ≡ true
   function_gone p a once m =
@@ -221,3 +245,13 @@ mutual
 
 pub zero_stays : (t u : Tree) → gone_from t u 0 ≡ false
 zero_stays t u = ap (λ b. b && not (list_any (nat_eq 0) (numbers u))) (zero_absent t)
+
+mutual
+  pub numbered_still : (p : Pruned) → Numbered (earlier p) → Numbered (later p)
+  numbered_still (prune h xs n ps) a = (a.0, all_numbered_still ps a.1)
+
+  all_numbered_still : (ps : Prunings) → AllNumbered (earlier_all ps) → AllNumbered (later_all ps)
+  all_numbered_still end a = tt
+  all_numbered_still (stays p ps) a = (numbered_still p a.0, all_numbered_still ps a.1)
+  all_numbered_still (goes i ps) a = all_numbered_still ps a.1
+  all_numbered_still (declarator_goes c ps) a = all_numbered_still ps a.1

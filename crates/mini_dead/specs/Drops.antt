@@ -12,13 +12,15 @@ use Rattle.mini_laws.specs.declared.names.Use.TheVariants.{Read}
 use Rattle.mini_laws.specs.References.{Reference, references, references_from}
 use Rattle.mini_laws.specs.Shared.{is_shared_always, is_shared}
 use Rattle.mini_laws.specs.ScopeList.{by_symbol}
-use Rattle.mini_laws.specs.Value.{Variable, Declared, VariableSet, variable_of, variables, is_in}
+use Rattle.mini_laws.specs.Value.{Variable, Declared, Global, VariableSet, variable_of, variables, is_in}
+use Rattle.mini_laws.specs.Writable.{mentions}
 use Rattle.mini_laws.specs.Congruence.{Avoids}
 use Rattle.mini_laws.specs.Body.{environment_in}
 use Rattle.mini_laws.specs.Bodies.{Body, bodies_in}
 use Rattle.mini_kept.specs.Carried.{numbers}
 use Rattle.mini_dead.specs.Creations.{FunctionSet, SameWithout}
 use Rattle.mini_dead.specs.Pruned.{Spot, Elsewhere, Role, DeclaratorList, role, spot_below, Initializer, without_effect, of_function, initializer_tree, Declarator, declarator, Item, function_item, declaration_item, lone_item, Pruned, prune, Prunings, end, stays, goes, declarator_goes, earlier, later, HoldsItems, HoldsDeclarators}
+use Rattle.mini_dead.specs.PrunedBodies.{BodiesWithout}
 use Rattle.mini_dead.specs.Dead.{is_without_effect}
 
 -- ---- what goes
@@ -146,6 +148,11 @@ pub data DropsAgain : Tree → Tree → ℕ → Type 0 where
 abbrev pub gone_from : Tree → Tree → FunctionSet
 gone_from t u n = list_any (nat_eq n) (numbers t) && not (list_any (nat_eq n) (numbers u))
 
+-- the symbols that the first program names and the second doesn't
+abbrev pub lost_from : Tree → Tree → VariableSet
+lost_from t u (Declared k) = mentions t (Declared k) && not (mentions u (Declared k))
+lost_from t u (Global s) = false
+
 abbrev pub times_in : ℕ → List ℕ → ℕ
 times_in n [] = 0
 times_in n (k ∷ ks) = (if nat_eq n k then 1 else 0) + times_in n ks
@@ -154,11 +161,18 @@ times_in n (k ∷ ks) = (if nat_eq n k then 1 else 0) + times_in n ks
 abbrev pub NumbersOnce : Tree → Type 0
 NumbersOnce t = (n : ℕ) → times_in n (numbers t) < 2
 
+-- The bodies that are left do what they did, but for the creation of the functions that went, in
+-- every environment whose events show none of the symbols that went and in which those can be written
+abbrev pub DropsKeepBodies : Type 0
+DropsKeepBodies = (t u : Tree) (n : ℕ) → DropsAgain t u n → IsWellShaped t → NumbersOnce t → BodiesWithout (gone_from t u) (lost_from t u) (bodies_in t) (bodies_in u)
+
+-- ---- in the environment of a body that is left
+
 -- a set of variables that has no declared one but those which a body shares
 abbrev pub ShowsShared : Tree → ℕ → VariableSet → Type 0
 ShowsShared u b shared = (s : ℕ) → is_shared u b (by_symbol s) ≡ false → shared (Declared s) ≡ false
 
--- a body that is left and the one that it was: it does the same without the creation of what went
+-- a body that is left and the one that it was
 pub record BodyStays (t u : Tree) (b c : Body) : Type 0 where
   pub number : b.number ≡ c.number
   pub kind : b.kind ≡ c.kind
@@ -166,8 +180,9 @@ pub record BodyStays (t u : Tree) (b c : Body) : Type 0 where
   pub asks_this : b.asks_this ≡ c.asks_this
   pub same : (shared foreign : VariableSet) → ShowsShared u c.number shared → SameWithout (gone_from t u) (environment_in u shared foreign c.strict c.asks_this) c.kind b.root c.root
 
+-- each body that is left is one that the first program has
 abbrev pub BodiesStay : Tree → Tree → Type 0
 BodiesStay t u = (c : Body) → Contains (bodies_in u) c → (b : Body) × Contains (bodies_in t) b × BodyStays t u b c
 
-abbrev pub DropsKeepBodies : Type 0
-DropsKeepBodies = (t u : Tree) (n : ℕ) → Drops t u n → IsWellShaped t → NumbersOnce t → BodiesStay t u
+abbrev pub DroppedBodiesStay : Type 0
+DroppedBodiesStay = (t u : Tree) (n : ℕ) → DropsAgain t u n → IsWellShaped t → NumbersOnce t → BodiesStay t u

@@ -6,7 +6,7 @@ ghost use Rattle.mini_dead.specs.Creations.{WithoutNone, WithoutTwice};
 ghost use Rattle.mini_dead.specs.Differences.{UnansweredDiffers, LoneDeclarationDiffers};
 ghost use Rattle.mini_dead.specs.Pruned.{PrunedSame};
 ghost use Rattle.mini_dead.specs.PrunedBodies.{PrunedProgram};
-ghost use Rattle.mini_dead.specs.Drops.{DropsKeepBodies};
+ghost use Rattle.mini_dead.specs.Drops.{DropsKeepBodies, DroppedBodiesStay};
 
 /// A body from whose lists of statements dead items go does what it did, but for the creation of the functions that went.
 pub fn pruned_is_same()
@@ -31,8 +31,9 @@ pub fn pruned_program()
     ensures { PrunedProgram }
 {}
 
-/// Each body of a program that lost dead items is one that it had, and does what that did, but for the creation of the functions that
-/// went, whatever its events show of the variables that it shares.
+/// Each body of a program that lost dead items, any number of times, is one that it had, and does what that did, but for the creation
+/// of the functions that went: in every environment that hides the symbols that went, and so in that of the later program.
 pub fn drops_keep_bodies()
-    ensures { DropsKeepBodies }
+    ensures bodies { DropsKeepBodies }
+    ensures stay { DroppedBodiesStay }
 {}
