@@ -59,7 +59,8 @@ mutual
 
 -- ---- what goes in two steps
 
--- of a thing in the first, the second and the third program, where none has one that those before lack
+-- of a thing in the first, the second and the third program, where none has one that those before
+-- lack
 module _ (a b c : Bool) (in_first : b ≡ true → a ≡ true) (in_second : c ≡ true → b ≡ true) where
   goes_first : (a && not b) ≡ true → (a && not c) ≡ true
   goes_first p = by a b c in_second p

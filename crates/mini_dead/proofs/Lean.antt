@@ -55,7 +55,8 @@ module _ (d : FunctionSet) (D : VariableSet) (E : List Event) where
     pub coming : List Event
     pub all : onto coming es ≡ E
 
-  -- the second state has the events but for the creations, and the answers that the events to come spare
+  -- the second state has the events but for the creations, and the answers that the events to come
+  -- spare
   pub record Lean (s t : State) : Type 0 where
     pub vars : (x : Variable) → D x ≡ false → s.vars x ≡ t.vars x
     pub self : s.self ≡ t.self
@@ -195,7 +196,7 @@ module _ (d : FunctionSet) (D : VariableSet) (E : List Event) where
     spared_rest : (v : Event) (a : Answer) (rest : List Answer) (fs : List Event) → v.fresh ≡ None → spared d (v ∷ fs) (a ∷ rest) ≡ choose (creates d v) (spared d fs rest) (a ∷ spared d fs rest)
     spared_rest v a rest fs k = ap (λ x. choose (is_none x) (choose (creates d v) (spared d fs rest) (a ∷ spared d fs rest)) (spared d fs (a ∷ rest))) k
 
-    -- the same answer in the second
+    -- an answer that the second state takes, too
     pub record Took (a : Answer) (t : State) : Type 0 where
       pub rest : List Answer
       pub same : a ∷ rest ≡ t.answers

@@ -33,8 +33,8 @@ name_if true x = Some x
 name_if false x = None
 
 -- The name that an item declares: `function f() {}` as a statement of a list, and a declarator of a
--- plain name, such as `x`, `x = 1` or `x = () => 1`, of a declaration that is one. A declarator with
--- a name of its own is no item: `try {} catch (e) { var e = 1; }` writes the parameter
+-- plain name, such as `x`, `x = 1` or `x = () => 1`, of a declaration in such a list. A declarator
+-- with a name of its own is no item: `try {} catch (e) { var e = 1; }` writes the parameter
 abbrev pub item_name : Role → Tree → Option Name
 item_name StatementList (node (shape.Function true is_generator directives) xs n (node shape.BindingIdentifier (x ∷ []) m none ▸ ts)) = Some x
 item_name (DeclaratorList lexical) (node shape.VariableDeclarator [] n (node shape.BindingIdentifier (x ∷ []) m none ▸ init ▸ none)) = name_if (is_dispensable init) x
@@ -50,15 +50,16 @@ is_lone r t = false
 abbrev pub has_this_symbol : ℕ → Name → Bool
 has_this_symbol s x = has_symbol s x.symbol
 
-abbrev pub binds : ℕ → Shape → List Name → Bool
-binds s shape.BindingIdentifier xs = list_any (has_this_symbol s) xs
-binds s h xs = false
+-- whether a node declares a symbol, or is a declarator whose own name has it: an identifier refers
+abbrev pub declares : ℕ → Shape → List Name → Bool
+declares s shape.Identifier xs = false
+declares s h xs = list_any (has_this_symbol s) xs
 
--- Whether something else than an item declares a symbol: a parameter, a pattern, a class, an import,
--- the head of a loop, `export var x`, or an initializer that does something, as in `var f = g();`
+-- Whether anything but an item declares a symbol: a parameter, a pattern, a class, an import, the
+-- head of a loop, `export var x`, or a declarator that does something, as in `var f = g();`
 unfoldable mutual
   pub declares_otherwise : ℕ → Spot → Tree → Bool
-  declares_otherwise s p (node h xs n ts) = binds s h xs || any_declares_otherwise s (role h p) 0 ts
+  declares_otherwise s p (node h xs n ts) = declares s h xs || any_declares_otherwise s (role h p) 0 ts
 
   pub any_declares_otherwise : ℕ → Role → ℕ → Trees → Bool
   any_declares_otherwise s r i none = false

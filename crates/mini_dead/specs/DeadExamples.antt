@@ -34,7 +34,7 @@ one_names_the_other : dead_count (resolved_program (in_g (function 2 (binding f)
 unfolding resolved symbols scopes_by body_names names_of with_names has_inner has_eval scope_list references module_names names_arguments reached_by_arguments caught pattern_writes declares_otherwise dead_items
 one_names_the_other = refl
 
--- function g() { function b() {} return null; }: and so is b without f
+-- function g() { function b() {} return null; }: b is dead, too, once f is gone
 then_the_other : dead_count (resolved_program (in_g (function 3 (binding b) none none ▸ returns_null ▸ none))) ≡ 1
 unfolding resolved symbols scopes_by body_names names_of with_names has_inner has_eval scope_list references module_names names_arguments reached_by_arguments caught pattern_writes declares_otherwise dead_items
 then_the_other = refl
@@ -94,7 +94,7 @@ top_names : dead_count (resolved_program (script (declares Var (binding x) absen
 unfolding resolved symbols scopes_by body_names names_of with_names has_inner has_eval scope_list references module_names names_arguments reached_by_arguments caught pattern_writes declares_otherwise dead_items
 top_names = refl
 
--- the same program as a module loses both
+-- var x; function f() {}: the names of a module go
 top_names_of_a_module : dead_count (resolved_program (module_of (declares Var (binding x) absent ▸ function 1 (binding f) none none ▸ none))) ≡ 2
 unfolding resolved symbols scopes_by body_names names_of with_names has_inner has_eval scope_list references module_names names_arguments reached_by_arguments caught pattern_writes declares_otherwise dead_items
 top_names_of_a_module = refl

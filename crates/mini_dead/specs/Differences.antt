@@ -1,4 +1,4 @@
--- Where what is done without an item differs: each premise is needed.
+-- Runs that differ without an item: each premise is needed.
 use Rattle.std.specs.Prelude.{◌≡◌, true, false, [], ◌∷◌, Option, Some, None, codes}
 use Rattle.mini_model.specs.declared.kind.VariableDeclarationKind.TheVariants.{Var}
 use Rattle.mini_model.specs.declared.name.Name.{Name}
@@ -38,13 +38,15 @@ abbrev pub outcome_of : Option Ran → Option Outcome
 outcome_of (Some r) = Some r.outcome
 outcome_of None = None
 
--- a creation that isn't answered any more ends the run: so each has to be answered
+-- A creation for which no answer is left ends the run, and the later run goes on without it: so
+-- each creation has to be answered
 abbrev pub UnansweredDiffers : Type 0
 UnansweredDiffers =
     (outcome_of (Run plain_environment FunctionStatements (body (function_f ▸ none)) no_values Undefined [] 0) ≡ Some NoAnswersEnd) × (outcome_of (Run plain_environment FunctionStatements (body none) no_values Undefined [] 0) ≡ Some (ReturnOf Undefined))
 
--- a `var` of its name that stays, and that begins without a binding, can be written behind the function alone: so either goes with the
--- other, or the name holds a value at the start
+-- `function f() {} var f = {};` in a function, where f begins without a binding: the function binds
+-- f before the `var` writes it. Without the function the `var` alone writes what has no binding,
+-- which is outside the model: so a function goes only with every declaration of its name
 abbrev pub LoneDeclarationDiffers : Type 0
 LoneDeclarationDiffers =
     (outcome_of (Run plain_environment FunctionStatements (body (function_f ▸ var_f ▸ none)) no_values Undefined (a_function ∷ an_object ∷ []) 0) ≡ Some (ReturnOf Undefined)) × (outcome_of (Run plain_environment FunctionStatements (body (var_f ▸ none)) no_values Undefined (an_object ∷ []) 0) ≡ None)

@@ -162,7 +162,8 @@ abbrev pub NumbersOnce : Tree → Type 0
 NumbersOnce t = (n : ℕ) → times_in n (numbers t) < 2
 
 -- The bodies that are left do what they did, but for the creation of the functions that went, in
--- every environment whose events show none of the symbols that went and in which those can be written
+-- every environment whose events show none of the symbols that went and in which those can be
+-- written
 abbrev pub DropsKeepBodies : Type 0
 DropsKeepBodies = (t u : Tree) (n : ℕ) → DropsAgain t u n → IsWellShaped t → NumbersOnce t → BodiesWithout (gone_from t u) (lost_from t u) (bodies_in t) (bodies_in u)
 

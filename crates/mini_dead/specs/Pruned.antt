@@ -1,5 +1,6 @@
--- A tree of which some items of lists go: function declarations and declarators that nothing mentions, and functions that are
--- statements alone.
+-- A tree of which some items go from lists of statements: function declarations and declarators,
+-- and functions that are statements by themselves. `function g() { function h() {} return 1; }`
+-- less h is `function g() { return 1; }`.
 use Rattle.std.specs.Prelude.{◌≡◌, ℕ, suc, Bool, true, false, List, [], ◌∷◌}
 use Rattle.mini_model.specs.declared.kind.VariableDeclarationKind.{VariableDeclarationKind}
 use Rattle.mini_model.specs.declared.name.Name.{Name}
@@ -15,8 +16,9 @@ use Rattle.mini_laws.specs.Body.{BodyKind}
 use Rattle.mini_laws.specs.Congruence.{NoneIn, Apart}
 use Rattle.mini_dead.specs.Creations.{FunctionSet, SameWithout}
 
--- where a node stands, as far as items go there: a list of statements, a statement of one, its declarators, which are lexical
--- or not, the cases of a `switch`, one of them, or elsewhere, as in the head of a loop
+-- where a node stands, as far as items go there: as a list of statements, a statement of one, the
+-- list of declarators of such a statement, which are lexical or not, the cases of a `switch`, a
+-- case, or elsewhere, as the head of a loop does
 pub data Spot : Type 0 where
   Elsewhere : Spot
   Statements : Spot
@@ -25,7 +27,7 @@ pub data Spot : Type 0 where
   CaseList : Spot
   OneCase : Spot
 
--- what a node's children are for that
+-- what a node that stands there is to its children
 pub data Role : Type 0 where
   Plain : Role
   HasStatements : Role
@@ -70,7 +72,7 @@ spot_below CasesOf i = OneCase
 spot_below CaseOf (suc i) = Statements
 spot_below r i = Elsewhere
 
--- a function or arrow alone
+-- a function expression or an arrow
 pub data Lone : Type 0 where
   a_function : Bool → List (List ℕ) → List Name → ℕ → Trees → Lone
   an_arrow : List (List ℕ) → List Name → ℕ → Trees → Lone
@@ -83,7 +85,7 @@ abbrev pub lone_number : Lone → ℕ
 lone_number (a_function is_generator directives xs n ts) = n
 lone_number (an_arrow directives xs n ts) = n
 
--- an initializer that is absent or has no effect, or a function or arrow
+-- an initializer: one that is absent or has no effect, or a function expression or an arrow
 pub data Initializer : Type 0 where
   without_effect : Tree → Initializer
   of_function : Lone → Initializer
@@ -92,11 +94,11 @@ abbrev pub initializer_tree : Initializer → Tree
 initializer_tree (without_effect t) = t
 initializer_tree (of_function f) = lone_tree f
 
--- a plain name in a place of its own
+-- a name where it is declared
 abbrev pub own_name : Name → ℕ → Tree
 own_name x n = node shape.BindingIdentifier (x ∷ []) n none
 
--- a declarator of a plain name
+-- a declarator of a plain name, as `x = 1` in `let x = 1`, without another name that it writes
 pub data Declarator : Type 0 where
   declarator : ℕ → Name → ℕ → Initializer → Declarator
 
@@ -107,7 +109,8 @@ abbrev pub declarator_trees : List Declarator → Trees
 declarator_trees [] = none
 declarator_trees (c ∷ cs) = declarator_tree c ▸ declarator_trees cs
 
--- a statement that may go: a function declaration, a declaration of which each declarator may go, or a function or arrow alone
+-- a statement that may go: a function declaration, a declaration all of whose declarators go, or a
+-- function expression or an arrow by itself
 pub data Item : Type 0 where
   function_item : Bool → List (List ℕ) → List Name → ℕ → Name → ℕ → Trees → Item
   declaration_item : VariableDeclarationKind → List Name → ℕ → List Name → ℕ → Declarator → List Declarator → Item
@@ -118,7 +121,7 @@ item_tree (function_item is_generator directives xs n x m ts) = node (shape.Func
 item_tree (declaration_item k xs n ys m c cs) = node (shape.VariableDeclaration k) xs n (node shape.Listed ys m (declarator_trees (c ∷ cs)) ▸ none)
 item_tree (lone_item xs n f) = node shape.ExpressionStatement xs n (lone_tree f ▸ none)
 
--- a tree some of whose items go, at any places in lists
+-- a tree of which some items go, at any places of its lists
 mutual
   pub data Pruned : Type 0 where
     prune : Shape → List Name → ℕ → Prunings → Pruned
@@ -149,14 +152,14 @@ abbrev mutual
   later_all (goes i ps) = later_all ps
   later_all (declarator_goes c ps) = later_all ps
 
--- leaves the state as it was, or the model
+-- a part of a run that leaves the state as it was, or leaves the model
 unfoldable pub Still : {A : Type 0} → State → Completion A → Type 0
 Still s (ok a t) = t ≡ s
 Still s (stop x t) = ⊥
 Still s (halt x t) = ⊥
 Still s out = Unit {0}
 
--- where items go, and declarators
+-- the lists from which items go, and those from which declarators go
 abbrev pub HoldsItems : Role → Type 0
 HoldsItems StatementList = Unit {0}
 HoldsItems r = ⊥
@@ -166,7 +169,7 @@ HoldsDeclarators (DeclaratorList lexical) = Unit {0}
 HoldsDeclarators r = ⊥
 
 module _ (d : FunctionSet) (D : VariableSet) (e : Environment) where
-  -- an initializer without effects
+  -- an initializer's evaluation does nothing
   abbrev pub Effectless : Tree → Type 0
   Effectless t = (s : State) → Still s (means e t (As Val) tt s)
 
@@ -174,7 +177,7 @@ module _ (d : FunctionSet) (D : VariableSet) (e : Environment) where
   InitializerGoes (without_effect t) = Effectless t
   InitializerGoes (of_function f) = d (lone_number f) ≡ true
 
-  -- a lexical name is initialised, and another is one that may be written
+  -- a lexical name is initialised, and a `var` has to be one that can be written
   abbrev pub TakesValue : Bool → Variable → Type 0
   TakesValue true x = Unit {0}
   TakesValue false x = e.fixed x ≡ Writes
@@ -195,7 +198,8 @@ module _ (d : FunctionSet) (D : VariableSet) (e : Environment) where
   AnyDeclarator (DeclaratorList lexical) c = DeclaratorGoes lexical c
   AnyDeclarator r c = ⊥
 
-  -- only such items go, and what stays mentions no dead name and is none of the functions that go
+  -- Items alone go, from lists alone: they declare names of D, and functions among them have
+  -- numbers of d. What stays has no name of D and no number of d
   abbrev mutual
     pub Prunes : Spot → Pruned → Type 0
     Prunes p (prune h xs n ps) = NoneIn D (variables xs) × (d n ≡ false) × PrunesAll (role h p) 0 ps
@@ -206,6 +210,6 @@ module _ (d : FunctionSet) (D : VariableSet) (e : Environment) where
     PrunesAll r i (goes t ps) = HoldsItems r × ItemGoes t × PrunesAll r (suc i) ps
     PrunesAll r i (declarator_goes c ps) = AnyDeclarator r c × PrunesAll r (suc i) ps
 
--- so a body does what it did, but for the creation of the functions that went
+-- then a body does what it did, but for the creation of the functions that went
 abbrev pub PrunedSame : Type 0
 PrunedSame = (d : FunctionSet) (D : VariableSet) (e : Environment) → Apart e D → (k : BodyKind) (p : Pruned) → Prunes d D e Elsewhere p → SameWithout d e k (earlier p) (later p)
