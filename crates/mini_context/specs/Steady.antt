@@ -6,8 +6,8 @@
 --
 -- x and y are steady in f and in the arrow, and z and v in f alone, as the arrow may be called
 -- before z is declared and before v has its value. With `y = 2` in it the arrow writes y, which
--- then is steady in no body. Both begin with x and y, f begins with v (which is undefined then), and
--- neither shares y.
+-- then is steady in no body. Both begin with x and y, and f with v, which is undefined then.
+-- Neither shares y.
 use Rattle.std.specs.Prelude.{ℕ, ◌≡◌, ◌<◌, nat_lt, Bool, false, not, ◌&&◌, length}
 use Rattle.std.specs.List.{list_any}
 use Rattle.mini_model.specs.Tree.{Tree}

@@ -33,8 +33,8 @@ of_symbols p (Declared s) = p s
 of_symbols p (Global s) = false
 
 -- Of the body with a number: no answer changes what is steady in it; no event shows what it doesn't
--- share; what is steady and nowhere lexical is initialised as the body starts, to undefined where it
--- is a `var` of the body (ECMA-262, "FunctionDeclarationInstantiation",
+-- share; what is steady and nowhere lexical is initialised as the body starts, to undefined where
+-- it is a `var` of the body (ECMA-262, "FunctionDeclarationInstantiation",
 -- "GlobalDeclarationInstantiation"); and it has a `this` if no body of that number asks the world
 -- for it
 abbrev pub told_in : Tree → BodySets
