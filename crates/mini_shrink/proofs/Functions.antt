@@ -1,13 +1,13 @@
 -- What a function tells whose scopes declare a symbol: its own name or a parameter is read early
 -- nowhere, and a lexical name of its body as the moments say.
-use Rattle.std.specs.Prelude.{ℕ, zero, suc, ◌+◌, ◌≤◌, ◌≡◌, ◌⊎◌, refl, Bool, true, false, not, ◌&&◌, ◌||◌, List, [], ◌∷◌, ◌++◌, if◌then◌else◌, None}
+use Rattle.std.specs.Prelude.{ℕ, zero, suc, ◌+◌, ◌≤◌, ◌≡◌, ◌⊎◌, refl, Bool, true, false, not, ◌&&◌, ◌||◌, List, [], ◌∷◌, ◌++◌, if◌then◌else◌, Option, Some, None}
 use Rattle.std.proofs.Common.{ap, ◌∙◌, sym, subst, arith, inl, inr, true≢false}
 use Rattle.std.proofs.lemmas.List.{append-nil}
 use Rattle.mini_model.specs.declared.name.Name.{Name}
 use Rattle.mini_model.specs.declared.shape.Shape.{Shape}
 use Rattle.mini_model.specs.declared.shape.Shape.TheVariants as shape
 use Rattle.mini_model.specs.Tree.{Tree, Trees, node, none, ◌▸◌}
-use Rattle.mini_accept.specs.WellShaped.{in_body, Class, a_statement, a_pattern, a_pattern_rest, a_parameter, a_function_body, an_arrow_body, Slot, one, many, many_and_rest, these, each_or_last, filling_by, slots_of, has_names, has_its_number, is_whole, is_last, is_function_body, is_strict_in, fits, fill}
+use Rattle.mini_accept.specs.WellShaped.{in_body, a_key, a_private_or_key, an_inner_key, is_sloppy_function, in_depth, class_of, Class, a_statement, a_pattern, a_pattern_rest, a_parameter, a_function_body, an_arrow_body, Slot, one, many, many_and_rest, these, each_or_last, filling_by, slots_of, has_names, has_its_number, is_whole, is_last, is_function_body, is_strict_in, fits, fill}
 use Rattle.mini_laws.specs.declared.names.Use.{Use}
 use Rattle.mini_laws.specs.declared.names.Use.TheVariants.{Read}
 use Rattle.mini_laws.specs.declared.names.Binding.{Binding}
@@ -21,7 +21,8 @@ use Rattle.mini_laws.specs.Resolved.{Environment, symbol_of}
 use Rattle.mini_laws.specs.Scoped.{Scoped}
 use Rattle.mini_laws.specs.Scopes.{is_alone, use_of, body_scope, merged, scopes_by, opened}
 use Rattle.mini_laws.specs.ScopeList.{by_symbol}
-use Rattle.mini_laws.specs.Symbols.{symbols_in, is_same, times}
+use Rattle.mini_laws.specs.Symbols.{symbols_in, declared as declared_in, declared_from, is_same, times}
+use Rattle.mini_laws.proofs.Changes.{times_three}
 use Rattle.mini_laws.proofs.Numbers.{symbol_of_both}
 use Rattle.mini_kept.specs.Loosely.{symbol}
 use Rattle.mini_kept.proofs.Bools.{left, right, or_second, both as and_both}
@@ -42,13 +43,42 @@ use Rattle.mini_shrink.proofs.Homes.{all_unbound}
 use Rattle.mini_shrink.proofs.Inside.{Handles, Brings, body_among, among_only}
 use Rattle.mini_shrink.proofs.Items.{AllSound, owes, nothing_other, sound_below, sound_first, sound_rest, Entry, item, name_settled, settled_entry, node_at_most}
 use Rattle.mini_shrink.proofs.Moments.{first_of, firsts}
-use Rattle.mini_shrink.proofs.Outside.{AllOuter, inner_first, inner_rest, times_joined, Result}
+use Rattle.mini_shrink.proofs.Outside.{AllOuter, inner_first, inner_rest, inner_once, times_joined, Result}
 use Rattle.mini_shrink.proofs.Parts.{Sound, part_unbound_in, lexical_other}
 use Rattle.mini_shrink.proofs.Provided.{SpellsAs, Owes, in_whole_body, in_body as in_function_body, hoisted_in_body, list_in_body}
 use Rattle.mini_shrink.proofs.Silence.{silent}
-use Rattle.mini_shrink.proofs.Slotted.{FunctionParts}
+use Rattle.mini_shrink.proofs.Slotted.{filled, holds_if, if_none, nothing_deep, FunctionParts, function_there, function_parts}
 use Rattle.mini_shrink.proofs.Spelled.{Spells, or_first}
 use Rattle.mini_shrink.proofs.Unended.{child_still, other_among}
+
+-- ---- arrow functions by slots
+
+abbrev are_arrow_slots : List Slot → Bool
+are_arrow_slots (many_and_rest a_parameter a_pattern_rest ∷ (one an_arrow_body ∷ [])) = true
+are_arrow_slots ss = false
+
+arrow_there : (strict : Bool) (c : Class) (ds : List (List ℕ)) → holds_if are_arrow_slots (slots_of strict c (shape.ArrowFunctionExpression ds)) ≡ true
+arrow_there strict (a_statement d) ds = if_none are_arrow_slots (is_sloppy_function strict d (shape.ArrowFunctionExpression ds)) (in_depth d None) (nothing_deep are_arrow_slots d)
+arrow_there strict (a_key true) ds = refl
+arrow_there strict (a_key false) ds = refl
+arrow_there strict (a_private_or_key true) ds = refl
+arrow_there strict (a_private_or_key false) ds = refl
+arrow_there strict (an_inner_key true) ds = refl
+arrow_there strict (an_inner_key false) ds = refl
+arrow_there strict c ds = refl
+
+abbrev ArrowParts : Bool → Trees → Type 0
+ArrowParts strict (params ▸ (body ▸ none)) = (fits strict (many_and_rest a_parameter a_pattern_rest) params ≡ true) × (fits strict (one an_arrow_body) body ≡ true)
+ArrowParts strict ts = ⊥
+
+arrow_parts : (strict : Bool) (o : Option (List Slot)) (ts : Trees) → holds_if are_arrow_slots o ≡ true → fill strict (filling_by o) ts ≡ true → ArrowParts strict ts
+arrow_parts strict None ts h e = absurd (true≢false (sym e))
+arrow_parts strict (Some (many_and_rest a_parameter a_pattern_rest ∷ (one an_arrow_body ∷ []))) none h e = absurd (true≢false (sym e))
+arrow_parts strict (Some (many_and_rest a_parameter a_pattern_rest ∷ (one an_arrow_body ∷ []))) (p ▸ none) h e = absurd (true≢false (sym (right (fits strict (many_and_rest a_parameter a_pattern_rest) p) false e)))
+arrow_parts strict (Some (many_and_rest a_parameter a_pattern_rest ∷ (one an_arrow_body ∷ []))) (p ▸ (t ▸ none)) h e =
+    (left (fits strict (many_and_rest a_parameter a_pattern_rest) p) _ e, left (fits strict (one an_arrow_body) t) true (right (fits strict (many_and_rest a_parameter a_pattern_rest) p) _ e))
+arrow_parts strict (Some (many_and_rest a_parameter a_pattern_rest ∷ (one an_arrow_body ∷ []))) (p ▸ (t ▸ (v ▸ ts))) h e = absurd (true≢false (sym (right (fits strict (one an_arrow_body) t) false (right (fits strict (many_and_rest a_parameter a_pattern_rest) p) _ e))))
+arrow_parts strict (Some ss) ts h e = absurd (true≢false (sym h))
 
 -- ---- bodies
 
@@ -256,11 +286,11 @@ module _ (b s : ℕ) where
   list_clashes strict p r env bs params t f o a m z e k g = absurd f
 
   -- an expression declares no name
-  expression_lexical : (strict : Bool) (c : Class) → is_body c ≡ true → (env : Environment) (t : Tree) → fits strict (one c) t ≡ true → is_function_body t ≡ false → Sound s Read env t → Other s (lexical_variables false t)
-  expression_lexical strict c k env t f g a =
-      lexical_other s false Read t (part_unbound_in s false strict (one c) Read env t f (body_holds c k) (λ z. absurd (true≢false (sym z))) g a (nothing_other s (names_of declared.Bound t) (owes strict (one c) (of declared.Bound) t f (body_holds c k) (body_binds c k))) (λ z. nothing_other s (names_of declared.Lexical t) (owes strict (one c) (of declared.Lexical) t f (body_holds c k) (body_declares c k))))
+  expression_lexical : (strict : Bool) (c : Class) → is_body c ≡ true → (u : Use) → is_alone u ≡ false → (env : Environment) (t : Tree) → fits strict (one c) t ≡ true → is_function_body t ≡ false → Sound s u env t → Other s (lexical_variables false t)
+  expression_lexical strict c k u n env t f g a =
+      lexical_other s false u t (part_unbound_in s false strict (one c) u env t f (body_holds c k) (λ z. absurd (true≢false (sym z ∙ n))) g a (nothing_other s (names_of declared.Bound t) (owes strict (one c) (of declared.Bound) t f (body_holds c k) (body_binds c k))) (λ z. nothing_other s (names_of declared.Lexical t) (owes strict (one c) (of declared.Lexical) t f (body_holds c k) (body_declares c k))))
 
-  -- so no parameter is lexical
+  -- no parameter is a lexical name
   module _ (strict : Bool) (c : Class) (k : is_body c ≡ true) (params body : Tree) (f : fits strict (many_and_rest a_parameter a_pattern_rest) params ≡ true) (g : fits strict (one c) body ≡ true) where
     parameter_clashes : (p r : Path) (env bs : Environment) → Sound s Read env params → Sound s Read (env ++ bs) body → times (symbol s) (symbols_in env) ≤ 1 → times (symbol s) (symbols_in bs) ≡ 0 → is_among x (names_of declared.Bound params) ≡ true
         → clashing [] (declarations declared.Bound false p params ++ body_declarations true r body) ≡ [] → is_among x (all_lexical_variables false (params ▸ (body ▸ none))) ≡ true → ⊥
@@ -273,4 +303,78 @@ module _ (b s : ℕ) where
       where
         by : ListBody strict body ⊎ (is_function_body body ≡ false) → is_among x (lexical_variables false body) ≡ true → ⊥
         by (inl q) i = list_clashes strict p r env bs params body q o a m z e w i
-        by (inr q) i = true≢false (sym i ∙ other_among s (lexical_variables false body) (expression_lexical strict c k (env ++ bs) body g q a))
+        by (inr q) i = true≢false (sym i ∙ other_among s (lexical_variables false body) (expression_lexical strict c k Read refl (env ++ bs) body g q a))
+
+    -- where the scope of the parameters declares the symbol, it is no lexical name
+    parameter_never : (q p r : Path) (sc : ℕ → List Binding) (i : ℕ) (env : Environment) → AllOuter s q sc (λ j. Read) i env (params ▸ (body ▸ none)) → times (symbol s) (symbols_in (sc i)) ≡ 1 → is_among x (names_of declared.Bound params) ≡ true
+        → clashing [] (declarations declared.Bound false p params ++ body_declarations true r body) ≡ [] → is_among x (all_lexical_variables false (params ▸ (body ▸ none))) ≡ true → ⊥
+    unfolding declared_in
+    parameter_never q p r sc i env y e m z l =
+        let rest = inner_rest s q sc (λ j. Read) i env params (body ▸ none) y e in
+        let parts = times_three (symbol s) (symbols_in (sc (suc i))) (declared_in Read body) (declared_from sc (λ j. Read) (suc (suc i)) none) in
+        parameter_clashes p r (env ++ sc i) (sc (suc i)) (inner_first s q sc (λ j. Read) i env params (body ▸ none) y e) (sound_first s sc (λ j. Read) (suc i) (env ++ sc i) body none rest)
+        (inner_once s q sc (λ j. Read) i env params (body ▸ none) y e) (omega (arith, parts, rest.undeclared)) m z l
+
+    -- where the scope of the body does
+    body_brings : (p r : Path) (d : Setting) (env : Environment) → d.ordered ≡ false → is_alone d.used ≡ false → Sound s d.used env body → times (symbol s) (symbols_in env) ≤ 1 → is_among x (lexical_variables false body) ≡ true
+        → clashing [] (declarations declared.Bound false p params ++ body_declarations true r body) ≡ [] → Result (ends_after ((early b s).ends d body) (pace (early b s) d env body) ∷ []) (first_of b s (moments d.used d.around body) ∷ [])
+    body_brings p r d env o n a m l z = by (body_kind strict c k body g)
+      where
+        told : (is_reads (ends_after ((early b s).ends d body) (pace (early b s) d env body)) ≡ false) ⊎ Entry b s d env body → Result (ends_after ((early b s).ends d body) (pace (early b s) d env body) ∷ []) (first_of b s (moments d.used d.around body) ∷ [])
+        told (inl e) = inl (e, tt)
+        told (inr e) = inr (e, tt)
+
+        by : ListBody strict body ⊎ (is_function_body body ≡ false) → Result (ends_after ((early b s).ends d body) (pace (early b s) d env body) ∷ []) (first_of b s (moments d.used d.around body) ∷ [])
+        by (inl q) = told (body_result strict r d env body q o a m l (declarations declared.Bound false p params) z)
+        by (inr q) = absurd (true≢false (sym l ∙ other_among s (lexical_variables false body) (expression_lexical strict c k d.used n env body g q a)))
+
+  -- ---- functions
+
+  function_handles : (strict : Bool) (q : Path) (c : Setting) (env : Environment) (e g : Bool) (ds : List (List ℕ)) (n : ℕ) (ts : Trees) → FunctionParts strict ts → clashing [] (scope_declarations (shape.Function e g ds) q ts) ≡ []
+      → Handles b s (times (symbol s) (symbols_in (opened c.used (shape.Function e g ds) ts 0)) ≡ 0) q false (opened c.used (shape.Function e g ds) ts) (below ((early b s).orders c (shape.Function e g ds) ts) c (shape.Function e g ds) n) 0 env ts
+  unfolding scopes_by pace moments scope_declarations
+  function_handles strict q c env e g ds n (id ▸ (params ▸ (body ▸ none))) f z =
+      let h : Shape = shape.Function e g ds in
+      let ts : Trees = id ▸ (params ▸ (body ▸ none)) in
+      let sc = opened c.used h ts in
+      let cs = below ((early b s).orders c h ts) c h n in
+      let us = λ (j : ℕ). Read in
+      ((λ y i w. let bare = tail_unbound strict a_function_body refl params body f.1.0 f.1.1 s sc 1 (env ++ sc 0) refl refl (inner_rest s q sc us 0 env id (params ▸ (body ▸ none)) y i) in
+          inr (settled_entry b s (cs 0) (env ++ sc 0) id refl (name_settled b s strict id f.0), (child_still b s (cs 1) ((env ++ sc 0) ++ sc 1) params bare.0, (child_still b s (cs 2) (((env ++ sc 0) ++ sc 1) ++ sc 2) body bare.1.0, tt)))),
+        ((λ y i w. let none_around = times_joined s env (sc 0) in
+            let free : times (symbol s) (symbols_in (sc 0)) ≡ 0 = omega (arith, none_around, y.free) in
+            absurd (parameter_never strict a_function_body refl params body f.1.0 f.1.1 q (q ++ 1 ∷ []) (q ++ 2 ∷ []) sc 1 (env ++ sc 0) y i (body_among s (bound_names params) i) z (w free))),
+          ((λ y i w. let none_around = times_joined s env (sc 0) in
+              let none_there = times_joined s (env ++ sc 0) (sc 1) in
+              let free : times (symbol s) (symbols_in (sc 0)) ≡ 0 = omega (arith, none_around, none_there, y.free) in
+              body_brings strict a_function_body refl params body f.1.0 f.1.1 (q ++ 1 ∷ []) (q ++ 2 ∷ []) (cs 2) (((env ++ sc 0) ++ sc 1) ++ sc 2) refl refl (inner_first s q sc us 2 ((env ++ sc 0) ++ sc 1) body none y i) (inner_once s q sc us 2 ((env ++ sc 0) ++ sc 1) body none y i) (among_only b s false body (w free)) z),
+            tt)))
+  function_handles strict q c env e g ds n ts f z = absurd f
+
+  arrow_handles : (strict : Bool) (q : Path) (c : Setting) (env : Environment) (ds : List (List ℕ)) (n : ℕ) (ts : Trees) → ArrowParts strict ts → clashing [] (scope_declarations (shape.ArrowFunctionExpression ds) q ts) ≡ []
+      → Handles b s (Unit {0}) q false (opened c.used (shape.ArrowFunctionExpression ds) ts) (below ((early b s).orders c (shape.ArrowFunctionExpression ds) ts) c (shape.ArrowFunctionExpression ds) n) 0 env ts
+  unfolding scopes_by pace moments scope_declarations
+  arrow_handles strict q c env ds n (params ▸ (body ▸ none)) f z =
+      let h : Shape = shape.ArrowFunctionExpression ds in
+      let ts : Trees = params ▸ (body ▸ none) in
+      let sc = opened c.used h ts in
+      let cs = below ((early b s).orders c h ts) c h n in
+      let us = λ (j : ℕ). Read in
+      ((λ y i w. absurd (parameter_never strict an_arrow_body refl params body f.0 f.1 q (q ++ 0 ∷ []) (q ++ 1 ∷ []) sc 0 env y i (body_among s (bound_names params) i) z (w tt))),
+        ((λ y i w. body_brings strict an_arrow_body refl params body f.0 f.1 (q ++ 0 ∷ []) (q ++ 1 ∷ []) (cs 1) ((env ++ sc 0) ++ sc 1) refl refl (inner_first s q sc us 1 (env ++ sc 0) body none y i) (inner_once s q sc us 1 (env ++ sc 0) body none y i) (among_only b s false body (w tt)) z),
+          tt))
+  arrow_handles strict q c env ds n ts f z = absurd f
+
+  -- ---- by slots
+
+  pub functions : (strict : Bool) (p : Slot) (q : Path) (c : Setting) (env : Environment) (e g : Bool) (ds : List (List ℕ)) (xs : List Name) (n : ℕ) (ts : Trees) → fits strict p (node (shape.Function e g ds) xs n ts) ≡ true → clashing [] (scope_declarations (shape.Function e g ds) q ts) ≡ []
+      → Handles b s (times (symbol s) (symbols_in (opened c.used (shape.Function e g ds) ts 0)) ≡ 0) q false (opened c.used (shape.Function e g ds) ts) (below ((early b s).orders c (shape.Function e g ds) ts) c (shape.Function e g ds) n) 0 env ts
+  functions strict p q c env e g ds xs n ts f z =
+      let h : Shape = shape.Function e g ds in
+      function_handles (is_strict_in strict h) q c env e g ds n ts (function_parts (is_strict_in strict h) (slots_of strict (class_of p) h) ts (function_there strict (class_of p) e g ds) (filled strict p h xs n ts refl f)) z
+
+  pub arrows : (strict : Bool) (p : Slot) (q : Path) (c : Setting) (env : Environment) (ds : List (List ℕ)) (xs : List Name) (n : ℕ) (ts : Trees) → fits strict p (node (shape.ArrowFunctionExpression ds) xs n ts) ≡ true → clashing [] (scope_declarations (shape.ArrowFunctionExpression ds) q ts) ≡ []
+      → Handles b s (Unit {0}) q false (opened c.used (shape.ArrowFunctionExpression ds) ts) (below ((early b s).orders c (shape.ArrowFunctionExpression ds) ts) c (shape.ArrowFunctionExpression ds) n) 0 env ts
+  arrows strict p q c env ds xs n ts f z =
+      let h : Shape = shape.ArrowFunctionExpression ds in
+      arrow_handles (is_strict_in strict h) q c env ds n ts (arrow_parts (is_strict_in strict h) (slots_of strict (class_of p) h) ts (arrow_there strict (class_of p) ds) (filled strict p h xs n ts refl f)) z
