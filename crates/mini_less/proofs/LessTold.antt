@@ -53,7 +53,7 @@ AllLikewise none (u ▸ us) = ⊥
 AllLikewise (t ▸ ts) none = ⊥
 AllLikewise (t ▸ ts) (u ▸ us) = Likewise t u × AllLikewise ts us
 
-itself_likewise : (t : Tree) → Likewise t t
+pub itself_likewise : (t : Tree) → Likewise t t
 itself_likewise t = record { kept = as_it_is t; absent = refl; pattern = refl; eval = λ e. e; callee = λ e. e; arguments = λ e. e; number = λ b e. e }
 
 all_likewise : (ts : Trees) → AllLikewise ts ts

@@ -66,6 +66,8 @@ pub mod FadedLess
 pub mod Drops
 pub mod DroppedLess
 pub mod ForHeadLess
+pub mod ClosedTold
+pub mod PutTold
 pub mod BodyEndsLess
 pub mod SwitchTold
 pub mod OneCaseLess
