@@ -68,6 +68,7 @@ pub mod DroppedLess
 pub mod ForHeadLess
 pub mod ClosedTold
 pub mod PutTold
+pub mod SwitchHolds
 pub mod BodyEndsLess
 pub mod SwitchTold
 pub mod OneCaseLess

@@ -133,7 +133,7 @@ module _ (a b : Trees) (t : Losing a b) (less : ListLess a b t) where
         subst₂ (λ us ts. AtMost (pace (question g m s) c env (listed us)) (pace (question g m s) c env (listed ts))) (sym t.written_is) (sym t.read_is)
         (neighbours_ask_less (question g m s) p c env t.before t.after t.d t.w (drops.less g m s e c (read c.used u) env (p.orders c)))
 
-    list_wrote : Wrote sp k is_read (listed a) (listed b)
+    pub list_wrote : Wrote sp k is_read (listed a) (listed b)
     unfolding names_of
     list_wrote = record {
       said = list_said;
@@ -147,7 +147,7 @@ module _ (a b : Trees) (t : Losing a b) (less : ListLess a b t) where
     }
 
   -- declared once less in what is over the list
-  less_over : (f : Trees → Tree) → ((v : Use) → times (symbol k) (declared_in v (f (around t.w))) + 1 ≤ times (symbol k) (declared_in v (f (around t.d)))) → (v : Use) → times (symbol k) (declared_in v (f b)) + 1 ≤ times (symbol k) (declared_in v (f a))
+  pub less_over : (f : Trees → Tree) → ((v : Use) → times (symbol k) (declared_in v (f (around t.w))) + 1 ≤ times (symbol k) (declared_in v (f (around t.d)))) → (v : Use) → times (symbol k) (declared_in v (f b)) + 1 ≤ times (symbol k) (declared_in v (f a))
   less_over f g v = subst₂ (λ ts us. times (symbol k) (declared_in v (f us)) + 1 ≤ times (symbol k) (declared_in v (f ts))) (sym t.read_is) (sym t.written_is) (g v)
 
   evals_alone : any_has_eval a ≡ false → any_has_eval (listed a ▸ none) ≡ false
