@@ -69,3 +69,4 @@ pub mod LosingLists
 pub mod RowsOnce
 pub mod OnceNext
 pub mod PastLess
+pub mod InsideWays
