@@ -85,3 +85,6 @@ pub mod LosingNodes
 pub mod ChildStands
 pub mod LosingLists
 pub mod RowsOnce
+pub mod OnceNext
+pub mod PastLess
+pub mod InsideWays

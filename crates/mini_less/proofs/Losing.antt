@@ -22,10 +22,10 @@ use Rattle.mini_laws.specs.Scopes.{at_or_empty, body_scope, is_alone, lexical_sc
 use Rattle.mini_laws.specs.Shared.{any_names_arguments, given_values, is_arguments, is_name_of_variable, is_of_function, names_arguments, own_caught, own_pattern_writes, reached_params, spelled_among, write_at}
 use Rattle.mini_laws.proofs.Lookups.{symbol_of_both}
 use Rattle.mini_shrink.specs.Facts.{Fact, Written, WrittenElsewhere, Given, GivenElsewhere, GivenByPattern, MentionedElsewhere, BoundElsewhere, IsLexical, IsSwitched, InPattern, UnderCatch, ByArguments, ByEval, AmongParameters, ReadEarly, question}
-use Rattle.mini_shrink.specs.Pace.{Pace, Silent, followed, ends_after, in_turn, AtMost, Setting, below, Question, pace, paces, reads_if}
+use Rattle.mini_shrink.specs.Pace.{Pace, Silent, followed, kept_in, ends_after, in_turn, AtMost, Setting, below, Question, pace, paces, reads_if}
 use Rattle.mini_shrink.specs.Questions.{hands_on, listed_names, seen_from}
 use Rattle.mini_shrink.proofs.Owns.{implied, or_implied}
-use Rattle.mini_shrink.proofs.Paces.{AllAtMost, both, ended, itself, same, turned}
+use Rattle.mini_shrink.proofs.Paces.{AllAtMost, both, ended_inside, itself, same, turned}
 use Rattle.mini_rows.specs.Unused.{any_names, names, resolved}
 use Rattle.mini_rows.proofs.ListKeptDeclarations.{all_both}
 use Rattle.mini_rows.proofs.SingleUse.{place}
@@ -158,14 +158,14 @@ module _ (sp : List ℕ) (k : ℕ) where
         (same _ _ (ap (ends_after (q.ends (cs i) p)) (sym (fact_beside x g b s (cs i) (env ++ sc i) (env' ++ sc' i) inner p one))), rest_said sc sc' z cs (suc i) (env ++ sc i) (env' ++ sc' i) inner ts others)
 
     child_said : (sc sc' : ℕ → List Binding) → ((i : ℕ) → ScopeLoses (sc i) (sc' i)) → (cs : ℕ → Setting) (i : ℕ) (env env' : Environment) → Beside x env env' → (pre : Trees) → any_names x pre ≡ false → ((c : Setting) → q.ends c u ≡ q.ends c t)
-        → ((e : Environment) → AtMost (pace q (cs (place i pre)) e u) (pace q (cs (place i pre)) e t)) → AllAtMost (paces q sc' cs i env' (append pre (u ▸ post))) (paces q sc cs i env (append pre (t ▸ post)))
+        → ((e : Environment) → AtMost (kept_in (pace q (cs (place i pre)) e u)) (kept_in (pace q (cs (place i pre)) e t))) → AllAtMost (paces q sc' cs i env' (append pre (u ▸ post))) (paces q sc cs i env (append pre (t ▸ post)))
     unfolding pace
     child_said sc sc' z cs i env env' f none e n a =
         let inner = beside_lost env env' f (sc i) (sc' i) (z i) in
         let there = pace q (cs i) (env ++ sc i) t in
         (
           subst (λ d. AtMost (ends_after d (pace q (cs i) (env' ++ sc' i) u)) (ends_after (q.ends (cs i) t) there)) (sym (n (cs i)))
-              (ended (q.ends (cs i) t) (pace q (cs i) (env' ++ sc' i) u) there (subst (λ p. AtMost p there) (fact_beside x g b s (cs i) (env ++ sc i) (env' ++ sc' i) inner u unnamed) (a (env ++ sc i)))),
+              (ended_inside (q.ends (cs i) t) (pace q (cs i) (env' ++ sc' i) u) there (subst (λ p. AtMost (kept_in p) (kept_in there)) (fact_beside x g b s (cs i) (env ++ sc i) (env' ++ sc' i) inner u unnamed) (a (env ++ sc i)))),
           rest_said sc sc' z cs (suc i) (env ++ sc i) (env' ++ sc' i) inner post later,
         )
     child_said sc sc' z cs i env env' f (p ▸ pre) e n a =
@@ -175,7 +175,7 @@ module _ (sp : List ℕ) (k : ℕ) where
 
     pub node_said : (c : Setting) (env : Environment) (h : Shape) (n : ℕ) (pre : Trees) → any_names x pre ≡ false → AtMost (q.before c env h [] n (append pre (u ▸ post))) (q.before c env h [] n (append pre (t ▸ post))) → q.orders c h (append pre (u ▸ post)) ≡ q.orders c h (append pre (t ▸ post))
         → ((c : Setting) → q.ends c u ≡ q.ends c t) → ((i : ℕ) → ScopeLoses (opened c.used h (append pre (t ▸ post)) i) (opened c.used h (append pre (u ▸ post)) i))
-        → ((o : Bool) (e : Environment) → AtMost (pace q (below o c h n (place 0 pre)) e u) (pace q (below o c h n (place 0 pre)) e t)) → AtMost (pace q c env (node h [] n (append pre (u ▸ post)))) (pace q c env (node h [] n (append pre (t ▸ post))))
+        → ((o : Bool) (e : Environment) → AtMost (kept_in (pace q (below o c h n (place 0 pre)) e u)) (kept_in (pace q (below o c h n (place 0 pre)) e t))) → AtMost (pace q c env (node h [] n (append pre (u ▸ post)))) (pace q c env (node h [] n (append pre (t ▸ post))))
     unfolding pace
     node_said c env h n pre e before orders ends scopes a =
         let ts = append pre (t ▸ post) in

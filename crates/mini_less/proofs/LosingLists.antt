@@ -123,10 +123,7 @@ module _ (a b : Trees) (t : Losing a b) (less : ListLess a b t) where
   unnamed_both none us e f = f
   unnamed_both (d ▸ ts) us e f = let (g, h) = or_parts (names x d) (any_names x ts) e in ap (λ c. c || any_names x (append ts us)) g ∙ unnamed_both ts us h f
 
-  module _ (q : Position) (l : is_statement_list q ≡ true) (stood : Stood q (listed a)) where
-    abbrev drops : DropsLess x k t.d t.w
-    drops = less.drops q l stood
-
+  module _ (drops : DropsLess x k t.d t.w) where
     list_said : (g : Fact) (b' s : ℕ) → nat_eq s k ≡ false → (c : Setting) → is_read c.used ≡ true → (env : Environment) → AtMost (pace (question g b' s) c env (listed b)) (pace (question g b' s) c env (listed a))
     list_said g m s e c u env =
         let p = passes g m s in
@@ -161,7 +158,7 @@ module _ (a b : Trees) (t : Losing a b) (less : ListLess a b t) where
   block_less names p n w e f spared =
       less_where p n w (λ s.
       let stood = child_stood (listed a) none (list_no_text a) p shape.BlockStatement [] 0 none (subst (Stood p) e s) in
-      let z = over_wrote sp k is_read (λ v. true) (on_way Braces) 0 (listed a) (listed b) none (list_wrote StatementList refl stood) tt refl refl (λ v o. refl) (evals_alone spared) in
+      let z = over_wrote sp k is_read (λ v. true) (on_way Braces) 0 (listed a) (listed b) none (list_wrote (less.drops StatementList refl stood)) tt refl refl (λ v o. refl) (evals_alone spared) in
       lost_less sp k p n w (block a) (block b) e f z (less_over block (kept.block_less x t.before t.after t.d t.w t.leaves names (all_other x declared.Lexical t.before t.earlier) (all_other x declared.Lexical t.after t.later) k refl)) (λ j. spared j || false) refl refl)
 
   -- ---- what has a body
@@ -170,7 +167,7 @@ module _ (a b : Trees) (t : Losing a b) (less : ListLess a b t) where
   body_stood p s = child_stood (listed a) none (list_no_text a) p shape.FunctionBody [] 0 none s
 
   body_wrote : (p : Position) → Stood p (statements a) → any_has_eval a ≡ false → Wrote sp k (λ v. true) (statements a) (statements b)
-  body_wrote p s spared = over_wrote sp k is_read (λ v. true) of_body 0 (listed a) (listed b) none (list_wrote BodyList refl (body_stood p s)) tt refl refl (λ v o. refl) (evals_alone spared)
+  body_wrote p s spared = over_wrote sp k is_read (λ v. true) of_body 0 (listed a) (listed b) none (list_wrote (less.drops BodyList refl (body_stood p s))) tt refl refl (λ v o. refl) (evals_alone spared)
 
   evals_body : any_has_eval a ≡ false → has_eval (statements a) ≡ false
   unfolding has_eval
@@ -203,7 +200,7 @@ module _ (a b : Trees) (t : Losing a b) (less : ListLess a b t) where
   module_drops ds p n w e f spared =
       less_where p n w (λ s.
       let stood = child_stood (listed a) none (list_no_text a) p (shape.Program true ds) [] 0 none (subst (Stood p) e s) in
-      let z = over_wrote sp k is_read (λ v. true) (of_module ds) 0 (listed a) (listed b) none (list_wrote StatementList refl stood) list_body refl refl (λ v o. refl) (evals_alone spared) in
+      let z = over_wrote sp k is_read (λ v. true) (of_module ds) 0 (listed a) (listed b) none (list_wrote (less.drops StatementList refl stood)) list_body refl refl (λ v o. refl) (evals_alone spared) in
       lost_less sp k p n w (program true ds a) (program true ds b) e f z (less_over (program true ds) (module_less x t.before t.after t.d t.w t.leaves t.declares t.earlier t.later ds k refl)) (evals_alone spared) refl refl)
 
   pub static_drops : (number : ℕ) (p : Position) (n w : Tree) → n ≡ static_block number a → w ≡ static_block number b → any_has_eval a ≡ false → LessAt p n w
@@ -211,5 +208,5 @@ module _ (a b : Trees) (t : Losing a b) (less : ListLess a b t) where
   static_drops number p n w e f spared =
       less_where p n w (λ s.
       let stood = child_stood (listed a) none (list_no_text a) p shape.StaticBlock [] number none (subst (Stood p) e s) in
-      let z = over_wrote sp k is_read (λ v. true) of_static number (listed a) (listed b) none (list_wrote StatementList refl stood) list_body refl refl (λ v o. refl) (evals_alone spared) in
+      let z = over_wrote sp k is_read (λ v. true) of_static number (listed a) (listed b) none (list_wrote (less.drops StatementList refl stood)) list_body refl refl (λ v o. refl) (evals_alone spared) in
       lost_less sp k p n w (static_block number a) (static_block number b) e f z (less_over (static_block number) (static_less x t.before t.after t.d t.w t.leaves t.declares t.earlier t.later number k refl)) (evals_alone spared) (or_true (nat_eq number 0) true refl) refl)

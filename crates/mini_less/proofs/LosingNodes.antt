@@ -28,7 +28,7 @@ use Rattle.mini_laws.specs.Symbols.{declared as declared_in, times}
 use Rattle.mini_laws.specs.Value.{Declared as Variable}
 use Rattle.mini_kept.specs.Loosely.{symbol}
 use Rattle.mini_shrink.specs.Facts.{Fact, Written, WrittenElsewhere, Given, GivenElsewhere, GivenByPattern, MentionedElsewhere, BoundElsewhere, IsLexical, IsSwitched, InPattern, UnderCatch, ByArguments, ByEval, AmongParameters, ReadEarly, question}
-use Rattle.mini_shrink.specs.Pace.{AtMost, Setting, below, pace, reads_if}
+use Rattle.mini_shrink.specs.Pace.{Pace, Ends, Silent, Reads, AtMost, Setting, below, kept_in, pace, reads_if}
 use Rattle.mini_shrink.specs.Questions.{hands_on, listed_names, seen_from}
 use Rattle.mini_shrink.specs.Shrinking.{OrGone}
 use Rattle.mini_shrink.proofs.Owns.{implied, if_implied}
@@ -94,7 +94,7 @@ is_holder (shape.Program m ds) = true
 is_holder shape.StaticBlock = true
 is_holder h = false
 
-holds_so : (m : Holds) → is_holder (shape_by m) ≡ true
+pub holds_so : (m : Holds) → is_holder (shape_by m) ≡ true
 holds_so (on_way Braces) = refl
 holds_so (on_way g) = refl
 holds_so m = refl
@@ -113,7 +113,7 @@ no_pattern shape.ArrayPattern e n ts = absurd (true≢false (sym e))
 no_pattern shape.AssignmentPattern e n ts = absurd (true≢false (sym e))
 no_pattern h e n ts = refl
 
-no_call : (h : Shape) → is_holder h ≡ true → (ts : Trees) → is_eval_call h ts ≡ false
+pub no_call : (h : Shape) → is_holder h ≡ true → (ts : Trees) → is_eval_call h ts ≡ false
 no_call (shape.CallExpression o) e ts = absurd (true≢false (sym e))
 no_call h e ts = refl
 
@@ -149,9 +149,9 @@ module _ (sp : List ℕ) (k : ℕ) where
   lost_by place_kind.Below own f f' b b' l l' e g h = h
   lost_by place_kind.Nowhere own f f' b b' l l' e g h = inl refl
 
-  -- what a child that loses the name tells, where it stands in some ways
-  pub record Wrote (ok : Use → Bool) (t u : Tree) : Type 0 where
-    pub said : (g : Fact) (b s : ℕ) → nat_eq s k ≡ false → (c : Setting) → ok c.used ≡ true → (env : Environment) → AtMost (pace (question g b s) c env u) (pace (question g b s) c env t)
+  -- what a child that loses the name tells, as it is seen from somewhere, where it stands in some ways
+  pub record WroteBy (seen : Pace → Pace) (ok : Use → Bool) (t u : Tree) : Type 0 where
+    pub said : (g : Fact) (b s : ℕ) → nat_eq s k ≡ false → (c : Setting) → ok c.used ≡ true → (env : Environment) → AtMost (seen (pace (question g b s) c env u)) (seen (pace (question g b s) c env t))
     pub unnamed : names x u ≡ false
     pub evals : has_eval t ≡ false → has_eval u ≡ false
     pub arguments : names_arguments t ≡ false → names_arguments u ≡ false
@@ -159,6 +159,28 @@ module _ (sp : List ℕ) (k : ℕ) where
     pub bound : names_of declared.Bound u ≡ names_of declared.Bound t
     pub lexical : Loses sp k (names_of declared.Lexical t) (names_of declared.Lexical u)
     pub hoisted : Loses sp k (names_of declared.Hoisted t) (names_of declared.Hoisted u)
+
+  -- in all
+  abbrev pub Wrote : (Use → Bool) → Tree → Tree → Type 0
+  Wrote = WroteBy (λ p. p)
+
+  -- around it
+  abbrev pub WroteIn : (Use → Bool) → Tree → Tree → Type 0
+  WroteIn = WroteBy kept_in
+
+  pub wrote_in : (ok : Use → Bool) (t u : Tree) → Wrote ok t u → WroteIn ok t u
+  wrote_in ok t u w = record { said = λ g b s e c o env. kept_most (pace (question g b s) c env u) (pace (question g b s) c env t) (w.said g b s e c o env); unnamed = w.unnamed; evals = w.evals; arguments = w.arguments; numbers = w.numbers; bound = w.bound; lexical = w.lexical; hoisted = w.hoisted }
+    where
+      kept_most : (p q : Pace) → AtMost p q → AtMost (kept_in p) (kept_in q)
+      kept_most Ends Ends a = tt
+      kept_most Ends Silent a = tt
+      kept_most Ends Reads a = tt
+      kept_most Silent Ends a = absurd a
+      kept_most Silent Silent a = tt
+      kept_most Silent Reads a = tt
+      kept_most Reads Ends a = absurd a
+      kept_most Reads Silent a = absurd a
+      kept_most Reads Reads a = tt
 
   -- what is asked besides of what has a body: the names that it declares there
   abbrev pub Body : Holds → Tree → Tree → Type 0
@@ -355,7 +377,7 @@ module _ (sp : List ℕ) (k : ℕ) where
     orders_same ByEval b s e c = refl
     orders_same AmongParameters b s e c = refl
 
-    ends_same : (g : Fact) (b s : ℕ) → nat_eq s k ≡ false → (c : Setting) → (question g b s).ends c u ≡ (question g b s).ends c t
+    pub ends_same : (g : Fact) (b s : ℕ) → nat_eq s k ≡ false → (c : Setting) → (question g b s).ends c u ≡ (question g b s).ends c t
     ends_same ReadEarly b s e c = λ j. c.ordered && (among_lost sp k s e (names_of declared.Lexical t) (names_of declared.Lexical u) lexical j || is_among (by_symbol s) (bound j))
     ends_same Written b s e c = refl
     ends_same WrittenElsewhere b s e c = refl
@@ -398,11 +420,11 @@ module _ (sp : List ℕ) (k : ℕ) where
     numbers_off b f none e = let (a, c) = none_of (has_number b t) (any_has_number b post) e in λ j. f a j || c j
     numbers_off b f (p ▸ pre) e = let (a, c) = none_of (has_number b p) (any_has_number b (append pre (t ▸ post))) e in λ j. a j || numbers_off b f pre c j
 
-  module _ (ok ok' : Use → Bool) (m : Holds) (n : ℕ) (t u : Tree) (post : Trees) (w : Wrote ok t u) (body : Body m t u) (earlier : any_names x (front m) ≡ false) (later : any_names x post ≡ false) (uses : (v : Use) → ok' v ≡ true → ok (use_of (shape_by m) v (place 0 (front m))) ≡ true)
+  module _ (ok ok' : Use → Bool) (m : Holds) (n : ℕ) (t u : Tree) (post : Trees) (w : WroteIn ok t u) (body : Body m t u) (earlier : any_names x (front m) ≡ false) (later : any_names x post ≡ false) (uses : (v : Use) → ok' v ≡ true → ok (use_of (shape_by m) v (place 0 (front m))) ≡ true)
       (unseen : any_has_eval (append (front m) (t ▸ post)) ≡ false) where
-    pub over_wrote : Wrote ok' (holding m n t post) (holding m n u post)
+    pub over_kept : Wrote ok' (holding m n t post) (holding m n u post)
     unfolding has_eval names_arguments has_number
-    over_wrote = record {
+    over_kept = record {
       said = λ g b s e c o env.
           node_said sp k g b s t u post w.unnamed later c env (shape_by m) n (front m) earlier (before_less m t u post w.bound w.lexical w.hoisted earlier later w.arguments (evals_off t u post w.evals (front m) unseen) g b s e c env n)
           (orders_same m t u post w.bound w.lexical w.hoisted earlier later g b s e c) (ends_same m t u post w.bound w.lexical w.hoisted earlier later g b s e)
@@ -418,6 +440,9 @@ module _ (sp : List ℕ) (k : ℕ) where
       where
         no_argument : (h : Shape) → is_name_of_variable h ≡ false → (is_name_of_variable h && false) ≡ false
         no_argument h e = ap (λ b. b && false) e
+
+  pub over_wrote : (ok ok' : Use → Bool) (m : Holds) (n : ℕ) (t u : Tree) (post : Trees) → Wrote ok t u → Body m t u → any_names x (front m) ≡ false → any_names x post ≡ false → ((v : Use) → ok' v ≡ true → ok (use_of (shape_by m) v (place 0 (front m))) ≡ true) → any_has_eval (append (front m) (t ▸ post)) ≡ false → Wrote ok' (holding m n t post) (holding m n u post)
+  over_wrote ok ok' m n t u post w = over_kept ok ok' m n t u post (wrote_in ok t u w)
 
   -- ---- where the name is seen no more
 

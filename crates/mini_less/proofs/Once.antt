@@ -54,7 +54,7 @@ use Rattle.mini_less.proofs.TellingLists.{among_both, by_lists, declaration_open
 
 -- ---- a declaration with fewer names
 
-abbrev FewerDeclared : Question → Type 0
+abbrev pub FewerDeclared : Question → Type 0
 FewerDeclared q =
     (c : Setting) → c.used ≡ Read → (env : Environment) (K : VariableDeclarationKind) (ds es : Trees) → ((s : ℕ) → is_among (by_symbol s) (all_names declared.Bound es) ≡ true → is_among (by_symbol s) (all_names declared.Bound ds) ≡ true)
     → q.before c env (shape.VariableDeclaration K) [] 0 (listed ds ▸ none) ≡ Silent → q.before c env (shape.VariableDeclaration K) [] 0 (listed es ▸ none) ≡ Silent
@@ -88,7 +88,7 @@ kind_fewer s b Const ds es f e = by b e
     by true e = silent_if _ _ (λ a. one ds ∙ f (sym (one es) ∙ a)) e
     by false e = silent_if _ _ (λ a. one ds ∙ f (sym (one es) ∙ a)) e
 
-each_fewer : (g : Fact) (b s : ℕ) → FewerDeclared (question g b s)
+pub each_fewer : (g : Fact) (b s : ℕ) → FewerDeclared (question g b s)
 each_fewer IsLexical b s c u env K ds es f e = kind_fewer s c.is_body K ds es (f s) e
 each_fewer ByEval b s c u env K ds es f e = ap reads_if (unseen (by_symbol s) (opened c.used (shape.VariableDeclaration K) (listed es ▸ none)) (declaration_opens c.used u K (listed es ▸ none)) 0 (listed es ▸ none))
 each_fewer Written b s c u env K ds es f e = e
@@ -105,11 +105,11 @@ each_fewer ByArguments b s c u env K ds es f e = e
 each_fewer AmongParameters b s c u env K ds es f e = e
 each_fewer ReadEarly b s c u env K ds es f e = e
 
-told_off : (b : Bool) → reads_if b ≡ Silent → b ≡ false
+pub told_off : (b : Bool) → reads_if b ≡ Silent → b ≡ false
 told_off true e = absurd (true≢false (ap is_reads e))
 told_off false e = refl
 
-off_told : (b : Bool) → b ≡ false → reads_if b ≡ Silent
+pub off_told : (b : Bool) → b ≡ false → reads_if b ≡ Silent
 off_told b e = ap reads_if e
 
 -- names of the declarators that stay
@@ -121,29 +121,29 @@ among_more s xs ys zs e = among_both (by_symbol s) xs (ys ++ zs) ∙ (λ j. is_a
     by false true c e = refl
     by false false c e = e
 
-stays_declared : (first : Trees) (d : Tree) (last : Trees) (s : ℕ) → is_among (by_symbol s) (all_names declared.Bound (append first last)) ≡ true → is_among (by_symbol s) (all_names declared.Bound (append first (d ▸ last))) ≡ true
+pub stays_declared : (first : Trees) (d : Tree) (last : Trees) (s : ℕ) → is_among (by_symbol s) (all_names declared.Bound (append first last)) ≡ true → is_among (by_symbol s) (all_names declared.Bound (append first (d ▸ last))) ≡ true
 unfolding names_of
 stays_declared first d last s e = ap (is_among (by_symbol s)) (all_both declared.Bound first (d ▸ last)) ∙ among_more s (all_names declared.Bound first) (names_of declared.Bound d) (all_names declared.Bound last) (sym (ap (is_among (by_symbol s)) (all_both declared.Bound first last)) ∙ e)
 
 -- ---- what is told besides names
 
-record Flagged (f : Tree → Bool) (g : Trees → Bool) : Type 1 where
-  nothing : g none ≡ false
-  more : (t : Tree) (ts : Trees) → g (t ▸ ts) ≡ (f t || g ts)
-  adds : Adds g
-  declares : (K : VariableDeclarationKind) (ts : Trees) → f (declaration K ts) ≡ (g ts || false)
-  binds : (id d : Tree) → f (declarator id d) ≡ (f id || (f d || false))
-  empty : f empty_statement ≡ false
+pub record Flagged (f : Tree → Bool) (g : Trees → Bool) : Type 1 where
+  pub nothing : g none ≡ false
+  pub more : (t : Tree) (ts : Trees) → g (t ▸ ts) ≡ (f t || g ts)
+  pub adds : Adds g
+  pub declares : (K : VariableDeclarationKind) (ts : Trees) → f (declaration K ts) ≡ (g ts || false)
+  pub binds : (id d : Tree) → f (declarator id d) ≡ (f id || (f d || false))
+  pub empty : f empty_statement ≡ false
 
-evals_flagged : Flagged has_eval any_has_eval
+pub evals_flagged : Flagged has_eval any_has_eval
 unfolding has_eval
 evals_flagged = record { nothing = refl; more = λ t ts. refl; adds = evals_add; declares = λ K ts. refl; binds = λ id d. refl; empty = refl }
 
-names_flagged : Flagged names_arguments any_arguments
+pub names_flagged : Flagged names_arguments any_arguments
 unfolding names_arguments
 names_flagged = record { nothing = refl; more = λ t ts. refl; adds = names_add; declares = λ K ts. ap (λ b. b || false) (list_names ts); binds = λ id d. refl; empty = refl }
 
-numbers_flagged : (b : ℕ) → Flagged (has_number (suc b)) (any_has_number (suc b))
+pub numbers_flagged : (b : ℕ) → Flagged (has_number (suc b)) (any_has_number (suc b))
 unfolding has_number
 numbers_flagged b = record {
   nothing = refl;
@@ -156,7 +156,7 @@ numbers_flagged b = record {
 
 module _ (f : Tree → Bool) (g : Trees → Bool) (z : Flagged f g) where
   -- the parts of a declaration
-  apart : (K : VariableDeclarationKind) (first : Trees) (id d : Tree) (last : Trees) → f (declaration K (append first (declarator id d ▸ last))) ≡ false → (g first ≡ false) × ((f d ≡ false) × (g last ≡ false))
+  pub apart : (K : VariableDeclarationKind) (first : Trees) (id d : Tree) (last : Trees) → f (declaration K (append first (declarator id d ▸ last))) ≡ false → (g first ≡ false) × ((f d ≡ false) × (g last ≡ false))
   apart K first id d last e =
       let all = (none_of (g (append first (declarator id d ▸ last))) false (sym (z.declares K (append first (declarator id d ▸ last))) ∙ e)).0 in
       let (a, b) = none_of (g first) (g (declarator id d ▸ last)) (sym (z.adds first (declarator id d ▸ last)) ∙ all) in
@@ -164,7 +164,7 @@ module _ (f : Tree → Bool) (g : Trees → Bool) (z : Flagged f g) where
       let (i, w) = none_of (f id) (f d || false) (sym (z.binds id d) ∙ u) in
       (a, ((none_of (f d) false w).0, v))
 
-  whole : (K : VariableDeclarationKind) (ts : Trees) → g ts ≡ false → f (declaration K ts) ≡ false
+  pub whole : (K : VariableDeclarationKind) (ts : Trees) → g ts ≡ false → f (declaration K ts) ≡ false
   whole K ts e = z.declares K ts ∙ λ j. e j || false
 
   left_off : (K : VariableDeclarationKind) (first : Trees) → g first ≡ false → f (declared_left K first) ≡ false

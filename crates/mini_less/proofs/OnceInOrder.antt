@@ -87,7 +87,7 @@ ordered_less false Silent Reads h k a b c = reads_most k Reads refl
 
 -- ---- in order
 
-nothing_ended : (p r : Pace) → is_ended r ≡ false → is_ended (followed (ends_after false p) r) ≡ false
+pub nothing_ended : (p r : Pace) → is_ended r ≡ false → is_ended (followed (ends_after false p) r) ≡ false
 nothing_ended Ends r e = e
 nothing_ended Silent r e = e
 nothing_ended Reads r e = refl

@@ -16,14 +16,26 @@ use Rattle.mini_kept.specs.Placed.{is_statement_list}
 use Rattle.mini_terms.specs.Reading.{is_plain_part}
 use Rattle.mini_shrink.proofs.Fitting.{Stood}
 use Rattle.mini_rows.specs.Declarations.{binding, declarator}
-use Rattle.mini_rows.specs.Lists.{declaration, is_unscoped}
-use Rattle.mini_rows.specs.Unused.{any_names, declared_left, evaluated, names, put_first, reads_head, resolved}
+use Rattle.mini_rows.specs.Lists.{block, declaration, is_unscoped}
+use Rattle.mini_rows.specs.Unused.{any_names, declared_left, evaluated, is_first, names, put_first, reads_head, resolved}
 use Rattle.mini_rows.proofs.ArrangedValues.{is_no_inner, is_value}
 use Rattle.mini_rows.proofs.ForPartKept.{plain_is_quiet}
-use Rattle.mini_rows.proofs.InsideNames.{Losing, SameHead, VarThere, head_vars}
-use Rattle.mini_rows.proofs.SingleUse.{Initial}
+use Rattle.mini_rows.proofs.InsideNames.{Losing, SameHead, VarThere, head_vars, next_vars, same_head}
+use Rattle.mini_rows.proofs.HeadKept.{head_names}
+use Rattle.mini_rows.proofs.HeadMeaning.{head_unnamed}
+use Rattle.mini_rows.proofs.NextKept.{next_names}
+use Rattle.mini_rows.proofs.PastInsideKept.{of_behind}
+use Rattle.mini_rows.proofs.PastStretches.{behind, of_head, of_next}
+use Rattle.mini_rows.proofs.UnusedMeaning.{movable}
+use Rattle.mini_rows.specs.Past.{PastRow, are_past_by_value, held}
+use Rattle.mini_rows.specs.Nesting.{fits_in}
+use Rattle.mini_rows.specs.declared.gathered.Gathered.TheVariants.{Values as OfValues}
+use Rattle.mini_rows.specs.Switches.{Liberties}
+use Rattle.mini_kept.specs.Without.{Assured}
+use Rattle.mini_laws.specs.ScopeList.{has_eval}
+use Rattle.mini_rows.proofs.SingleUse.{Initial, path, unnamed}
 use Rattle.mini_rows.proofs.UnusedKept.{NamesThere}
-use Rattle.mini_rows.proofs.UnusedNames.{Other}
+use Rattle.mini_rows.proofs.UnusedNames.{Other, declared_other}
 use Rattle.mini_less.proofs.ChildStands.{first_plain}
 use Rattle.mini_less.proofs.Drops.{DropsLess}
 use Rattle.mini_less.proofs.HeadsOnce.{HeadLess, spot_less}
@@ -31,7 +43,8 @@ use Rattle.mini_less.proofs.ListMade.{no_bound}
 use Rattle.mini_less.proofs.Losing.{Lost, Loses}
 use Rattle.mini_less.proofs.LosingLists.{ListLess}
 use Rattle.mini_less.proofs.Once.{once_drops}
-use Rattle.mini_less.proofs.PutMade.{Spot, spot, suits_all}
+use Rattle.mini_less.proofs.OnceNext.{next_drops}
+use Rattle.mini_less.proofs.PutMade.{Spot, past_suits, spot, suits_all}
 
 -- statements that lose a name, wherever they stand in a list of statements
 pub record Stretched (sp : List ℕ) (k : ℕ) (d w : Trees) : Type 0 where
@@ -107,3 +120,63 @@ module _ (sp : List ℕ) (k : ℕ) (K : VariableDeclarationKind) (first : Trees)
 
       by : (K : VariableDeclarationKind) → all_names declared.Bound (wrote K) ≡ all_names declared.Bound (read K)
       by K = (λ j. left_bound K first j ++ (bound j ++ []))
+
+-- ---- the next declarator
+
+put_unnamed : (x : Name) (value : Tree) → is_first x false value ≡ true → (r : Tree) → names x r ≡ false → names x (put_first x r value) ≡ false
+put_unnamed x value e r f = let p = path x false value e in ap (names x) (p.puts r) ∙ unnamed x p.steps p.spared r f
+
+module _ (sp : List ℕ) (k : ℕ) (K : VariableDeclarationKind) (first : Trees) (init id value : Tree) (last : Trees) where
+  abbrev name : Name
+  name = resolved sp k
+
+  abbrev read_next : VariableDeclarationKind → Trees
+  read_next K = declaration K (append first (declarator (binding name) init ▸ (declarator id value ▸ last))) ▸ none
+
+  abbrev wrote_next : VariableDeclarationKind → Trees
+  wrote_next K = declaration K (append first (declarator id (put_first name init value) ▸ last)) ▸ none
+
+  pub next_stretched : is_first name false value ≡ true → is_plain_part init ≡ true → suits_all name init value ≡ true → any_names name first ≡ false → names name init ≡ false → names name id ≡ false → any_names name last ≡ false → (is_lexical K ≡ true → NamesThere name (read_next K) (wrote_next K)) → Stretched sp k (read_next K) (wrote_next K)
+  unfolding names_of
+  next_stretched once plain suits earlier initial other later lexical =
+      let lost = kind_lost sp k K read_next wrote_next lexical (next_vars name first init id value (put_first name init value) last earlier other later) in
+      record {
+        drops = λ q l a before after is s. next_drops sp k first init id value last once plain suits K earlier other (put_unnamed name value once init initial) later;
+        lexical = lost.0;
+        hoisted = lost.1;
+        bound = refl;
+      }
+
+-- ---- of the rows
+
+-- a head that hides no name first
+pub head_less : (x : Name) (init head : Tree) → is_plain_part init ≡ true → reads_head x head ≡ true → suits_all x init (evaluated head) ≡ true → HeadLess init head (put_first x init head) × (names_of declared.Bound (put_first x init head) ≡ names_of declared.Bound head)
+head_less x init head plain once suits =
+    let s = spot x init plain (plain_value init plain) head once in
+    (spot_less x init head s (s.suit suits), spot_bound x init head s)
+
+-- past names that keep their value
+pub past_stretched : (V : Assured) (W : Liberties) (o : Tree) (a b : Trees) (r : PastRow V W o a b) → let t = behind V W o a b r in Stretched t.spelling t.symbol t.d t.w
+unfolding behind of_head of_next
+past_stretched V W o a b (inl r) =
+    let x = resolved r.spelling r.symbol in
+    let put = put_first x r.init r.head in
+    let plain = movable W.switches r.init r.moves in
+    let H = held V a r.before (is_lexical r.kind) r.first in
+    let (less, bound) = head_less x r.init r.head plain r.once (past_suits H x OfValues r.init (evaluated r.head) (and_parts (are_past_by_value H x r.init (evaluated r.head)) (fits_in r.init (evaluated r.head)) r.passed).0) in
+    let unnamed_put = head_unnamed x r.head r.once r.init r.initial in
+    head_stretched r.spelling r.symbol r.kind r.first r.init r.head less bound r.declared_earlier unnamed_put (λ e. head_names r.kind x r.symbol refl r.first r.init r.head plain r.once r.initial r.declared_earlier e)
+    (same_head x r.init r.head put (head_names Let x r.symbol refl none r.init r.head plain r.once r.initial refl refl)) (declared_other x declared.Hoisted put unnamed_put)
+past_stretched V W o a b (inr r) =
+    let x = resolved r.spelling r.symbol in
+    let plain = movable W.switches r.init r.moves in
+    let H = held V a r.before (is_lexical r.kind) r.first in
+    next_stretched r.spelling r.symbol r.kind r.first r.init r.binds r.value r.last r.once plain (past_suits H x OfValues r.init r.value (and_parts (are_past_by_value H x r.init r.value) (fits_in r.init r.value) r.passed).0) r.declared_earlier r.initial r.other r.declared_later
+    (λ e. next_names r.kind x r.symbol refl r.first r.init r.binds r.value r.last r.once r.declared_earlier r.initial r.other r.declared_later e)
+
+pub past_unseen : (V : Assured) (W : Liberties) (o : Tree) (a b : Trees) → PastRow V W o a b → has_eval (block (o ▸ a)) ≡ false
+past_unseen V W o a b (inl r) = r.unseen
+past_unseen V W o a b (inr r) = r.unseen
+
+pub past_list : (V : Assured) (W : Liberties) (o : Tree) (a b : Trees) (r : PastRow V W o a b) → ListLess a b (of_behind V W.writable o a b (behind V W o a b r))
+past_list V W o a b r = in_list a b (of_behind V W.writable o a b (behind V W o a b r)) (past_stretched V W o a b r)

@@ -17,3 +17,4 @@ pub mod Rows
 pub mod BodyEnds
 pub mod SwitchRows
 pub mod TellsLists
+pub mod Past

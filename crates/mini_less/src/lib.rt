@@ -14,6 +14,7 @@ ghost use Rattle.mini_less.specs.Names.{NamesReadLess, CatchesReadLess};
 ghost use Rattle.mini_less.specs.SwitchRows.{BranchesReadLess, LexicalNamesReadLess, LexicalRowsLess, SwitchRowsLess};
 ghost use Rattle.mini_less.specs.Own.{SteadyReadsLess, LexicalReadsLess, PastBlocksReadLess};
 ghost use Rattle.mini_less.specs.ListFamilies.{HeadRowsLess, EnterRowsLess, ListsReadLess};
+ghost use Rattle.mini_less.specs.Past.{PastReadLess};
 ghost use Rattle.mini_less.specs.Rebuilt.{ListsAskLess, StatementsAskLess};
 
 use mini_laws::Rewrites;
@@ -223,4 +224,10 @@ pub fn enter_rows_less()
 /// All rows of lists.
 pub fn lists_read_less()
     ensures { ListsReadLess }
+{}
+
+/// The row of a declaration whose name is read once, behind names that keep their value: 71 in the
+/// statements of a function, of an arrow function, of a module and of a static block.
+pub fn past_read_less()
+    ensures { PastReadLess }
 {}
