@@ -72,7 +72,7 @@ module _ (a b : Trees) (t : Losing a b) (less : ListLess a b t) (discriminant : 
 
     wrote : (p : Position) → Stood p (over a) → Wrote sp k (λ v. true) (over a) (over b)
     wrote p s =
-        let list = list_wrote a b t less StatementList refl (stands p s) in
+        let list = list_wrote a b t less (less.drops StatementList refl (stands p s)) in
         let case = over_wrote sp k is_read (λ v. true) (on_way (Case test)) 0 (listed a) (listed b) none list tt (λ j. unread.tested j || false) refl (λ v e. refl) unseen_case in
         let all = over_wrote sp k (λ v. true) (λ v. true) (on_way (Cases first)) 0 (switch_case test a) (switch_case test b) last case tt unread.earlier unread.later (λ v e. refl) unseen_cases in
         over_wrote sp k (λ v. true) (λ v. true) (on_way (Switched discriminant)) 0 (listed (cases a)) (listed (cases b)) none all tt (λ j. unread.asked j || false) refl (λ v e. refl) unseen_list
