@@ -69,6 +69,7 @@ pub mod ForHeadLess
 pub mod ClosedTold
 pub mod PutTold
 pub mod SwitchHolds
+pub mod NextHeadLess
 pub mod RowsUnused
 pub mod BodyEndsLess
 pub mod SwitchTold

@@ -119,7 +119,7 @@ module _ (b s : ℕ) (c : Setting) (env : Environment) where
       by false true e f h g = later (ends_after (q.ends (of_items true (inside true)) t) (pace q (of_items true (inside true)) env t)) (items true ts) (h f)
       by false false e f h g = absurd (true≢false (sym g))
 
-  abbrev ends_inside : Bool → Trees → Bool
+  abbrev pub ends_inside : Bool → Trees → Bool
   ends_inside o ts = q.ends (inside o) (listed ts)
 
   -- the declarators of a declaration in a list
@@ -127,7 +127,7 @@ module _ (b s : ℕ) (c : Setting) (env : Environment) where
     opens : (k : VariableDeclarationKind) (o : Bool) (ts : Trees) → pace q (inside o) (env ++ opened c.used (shape.VariableDeclaration k) (listed ts ▸ none) 0) (listed ts) ≡ pace q (inside o) env (listed ts)
     opens k o ts = ap (λ e. pace q (inside o) e (listed ts)) (ap (λ b. env ++ b) (declaration_opens c.used r k (listed ts ▸ none) 0) ∙ append-nil env)
 
-    says : (k : VariableDeclarationKind) → is_lexical k ≡ true → (o : Bool) (ts : Trees) → pace q (of_items o c) env (declaration k ts) ≡ followed (ends_after (ends_inside o ts) (items o ts)) Silent
+    pub says : (k : VariableDeclarationKind) → is_lexical k ≡ true → (o : Bool) (ts : Trees) → pace q (of_items o c) env (declaration k ts) ≡ followed (ends_after (ends_inside o ts) (items o ts)) Silent
     unfolding pace
     says Var e o ts = absurd (true≢false (sym e))
     says Let e true ts = λ j. followed (ends_after (ends_inside true ts) ((opens Let true ts ∙ listed_is q (early_passes b s) (inside true) env ts) j)) Silent
