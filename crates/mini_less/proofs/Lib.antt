@@ -71,6 +71,7 @@ pub mod PutTold
 pub mod SwitchHolds
 pub mod NextHeadLess
 pub mod RowsUnused
+pub mod UnusedLess
 pub mod BodyEndsLess
 pub mod SwitchTold
 pub mod OneCaseLess
