@@ -70,3 +70,4 @@ pub mod RowsOnce
 pub mod OnceNext
 pub mod PastLess
 pub mod InsideWays
+pub mod InsideOnes

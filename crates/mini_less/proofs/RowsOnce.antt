@@ -123,7 +123,7 @@ module _ (sp : List ℕ) (k : ℕ) (K : VariableDeclarationKind) (first : Trees)
 
 -- ---- the next declarator
 
-put_unnamed : (x : Name) (value : Tree) → is_first x false value ≡ true → (r : Tree) → names x r ≡ false → names x (put_first x r value) ≡ false
+pub put_unnamed : (x : Name) (value : Tree) → is_first x false value ≡ true → (r : Tree) → names x r ≡ false → names x (put_first x r value) ≡ false
 put_unnamed x value e r f = let p = path x false value e in ap (names x) (p.puts r) ∙ unnamed x p.steps p.spared r f
 
 module _ (sp : List ℕ) (k : ℕ) (K : VariableDeclarationKind) (first : Trees) (init id value : Tree) (last : Trees) where
