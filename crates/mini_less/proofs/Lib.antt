@@ -71,3 +71,4 @@ pub mod OnceNext
 pub mod PastLess
 pub mod InsideWays
 pub mod InsideOnes
+pub mod InsideLess

@@ -9,7 +9,7 @@ ghost use Rattle.mini_less.specs.HeldKeys.{HeldKeysReadLess};
 ghost use Rattle.mini_less.specs.Names.{NamesReadLess, CatchesReadLess};
 ghost use Rattle.mini_less.specs.Own.{SteadyReadsLess, LexicalReadsLess, PastBlocksReadLess};
 ghost use Rattle.mini_less.specs.ListFamilies.{HeadRowsLess, EnterRowsLess, ListsReadLess};
-ghost use Rattle.mini_less.specs.Past.{PastReadLess};
+ghost use Rattle.mini_less.specs.Past.{PastReadLess, PastInsideReadsLess};
 ghost use Rattle.mini_less.specs.Rebuilt.{ListsAskLess, StatementsAskLess};
 
 use mini_laws::Rewrites;
@@ -189,4 +189,9 @@ pub fn lists_read_less()
 /// statements of a function, of an arrow function, of a module and of a static block.
 pub fn past_read_less()
     ensures { PastReadLess }
+{}
+
+/// The row of such a `var` that stands further inside the body that it belongs to.
+pub fn past_inside_reads_less()
+    ensures { PastInsideReadsLess }
 {}
