@@ -85,8 +85,8 @@ module _ (x : Name) where
           λ j. ends_after (q.ends (cs i) t) (said_beside (cs i) (env ++ sc i) (env' ++ sc i) inner t one j) ∷ all_beside sc cs (suc i) (env ++ sc i) (env' ++ sc i) inner ts others j
 
   -- of the facts
-  pub facts_beside : (g : Fact) (b s : ℕ) (sc : ℕ → List Binding) (cs : ℕ → Setting) (i : ℕ) (env env' : Environment) → Beside env env' → (ts : Trees) → any_names x ts ≡ false → paces (question g b s) sc cs i env ts ≡ paces (question g b s) sc cs i env' ts
-  facts_beside g b s = all_beside (question g b s) (each_spares g b s)
-
   pub fact_beside : (g : Fact) (b s : ℕ) (c : Setting) (env env' : Environment) → Beside env env' → (t : Tree) → names x t ≡ false → pace (question g b s) c env t ≡ pace (question g b s) c env' t
   fact_beside g b s = said_beside (question g b s) (each_spares g b s)
+
+  pub facts_beside : (g : Fact) (b s : ℕ) (sc : ℕ → List Binding) (cs : ℕ → Setting) (i : ℕ) (env env' : Environment) → Beside env env' → (ts : Trees) → any_names x ts ≡ false → paces (question g b s) sc cs i env ts ≡ paces (question g b s) sc cs i env' ts
+  facts_beside g b s = all_beside (question g b s) (each_spares g b s)

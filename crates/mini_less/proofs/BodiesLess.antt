@@ -62,7 +62,7 @@ abbrev led_asked : Leading → Asked
 led_asked whole = AsBranch
 led_asked (before ts) = AsItem
 
-unscoped_leaving : (v : Leaving) (x : Tree) → is_unscoped (leaves_by v x) ≡ true
+pub unscoped_leaving : (v : Leaving) (x : Tree) → is_unscoped (leaves_by v x) ≡ true
 unscoped_leaving alone x = refl
 unscoped_leaving (or_else s) x = refl
 unscoped_leaving (unless s) x = refl
@@ -78,17 +78,17 @@ module _ (Q : Asked → Tree → Type 0) (l : ByParts Q) where
   leads whole t e f y z = y
   leads (before ts) t e f y z = l.up Block refl AsBranch (listed (t ▸ ts) ▸ none) (several_plain t ts e f) (l.up AList refl AsItems (t ▸ ts) tt (of_all Any Q AsItem 0 (t ▸ ts) (y, z)), tt)
 
-  leaving_parts : (c : Asked) (v : Leaving) (x : Tree) → Q c (leaves_by v x) → Q AsValue x × Q AsBranch (runs_on v)
+  pub leaving_parts : (c : Asked) (v : Leaving) (x : Tree) → Q c (leaves_by v x) → Q AsValue x × Q AsBranch (runs_on v)
   leaving_parts c alone x y = ((if_parts Q l c x bare_break absent y).0, an_empty Q l)
   leaving_parts c (or_else s) x y = let (test, (first, second)) = if_parts Q l c x bare_break s y in (test, second)
   leaving_parts c (unless s) x y = let (test, (first, second)) = if_parts Q l c x s bare_break y in (test, first)
 
-  goes : (v : Leaving) (x : Tree) → Q AsValue x → Q AsValue (goes_by v x)
+  pub goes : (v : Leaving) (x : Tree) → Q AsValue x → Q AsValue (goes_by v x)
   goes alone x y = a_unary Q l LogicalNot x y
   goes (or_else s) x y = a_unary Q l LogicalNot x y
   goes (unless s) x y = y
 
-  beside : (t : Tested) (x : Tree) → Q AsValue (test_of t) → Q AsValue x → Q AsValue (also t x)
+  pub beside : (t : Tested) (x : Tree) → Q AsValue (test_of t) → Q AsValue x → Q AsValue (also t x)
   beside always x y z = z
   beside (while_true t) x y z = a_logical Q l And t x y z
 

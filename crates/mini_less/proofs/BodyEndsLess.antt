@@ -34,15 +34,15 @@ use Rattle.mini_less.proofs.SameTold.{SameTold, node_says, over_told, same_evals
 use Rattle.mini_less.proofs.Plainly.{loop_gives, loop_pattern, loop_lexical, loop_switched, loop_pattern_at, loop_caught, loop_arguments, loop_params}
 
 -- `continue;` and `break;`
-data Jump : Type 0 where
+pub data Jump : Type 0 where
   continues : Jump
   breaks : Jump
 
-abbrev jump_shape : Jump → Shape
+abbrev pub jump_shape : Jump → Shape
 jump_shape continues = shape.ContinueStatement
 jump_shape breaks = shape.BreakStatement
 
-abbrev jump : Jump → Tree
+abbrev pub jump : Jump → Tree
 jump d = node (jump_shape d) [] 0 (absent ▸ none)
 
 nothing_there : (b : Bool) → (b && false) ≡ false
@@ -110,7 +110,7 @@ jump_arguments breaks = refl
 -- ---- a list that it ends
 
 module _ (d : Jump) where
-  abbrev ended : Trees → Trees
+  abbrev pub ended : Trees → Trees
   ended ts = append ts (jump d ▸ none)
 
   all_names_same : (e : Declared) (ts : Trees) → all_names e ts ≡ all_names e (ended ts)
@@ -150,7 +150,7 @@ module _ (d : Jump) where
       (λ j. followed (p.before c env shape.Listed refl [] 0 (ended ts) ts (all_names_same declared.Bound ts) j) (all_followed (paces q (λ i. (bare_scopes c.used shape.Listed refl ts i ∙ sym (bare_scopes c.used shape.Listed refl (ended ts) i)) j) (below (p.orders c shape.Listed refl (ended ts) ts j) c shape.Listed 0) 0 env ts)))
       ∙ ap (followed (q.before c env shape.Listed [] 0 (ended ts))) (items_say g b s (opened c.used shape.Listed (ended ts)) (below (q.orders c shape.Listed (ended ts)) c shape.Listed 0) 0 env ts)
 
-  list_told : (ts : Trees) → SameTold (listed (ended ts)) (listed ts)
+  pub list_told : (ts : Trees) → SameTold (listed (ended ts)) (listed ts)
   unfolding has_eval names_arguments has_number
   list_told ts = record {
     said = λ g b s c env. list_says g b s c env ts;
@@ -159,7 +159,7 @@ module _ (d : Jump) where
     number = λ b e. or_more (nat_eq 0 b) (any_has_number b ts) (any_has_number b (ended ts)) (numbers_less b ts) e;
   }
 
-  list_names : (e : Declared) (ts : Trees) → names_of e (listed ts) ≡ names_of e (listed (ended ts))
+  pub list_names : (e : Declared) (ts : Trees) → names_of e (listed ts) ≡ names_of e (listed (ended ts))
   unfolding names_of
   list_names declared.Bound ts = all_names_same declared.Bound ts
   list_names declared.Lexical ts = all_names_same declared.Lexical ts
@@ -214,7 +214,7 @@ module _ (t u : Tree) (k : SameTold t u) (named : (e : Declared) → names_of e 
   block_orders ByEval b s c = refl
   block_orders AmongParameters b s c = refl
 
-  block_told : SameTold (node shape.BlockStatement [] 0 (t ▸ none)) (node shape.BlockStatement [] 0 (u ▸ none))
+  pub block_told : SameTold (node shape.BlockStatement [] 0 (t ▸ none)) (node shape.BlockStatement [] 0 (u ▸ none))
   block_told = over_told t u k none shape.BlockStatement [] 0 none refl (λ g b s c env.
       node_says (question g b s) t u (k.said g b s) (λ c. (each_parts g b s).ends c t u (named declared.Lexical) (named declared.Bound)) none c env shape.BlockStatement [] 0 none (block_before g b s c env) (block_orders g b s c) (block_opens c.used))
 

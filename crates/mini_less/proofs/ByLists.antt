@@ -65,7 +65,7 @@ value_quiet t e = (and_parts (is_quiet (shape_of t)) (is_no_inner (shape_of t)) 
 pub value_lexical : (t : Tree) → is_value (shape_of t) ≡ true → names_of declared.Lexical t ≡ []
 value_lexical t e = no_names declared.Lexical t (value_quiet t e)
 
-value_bound : (t : Tree) → is_value (shape_of t) ≡ true → names_of declared.Bound t ≡ []
+pub value_bound : (t : Tree) → is_value (shape_of t) ≡ true → names_of declared.Bound t ≡ []
 value_bound t e = no_names declared.Bound t (value_quiet t e)
 
 pub hoisted : (u : Use) → is_statement_use u ≡ true → hoisted_by u ≡ Hoisted

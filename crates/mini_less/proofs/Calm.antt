@@ -1,4 +1,5 @@
--- Nodes that tell nothing of their own: keys, what holds a key and a value, and parts of a pattern.
+-- Nodes that tell nothing of their own: keys, what holds a key and a value, parts of a pattern, and
+-- what is absent.
 use Rattle.std.specs.Prelude.{ℕ, suc, ◌≡◌, refl, Bool, true, false, ◌&&◌, ◌||◌, List, [], map}
 use Rattle.std.specs.List.{list_any}
 use Rattle.std.proofs.Common.{ap, ◌∙◌}
@@ -22,8 +23,9 @@ use Rattle.mini_shrink.specs.Pace.{Pace, Silent, all_followed, in_turn, Setting,
 use Rattle.mini_shrink.specs.Questions.{early, listed_names, seen_from}
 use Rattle.mini_rows.specs.KeyHolders.{is_pattern_part}
 
--- a key, what holds a key and a value, and `return`
+-- a key, what holds a key and a value, `return`, and what is absent
 abbrev pub is_calm_shape : Shape → Bool
+is_calm_shape shape.Absent = true
 is_calm_shape (shape.StringLiteral s) = true
 is_calm_shape (shape.NumericLiteral n) = true
 is_calm_shape (shape.IdentifierName s) = true

@@ -85,7 +85,7 @@ module _ (Q : Asked → Tree → Type 0) (l : ByLists Q) where
       l.var_up (append ds (declarator (binding x) v ▸ es)) (both_every l.Declared ds (declarator (binding x) v ▸ es) (first_every l.Declared ds (declarator (binding x) absent ▸ es) z) (l.given x v a.0 a.1 rest.0, rest.1))
 
   -- the statement without the assignment
-  begun_parts : (strict : Bool) (k : Depth) (b : Beginning) (x : Name) (v : Tree) → begins_well b ≡ true → fits strict (one (a_statement k)) (begun b (assigned x v)) ≡ true → Q AsWholeItem (begun b (assigned x v)) → Assigns x v × All Q AsWholeItem (begun_without b)
+  pub begun_parts : (strict : Bool) (k : Depth) (b : Beginning) (x : Name) (v : Tree) → begins_well b ≡ true → fits strict (one (a_statement k)) (begun b (assigned x v)) ≡ true → Q AsWholeItem (begun b (assigned x v)) → Assigns x v × All Q AsWholeItem (begun_without b)
   begun_parts strict k Alone x v e f y = (assigned_parts Q l.parts Assign (identifier x) v (said Q l.parts AsWholeItem (assigned x v) y), tt)
   begun_parts strict k (Init t u w) x v e f y =
       let (init, rest) = l.loop_down AFor (assigned x v) (t ▸ (u ▸ (w ▸ none))) (value_lexical (assigned x v) refl) y in
@@ -157,7 +157,7 @@ calm_ends e Silent a = refl
 calm_ends e Reads a = absurd (true≢false a)
 
 -- what comes first in what is calm is calm
-first_calm : (e d : Bool) (p r : Pace) → is_reads (followed (ends_after e (followed (ends_after d p) r)) Silent) ≡ false → is_reads p ≡ false
+pub first_calm : (e d : Bool) (p r : Pace) → is_reads (followed (ends_after e (followed (ends_after d p) r)) Silent) ≡ false → is_reads p ≡ false
 first_calm e d Ends r a = refl
 first_calm e d Silent r a = refl
 first_calm e d Reads r a = absurd (true≢false a)
@@ -229,6 +229,25 @@ module _ (kind : VariableDeclarationKind) (scoped : is_lexical kind ≡ true) (d
             let (a, rest) = first_assigns C l x v q qs value in
             let new = ap is_reads (joins.declarator_anywhere b n c env o id (of_parts q qs)) ∙ again rest in
             same (say wrote) (say read) (says_calm given u refl (given_var C l ds x v es a y) new ∙ same_last ∙ sym (says_calm first t refl y old))
+
+    -- the declaration by itself, without the assignment
+    alone_says : (d : Tree) → say (declaration kind (d ▸ cs) ▸ none) ≡ last d (ends_after (ended d) (pace (early b n) around env d))
+    alone_says d = λ j. followed (joins.one_says b n c env r kind scoped o (d ▸ cs) j) Silent
+
+    pub alone_in_order : SaysLess (declaration kind (t ▸ cs) ▸ none) (declaration kind (u ▸ cs) ▸ none) (early b n) c env o
+    alone_in_order = by (is_reads (say (declaration kind (t ▸ cs) ▸ none))) refl
+      where
+        by : (z : Bool) → is_reads (say (declaration kind (t ▸ cs) ▸ none)) ≡ z → AtMost (say (declaration kind (u ▸ cs) ▸ none)) (say (declaration kind (t ▸ cs) ▸ none))
+        by true e = reads_most (say (declaration kind (u ▸ cs) ▸ none)) (say (declaration kind (t ▸ cs) ▸ none)) e
+        by false e =
+            let l = calm_lists b n k env r in
+            let z = sym (ap is_reads (alone_says t)) ∙ e in
+            let old = first_calm (o && joins.declares b n c env (t ▸ cs)) (ended t) (pace (early b n) around env t) (joins.items b n c env o cs) z in
+            let (value, again) = valued_calm b n k env r Read id s (of_parts q qs) (sym (ap is_reads (joins.declarator_anywhere b n c env o id s)) ∙ old) in
+            let (a, rest) = first_assigns C l x v q qs value in
+            let new = ap is_reads (joins.declarator_anywhere b n c env o id (of_parts q qs)) ∙ again rest in
+            same (say (declaration kind (u ▸ cs) ▸ none)) (say (declaration kind (t ▸ cs) ▸ none))
+            (alone_says u ∙ ap (last u) (calm_ends (ended u) (pace (early b n) around env u) new) ∙ same_last ∙ sym (alone_says t ∙ ap (last t) (calm_ends (ended t) (pace (early b n) around env t) old)))
 
 -- ---- each
 

@@ -1,9 +1,10 @@
--- The names that a statement hoists are mentioned in it, where it stands or in a carried node.
+-- The names that a statement hoists, or that a declaration gives its list, are mentioned in it,
+-- where it stands or in a carried node.
 use Rattle.std.specs.Prelude.{ℕ, zero, suc, ◌≡◌, ◌⊎◌, refl, Bool, true, false, ◌&&◌, ◌||◌, List, [], ◌∷◌, ◌++◌}
 use Rattle.std.specs.List.{list_any}
 use Rattle.std.proofs.lemmas.Bool.{and_parts}
 use Rattle.std.proofs.Common.{ap, ◌∙◌, sym, inl, inr, true≢false}
-use Rattle.mini_model.specs.declared.kind.VariableDeclarationKind.TheVariants.{Var}
+use Rattle.mini_model.specs.declared.kind.VariableDeclarationKind.TheVariants.{Var, Let, Const}
 use Rattle.mini_model.specs.declared.name.Name.{Name}
 use Rattle.mini_model.specs.declared.shape.Shape.{Shape}
 use Rattle.mini_model.specs.declared.shape.Shape.TheVariants as shape
@@ -12,13 +13,14 @@ use Rattle.mini_model.specs.Tree.{Tree, Trees, node, none, ◌▸◌, shape_of}
 use Rattle.mini_laws.specs.declared.names.Around.{Around}
 use Rattle.mini_laws.specs.declared.names.Declared.TheVariants as declared
 use Rattle.mini_laws.specs.declared.names.Use.{Use}
-use Rattle.mini_laws.specs.declared.names.Use.TheVariants.{Hoisted}
+use Rattle.mini_laws.specs.declared.names.Use.TheVariants.{Hoisted, Read}
 use Rattle.mini_laws.specs.DeclaredNames.{names_of, first_names, all_names}
 use Rattle.mini_laws.specs.Mentions.{Mention, around_child, own_mentions, mentions, mentions_from}
 use Rattle.mini_laws.specs.Scopes.{use_of}
 use Rattle.mini_laws.specs.Strict.{is_strict_in}
 use Rattle.mini_shrink.proofs.Finding.{any_both}
 use Rattle.mini_laws.specs.Shared.{is_of_function, is_arguments, is_name_of_variable, names_arguments, any_names_arguments}
+use Rattle.mini_rows.specs.DeadLexicals.{is_lexical}
 use Rattle.mini_less.specs.TellsLists.{Every, Names}
 use Rattle.mini_less.proofs.Flags.{none_of}
 
@@ -111,6 +113,15 @@ module _ (R : Tree → Type 0) (P : Name → Type 0) (here : (xs : List Name) (n
     all_hoisted_in none a = tt
     all_hoisted_in (t ▸ ts) a = both_names P (names_of declared.Hoisted t) (all_names declared.Hoisted ts) (hoisted_in t a.0) (all_hoisted_in ts a.1)
 
+  -- and each that a declaration gives its list, where it passes to the name of a class
+  pub lexical_in : ((xs : List Name) (n : ℕ) (t : Tree) (ts : Trees) → R (node (shape.Class true) xs n (t ▸ ts)) → R t) → (t : Tree) → is_lexical t ≡ true → R t → Names P (names_of declared.Lexical t)
+  unfolding names_of
+  lexical_in first (node (shape.VariableDeclaration Let) xs n ts) e r = all_bound_in ts (down (shape.VariableDeclaration Let) xs n ts refl r)
+  lexical_in first (node (shape.VariableDeclaration Const) xs n ts) e r = all_bound_in ts (down (shape.VariableDeclaration Const) xs n ts refl r)
+  lexical_in first (node (shape.Class true) xs n none) e r = tt
+  lexical_in first (node (shape.Class true) xs n (t ▸ ts)) e r = bound_in t (first xs n t ts r)
+  lexical_in first (node h xs n ts) e r = absurd (true≢false (sym e))
+
 -- ---- mentions
 
 module _ (p : Mention → Bool) (within : AsksWithin p) (a : Around) where
@@ -144,13 +155,33 @@ module _ (p : Mention → Bool) (within : AsksWithin p) (a : Around) where
       let (x, y) = none_of (list_any p (mentions (us i) (bs i) t)) (list_any p (mentions_from us bs (suc i) ts)) (sym (any_both p (mentions (us i) (bs i) t) (mentions_from us bs (suc i) ts)) ∙ e) in
       (record { used = us i; place = bs i; inside = k i; lacks = x }, all_lacking us bs k (suc i) ts y)
 
-  pub hoisted_unasked : (u : Use) (t : Tree) → list_any p (mentions u a t) ≡ false → Names Unasked (names_of declared.Hoisted t)
+  name_unasked : (xs : List Name) (n : ℕ) (ts : Trees) → Lacking (node shape.BindingIdentifier xs n ts) → Names Unasked xs
   unfolding mentions
-  hoisted_unasked u t e =
-      hoisted_in Lacking Unasked
-      (λ xs n ts r. own_unasked r.used r.place r.inside xs (none_of (list_any p (own_mentions r.used r.place shape.BindingIdentifier xs)) (list_any p (mentions_from (use_of shape.BindingIdentifier r.used) (around_child shape.BindingIdentifier r.place n) 0 ts)) (sym (any_both p (own_mentions r.used r.place shape.BindingIdentifier xs) (mentions_from (use_of shape.BindingIdentifier r.used) (around_child shape.BindingIdentifier r.place n) 0 ts)) ∙ r.lacks)).0)
-      (λ h xs n ts k r. all_lacking (use_of h r.used) (around_child h r.place n) (λ j. within_child a r.place h n j k r.inside) 0 ts (none_of (list_any p (own_mentions r.used r.place h xs)) (list_any p (mentions_from (use_of h r.used) (around_child h r.place n) 0 ts)) (sym (any_both p (own_mentions r.used r.place h xs) (mentions_from (use_of h r.used) (around_child h r.place n) 0 ts)) ∙ r.lacks)).1)
-      t (record { used = u; place = a; inside = inl refl; lacks = e })
+  name_unasked xs n ts r =
+      let own = own_mentions r.used r.place shape.BindingIdentifier xs in
+      let later = mentions_from (use_of shape.BindingIdentifier r.used) (around_child shape.BindingIdentifier r.place n) 0 ts in
+      own_unasked r.used r.place r.inside xs (none_of (list_any p own) (list_any p later) (sym (any_both p own later) ∙ r.lacks)).0
+
+  below_lacking : (h : Shape) (xs : List Name) (n : ℕ) (ts : Trees) → hands_around h ≡ true → Lacking (node h xs n ts) → Every Lacking ts
+  unfolding mentions
+  below_lacking h xs n ts k r =
+      let own = own_mentions r.used r.place h xs in
+      let later = mentions_from (use_of h r.used) (around_child h r.place n) 0 ts in
+      all_lacking (use_of h r.used) (around_child h r.place n) (λ j. within_child a r.place h n j k r.inside) 0 ts (none_of (list_any p own) (list_any p later) (sym (any_both p own later) ∙ r.lacks)).1
+
+  pub hoisted_unasked : (u : Use) (t : Tree) → list_any p (mentions u a t) ≡ false → Names Unasked (names_of declared.Hoisted t)
+  hoisted_unasked u t e = hoisted_in Lacking Unasked name_unasked below_lacking t (record { used = u; place = a; inside = inl refl; lacks = e })
+
+  -- the name of a class stands in what is around the class
+  class_lacking : (xs : List Name) (n : ℕ) (t : Tree) (ts : Trees) → Lacking (node (shape.Class true) xs n (t ▸ ts)) → Lacking t
+  unfolding mentions
+  class_lacking xs n t ts r =
+      let first = mentions Read r.place t in
+      let later = mentions_from (use_of (shape.Class true) r.used) (around_child (shape.Class true) r.place n) 1 ts in
+      record { used = Read; place = r.place; inside = r.inside; lacks = (none_of (list_any p first) (list_any p later) (sym (any_both p first later) ∙ r.lacks)).0 }
+
+  pub lexical_unasked : (u : Use) (t : Tree) → is_lexical t ≡ true → list_any p (mentions u a t) ≡ false → Names Unasked (names_of declared.Lexical t)
+  lexical_unasked u t l e = lexical_in Lacking Unasked name_unasked below_lacking class_lacking t l (record { used = u; place = a; inside = inl refl; lacks = e })
 
 -- ---- `arguments`
 
@@ -211,7 +242,7 @@ all_placed strict (each_or_last s l) (t ▸ ts) e = let (x, y) = and_parts (fits
 all_placed strict (pieces g) (t ▸ ts) e = all_pieces g (t ▸ ts) e
 all_placed strict g ts e = absurd (true≢false (sym e))
 
-abbrev NoArguments : Name → Type 0
+abbrev pub NoArguments : Name → Type 0
 NoArguments x = is_arguments (x ∷ []) ≡ false
 
 -- it names no `arguments`, and has its place
@@ -242,3 +273,14 @@ sparing_down h xs n ts k (a, Piece e) = absurd (true≢false (sym e))
 
 pub hoisted_sparing : (strict : Bool) (s : Slot) (t : Tree) → fits strict s t ≡ true → names_arguments t ≡ false → Names NoArguments (names_of declared.Hoisted t)
 hoisted_sparing strict s t e a = hoisted_in Sparing NoArguments sparing_name sparing_down t (a, Fitting strict s e)
+
+class_sparing : (xs : List Name) (n : ℕ) (t : Tree) (ts : Trees) → Sparing (node (shape.Class true) xs n (t ▸ ts)) → Sparing t
+unfolding names_arguments
+class_sparing xs n t ts (a, Fitting strict s e) = (
+  (none_of (names_arguments t) (any_names_arguments (is_of_function (shape.Class true)) 1 ts) a).0,
+  (all_placed (is_strict_in strict (shape.Class true)) (filling strict s (shape.Class true)) (t ▸ ts) (and_parts (is_whole (class_of s) (shape.Class true) xs n (t ▸ ts)) (fill (is_strict_in strict (shape.Class true)) (filling strict s (shape.Class true)) (t ▸ ts)) e).1).0,
+)
+class_sparing xs n t ts (a, Piece e) = absurd (true≢false (sym e))
+
+pub lexical_sparing : (strict : Bool) (s : Slot) (t : Tree) → is_lexical t ≡ true → fits strict s t ≡ true → names_arguments t ≡ false → Names NoArguments (names_of declared.Lexical t)
+lexical_sparing strict s t l e a = lexical_in Sparing NoArguments sparing_name sparing_down class_sparing t l (a, Fitting strict s e)

@@ -209,21 +209,29 @@ abbrev lists_moved : Free
 lists_moved = record { moved = []; lists_moved = 0 ∷ []; dropped = [] }
 
 -- a block of unscoped statements is plain
-list_plain : (ts : Trees) → are_unscoped ts ≡ true → Plain Block (listed ts ▸ none)
+pub list_plain : (ts : Trees) → are_unscoped ts ≡ true → Plain Block (listed ts ▸ none)
 list_plain ts f = subst (λ us. Plain Block (listed us ▸ none)) (append_none ts) (is_plain lists_moved (record { trees = none; lists = ts ∷ [] }) (tt, (f, tt)) AsBranch (under Block (list (items 0 no_items) ▹ end)) refl).0
 
-all_unscoped : (ts us : Trees) → are_unscoped ts ≡ true → are_unscoped us ≡ true → are_unscoped (append ts us) ≡ true
+pub all_unscoped : (ts us : Trees) → are_unscoped ts ≡ true → are_unscoped us ≡ true → are_unscoped (append ts us) ≡ true
 all_unscoped none us e f = f
 all_unscoped (t ▸ ts) us e f =
     let (x, y) = and_parts (is_unscoped t) (are_unscoped ts) e in
     λ j. x j && all_unscoped ts us y f j
 
+-- a block of unscoped statements, of which each holds what the block does
+module _ (Q : Asked → Tree → Type 0) (l : ByParts Q) where
+  pub block_items : (ts : Trees) → are_unscoped ts ≡ true → Q AsBranch (block ts) → All Q AsItem ts
+  block_items ts e y = all_of Any Q AsItem 0 ts (l.down AList refl AsItems ts tt (l.down Block refl AsBranch (listed ts ▸ none) (list_plain ts e) y).0)
+
+  pub block_of_items : (ts : Trees) → are_unscoped ts ≡ true → All Q AsItem ts → Q AsBranch (block ts)
+  block_of_items ts e y = l.up Block refl AsBranch (listed ts ▸ none) (list_plain ts e) (l.up AList refl AsItems ts tt (of_all Any Q AsItem 0 ts y), tt)
+
 module _ (Q : Asked → Tree → Type 0) (l : ByLists Q) where
   block_parts : (ts : Trees) → are_unscoped ts ≡ true → Q AsBranch (block ts) → All Q AsItem ts
-  block_parts ts e y = all_of Any Q AsItem 0 ts (l.parts.down AList refl AsItems ts tt (l.parts.down Block refl AsBranch (listed ts ▸ none) (list_plain ts e) y).0)
+  block_parts ts e y = block_items Q l.parts ts e y
 
   a_block : (ts : Trees) → are_unscoped ts ≡ true → All Q AsItem ts → Q AsBranch (block ts)
-  a_block ts e y = l.parts.up Block refl AsBranch (listed ts ▸ none) (list_plain ts e) (l.parts.up AList refl AsItems ts tt (of_all Any Q AsItem 0 ts y), tt)
+  a_block ts e y = block_of_items Q l.parts ts e y
 
   all_placed : (ts : Trees) → are_unscoped ts ≡ true → All Q AsWholeItem ts → All Q AsItem ts
   all_placed none e a = tt
@@ -235,26 +243,26 @@ module _ (Q : Asked → Tree → Type 0) (l : ByLists Q) where
   an_alternate none e a = nothing Q l.parts AsBranch
   an_alternate (t ▸ ts) e a = a_block (t ▸ ts) e a
 
+pub row_75_made : (jump : Tree) (a b : Trees) → Row75 jump a b → ListMade a b
+row_75_made jump a b r strict k f Q l y =
+    let z = subst (All Q AsWholeItem) r.shape y in
+    let (test, branches) = if_parts Q l.parts AsWholeItem r.test jump absent z.0 in
+    subst (All Q AsWholeItem) (sym r.written)
+    (an_if Q l.parts AsWholeItem (negation r.test) (block r.rest) absent (a_unary Q l.parts LogicalNot r.test test) (a_block Q l r.rest r.unscoped (all_placed Q l r.rest r.unscoped z.1)) (nothing Q l.parts AsBranch), tt)
+
+pub row_75_block_made : (jump : Tree) → is_unscoped jump ≡ true → (a b : Trees) → Row75Block jump a b → ListMade a b
+row_75_block_made jump u a b r strict k f Q l y =
+    let z = subst (All Q AsWholeItem) r.shape y in
+    let (test, (first, second)) = if_parts Q l.parts AsWholeItem r.test (block (append r.body (jump ▸ none))) absent z.0 in
+    let body = first_all Any Q AsItem r.body (jump ▸ none) (block_parts Q l (append r.body (jump ▸ none)) (all_unscoped r.body (jump ▸ none) r.loose (λ j. u j && true)) first) in
+    subst (All Q AsWholeItem) (sym r.written)
+    (an_if Q l.parts AsWholeItem r.test (block r.body) (alternate_of r.rest) test (a_block Q l r.body r.loose body) (an_alternate Q l r.rest r.unscoped (all_placed Q l r.rest r.unscoped z.1)), tt)
+
 pub row_75_less : (jump : Tree) (p : Position) → is_statement_list p ≡ true → (n w : Tree) → AtEnd (Row75 jump) n w → LessAt p n w
-row_75_less jump = last_less (Row75 jump) (λ a b r. ap are_unscoped r.shape ∙ r.unscoped) made
-  where
-    made : (a b : Trees) → Row75 jump a b → ListMade a b
-    made a b r strict k f Q l y =
-        let z = subst (All Q AsWholeItem) r.shape y in
-        let (test, branches) = if_parts Q l.parts AsWholeItem r.test jump absent z.0 in
-        subst (All Q AsWholeItem) (sym r.written)
-        (an_if Q l.parts AsWholeItem (negation r.test) (block r.rest) absent (a_unary Q l.parts LogicalNot r.test test) (a_block Q l r.rest r.unscoped (all_placed Q l r.rest r.unscoped z.1)) (nothing Q l.parts AsBranch), tt)
+row_75_less jump = last_less (Row75 jump) (λ a b r. ap are_unscoped r.shape ∙ r.unscoped) (row_75_made jump)
 
 pub row_75_block_less : (jump : Tree) → is_unscoped jump ≡ true → (p : Position) → is_statement_list p ≡ true → (n w : Tree) → AtEnd (Row75Block jump) n w → LessAt p n w
-row_75_block_less jump u = last_less (Row75Block jump) (λ a b r. ap are_unscoped r.shape ∙ r.unscoped) made
-  where
-    made : (a b : Trees) → Row75Block jump a b → ListMade a b
-    made a b r strict k f Q l y =
-        let z = subst (All Q AsWholeItem) r.shape y in
-        let (test, (first, second)) = if_parts Q l.parts AsWholeItem r.test (block (append r.body (jump ▸ none))) absent z.0 in
-        let body = first_all Any Q AsItem r.body (jump ▸ none) (block_parts Q l (append r.body (jump ▸ none)) (all_unscoped r.body (jump ▸ none) r.loose (λ j. u j && true)) first) in
-        subst (All Q AsWholeItem) (sym r.written)
-        (an_if Q l.parts AsWholeItem r.test (block r.body) (alternate_of r.rest) test (a_block Q l r.body r.loose body) (an_alternate Q l r.rest r.unscoped (all_placed Q l r.rest r.unscoped z.1)), tt)
+row_75_block_less jump u = last_less (Row75Block jump) (λ a b r. ap are_unscoped r.shape ∙ r.unscoped) (row_75_block_made jump u)
 
 -- ---- what stands behind a jump
 

@@ -186,7 +186,7 @@ both_quiet false Ends e f = refl
 both_quiet false Silent e f = refl
 both_quiet false Reads e f = absurd (true≢false f)
 
-quiet_after : (p r : Pace) → is_reads p ≡ false → is_reads r ≡ false → is_reads (followed p r) ≡ false
+pub quiet_after : (p r : Pace) → is_reads p ≡ false → is_reads r ≡ false → is_reads (followed p r) ≡ false
 quiet_after Ends r e f = refl
 quiet_after Silent r e f = f
 quiet_after Reads r e f = absurd (true≢false e)
@@ -226,7 +226,7 @@ module _ (o : Own) (t : TellsLists o) (z : Unordered o) (c : Setting) (r : c.use
 -- ---- what they tell besides names
 
 -- what is told of a declaration is told of its declarators
-abbrev Tells : (Tree → Bool) → (Trees → Bool) → VariableDeclarationKind → Type 0
+abbrev pub Tells : (Tree → Bool) → (Trees → Bool) → VariableDeclarationKind → Type 0
 Tells f g k = (ts : Trees) → f (declaration k ts) ≡ (g ts || false)
 
 module _ (f : Tree → Bool) (g : Trees → Bool) (adds : Adds g) (k : VariableDeclarationKind) (told : Tells f g k) where
@@ -238,16 +238,16 @@ module _ (f : Tree → Bool) (g : Trees → Bool) (adds : Adds g) (k : VariableD
       let b = none_of (g es) false (sym (told es) ∙ u) in
       λ j. (told (append ds es) ∙ (λ j. (adds ds es ∙ (λ j. a.0 j || b.0 j)) j || false)) j || false
 
-evals_told : (k : VariableDeclarationKind) → Tells has_eval any_has_eval k
+pub evals_told : (k : VariableDeclarationKind) → Tells has_eval any_has_eval k
 unfolding has_eval
 evals_told k ts = refl
 
-names_told : (k : VariableDeclarationKind) → Tells names_arguments any_names k
+pub names_told : (k : VariableDeclarationKind) → Tells names_arguments any_names k
 unfolding names_arguments
 names_told k ts = ap (λ b. b || false) (list_names ts)
 
 module _ (b : ℕ) where
-  numbers_told : (k : VariableDeclarationKind) → Tells (has_number (suc b)) (any_has_number (suc b)) k
+  pub numbers_told : (k : VariableDeclarationKind) → Tells (has_number (suc b)) (any_has_number (suc b)) k
   unfolding has_number
   numbers_told k ts = λ j. unlike b j || ((unlike b j || any_has_number (suc b) ts) || false)
 

@@ -8,7 +8,7 @@ use Rattle.mini_model.specs.declared.shape.Shape.TheVariants as shape
 use Rattle.mini_model.specs.Paths.{append}
 use Rattle.mini_model.specs.Tree.{Tree, Trees, none, ◌▸◌, listed, absent}
 use Rattle.mini_laws.specs.declared.names.Declared.TheVariants as declared
-use Rattle.mini_laws.specs.declared.names.Use.TheVariants.{Hoisted}
+use Rattle.mini_laws.specs.declared.names.Use.TheVariants.{Read, Hoisted}
 use Rattle.mini_laws.specs.DeclaredNames.{names_of}
 use Rattle.mini_laws.specs.Foreign.{has_number, any_has_number}
 use Rattle.mini_laws.specs.Mentions.{is_elsewhere, same_variable}
@@ -76,7 +76,7 @@ calm_declarator m s c env x = λ j. is_reads (followed (ends_after false (follow
 
 -- ---- what is left tells besides names
 
-evals_left : (xs : List Name) → any_has_eval (declared_bare xs) ≡ false
+pub evals_left : (xs : List Name) → any_has_eval (declared_bare xs) ≡ false
 unfolding has_eval
 evals_left [] = refl
 evals_left (x ∷ xs) = λ j. (in_each (x ∷ xs) j || false) || false
@@ -85,7 +85,7 @@ evals_left (x ∷ xs) = λ j. (in_each (x ∷ xs) j || false) || false
     in_each [] = refl
     in_each (y ∷ ys) = in_each ys
 
-arguments_left : (xs : List Name) → Names (λ x. is_arguments (x ∷ []) ≡ false) xs → any_names (declared_bare xs) ≡ false
+pub arguments_left : (xs : List Name) → Names (λ x. is_arguments (x ∷ []) ≡ false) xs → any_names (declared_bare xs) ≡ false
 unfolding names_arguments
 arguments_left [] a = refl
 arguments_left (x ∷ xs) a = λ j. (in_each 0 (x ∷ xs) a j || false) || false
@@ -94,7 +94,7 @@ arguments_left (x ∷ xs) a = λ j. (in_each 0 (x ∷ xs) a j || false) || false
     in_each i [] b = refl
     in_each i (y ∷ ys) b = λ j. ((b.0 j || false) || false) || in_each (suc i) ys b.1 j
 
-numbers_left : (b : ℕ) (xs : List Name) → any_has_number (suc b) (declared_bare xs) ≡ false
+pub numbers_left : (b : ℕ) (xs : List Name) → any_has_number (suc b) (declared_bare xs) ≡ false
 unfolding has_number
 numbers_left b [] = refl
 numbers_left b (x ∷ xs) = λ j. (unlike b j || ((unlike b j || in_each (x ∷ xs) j) || false)) || false
@@ -103,24 +103,29 @@ numbers_left b (x ∷ xs) = λ j. (unlike b j || ((unlike b j || in_each (x ∷ 
     in_each [] = refl
     in_each (y ∷ ys) = λ j. (unlike b j || ((unlike b j || false) || ((unlike b j || false) || false))) || in_each ys j
 
+-- where something holds of a statement it holds of what is left
+
+pub left_lacks : (o : Own) (p : TellsLists o) (k : Setting) (env : Environment) → k.used ≡ Read → (t : Tree) → Lacks o p.plainly k env AsWholeItem t → All (Lacks o p.plainly k env) AsWholeItem (left_behind t)
+left_lacks o p k env r t y =
+    let there = inside o p k env in
+    left_made (Lacks o p.plainly k env) (λ d. finds o (around o p k env) env d ≡ false) (lacks_vars o p k env r) (λ x. o there (env ++ []) shape.BindingIdentifier (x ∷ []) 0 none ≡ false) (declarator_lacks o p k env) (names_of declared.Hoisted t)
+    (p.left (setting o p.plainly k env AsWholeItem) env t y there (env ++ []) refl refl)
+
+pub left_calm : (m s : ℕ) (k : Setting) (env : Environment) → k.used ≡ Read → (t : Tree) → All (Calmly m s k env) AsWholeItem (left_behind t)
+left_calm m s k env r t = left_made (Calmly m s k env) (λ d. is_reads (pace (early m s) (around_early k) env d) ≡ false) (calm_vars m s k env r) (λ x. Unit {0}) (λ x q. calm_declarator m s k env x) (names_of declared.Hoisted t) (whatever (names_of declared.Hoisted t))
+
 -- ---- 77
 
 left_stretch : (t : Tree) → is_unscoped t ≡ true → StretchLess (t ▸ none) (left_behind t)
 left_stretch t u = record {
   asked = λ strict f c r env x o p z.
-      let k = with_belongs c in
-      let there = inside o p k env in
       less_by (say o p.plainly z x c env (left_behind t)) (say o p.plainly z x c env (t ▸ none))
-      (λ y. of_lacks o p.plainly z x c env (left_behind t)
-      (left_made (Lacks o p.plainly k env) (λ d. finds o (around o p k env) env d ≡ false) (lacks_vars o p k env r) (λ x. o there (env ++ []) shape.BindingIdentifier (x ∷ []) 0 none ≡ false) (declarator_lacks o p k env) (names_of declared.Hoisted t)
-      (p.left (setting o p.plainly k env AsWholeItem) env t (to_lacks o p.plainly z x c env (t ▸ none) y).0 there (env ++ []) refl refl)))
+      (λ y. of_lacks o p.plainly z x c env (left_behind t) (left_lacks o p (with_belongs c) env r t (to_lacks o p.plainly z x c env (t ▸ none) y).0))
       (none_ended o p.plainly z x c env (t ▸ none));
   in_order = λ strict f c r env x b s.
-      let k = with_belongs c in
       let first = items_say (early b s) (of_items x c) env (t ▸ none) in
       through (items_say (early b s) (of_items x c) env (left_behind t)) (loosely b s c env (left_behind t)) first (loosely_more b s c env x (left_behind t))
-      (less_by (loosely b s c env (left_behind t)) first
-      (λ y. of_calm b s c env (left_behind t) (left_made (Calmly b s k env) (λ d. is_reads (pace (early b s) (around_early k) env d) ≡ false) (calm_vars b s k env r) (λ x. Unit {0}) (λ x q. calm_declarator b s k env x) (names_of declared.Hoisted t) (whatever (names_of declared.Hoisted t))))
+      (less_by (loosely b s c env (left_behind t)) first (λ y. of_calm b s c env (left_behind t) (left_calm b s (with_belongs c) env r t))
       (unscoped_ended b s c env x (t ▸ none) (λ j. u j && true)));
   evals = λ strict f y. evals_left (names_of declared.Hoisted t);
   arguments = λ strict f y. arguments_left (names_of declared.Hoisted t) (hoisted_sparing strict (one (a_statement f.depth)) t (first_fits strict f.depth t none f.fit) (none_of (names_arguments t) false y).0);

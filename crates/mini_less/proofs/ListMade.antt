@@ -91,10 +91,10 @@ module _ (b s : ℕ) (c : Setting) (env : Environment) (x : Bool) where
 
 -- ---- what stands in some trees besides names
 
-abbrev Tells : (Tree → Bool) → (Trees → Bool) → Type 0
+abbrev pub Tells : (Tree → Bool) → (Trees → Bool) → Type 0
 Tells f g = (g none ≡ false) × ((t : Tree) (ts : Trees) → g (t ▸ ts) ≡ (f t || g ts))
 
-to_none : (f : Tree → Bool) (g : Trees → Bool) → Tells f g → (ts : Trees) → g ts ≡ false → All (λ c t. f t ≡ false) AsWholeItem ts
+pub to_none : (f : Tree → Bool) (g : Trees → Bool) → Tells f g → (ts : Trees) → g ts ≡ false → All (λ c t. f t ≡ false) AsWholeItem ts
 to_none f g r none a = tt
 to_none f g r (t ▸ ts) a = let (x, y) = none_of (f t) (g ts) (sym (r.1 t ts) ∙ a) in (x, to_none f g r ts y)
 
@@ -102,14 +102,14 @@ of_none : (f : Tree → Bool) (g : Trees → Bool) → Tells f g → (ts : Trees
 of_none f g r none a = r.0
 of_none f g r (t ▸ ts) a = r.1 t ts ∙ λ j. a.0 j || of_none f g r ts a.1 j
 
-evals_tell : Tells has_eval any_has_eval
+pub evals_tell : Tells has_eval any_has_eval
 unfolding has_eval
 evals_tell = (refl, λ t ts. refl)
 
-names_tell : Tells names_arguments any_names
+pub names_tell : Tells names_arguments any_names
 names_tell = (refl, λ t ts. refl)
 
-numbers_tell : (b : ℕ) → Tells (has_number b) (any_has_number b)
+pub numbers_tell : (b : ℕ) → Tells (has_number b) (any_has_number b)
 unfolding has_number
 numbers_tell b = (refl, λ t ts. refl)
 
@@ -118,7 +118,7 @@ abbrev pub ListMade : Trees → Trees → Type 1
 ListMade a d = (strict : Bool) (k : Depth) → fill strict (each (one (a_statement k))) a ≡ true → (Q : Asked → Tree → Type 0) → ByLists Q → All Q AsWholeItem a → All Q AsWholeItem d
 
 -- a statement in a list reads
-as_read : (p : Position) → is_statement_list p ≡ true → (v : Use) → is_used p v ≡ true → v ≡ Read
+pub as_read : (p : Position) → is_statement_list p ≡ true → (v : Use) → is_used p v ≡ true → v ≡ Read
 as_read StatementList e v k = read v k
 as_read BodyList e v k = read v k
 as_read p e v k = absurd (cc e)

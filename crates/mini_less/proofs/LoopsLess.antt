@@ -1,4 +1,5 @@
--- A loop asks less where its parts hold nothing new, under the names that its head declares.
+-- A loop asks less where its parts hold nothing new, by each property of a kind, under the names
+-- that its head declares.
 use Rattle.std.specs.Prelude.{ℕ, zero, suc, ◌≡◌, ◌⊎◌, refl, Bool, true, false, ◌||◌, List, [], ◌∷◌, ◌++◌}
 use Rattle.std.proofs.Common.{ap, ◌∙◌, sym, subst, inl, inr, true≢false}
 use Rattle.std.proofs.lemmas.List.{append-nil}
@@ -26,12 +27,14 @@ use Rattle.mini_shrink.proofs.Paces.{itself}
 use Rattle.mini_rows.specs.Sketches.{If, Assignment, Asked, AsValue, AsTarget, AsWhole, AsBranch}
 use Rattle.mini_rows.proofs.Arranging.{Below}
 use Rattle.mini_less.specs.Families.{LessAt}
+use Rattle.mini_less.specs.TellsLists.{TellsLists}
 use Rattle.mini_less.specs.Less.{Frame, AFor, AWhile, ADo, AnIn, AnOf, frame_shape, headed, TellsPlainly}
-use Rattle.mini_less.proofs.EachFact.{by_fact, found_less}
-use Rattle.mini_less.proofs.Finding.{Lacks, lacks_local, never, setting, setting_below, lacks_below, below_lacks}
-use Rattle.mini_less.proofs.Flags.{spares_local, numbers_local, spares_below, below_spares, numbers_below, below_numbers, unlike}
-use Rattle.mini_less.proofs.Made.{ByParts, by_parts, Spared, spared_by_parts, spared_below, below_spared, lacks_updated, lacks_properties, lacks_moved, calm_moved, calm_updated, calm_properties, spares_properties, numbers_properties}
-use Rattle.mini_less.proofs.Plainly.{is_reads, is_ended, split, join, not_ended, less_by, Calmly, calm_local, calm_below, below_calm, standing, standing_below, none_ended, head_scope, later_scopes}
+use Rattle.mini_less.proofs.EachFact.{found_less}
+use Rattle.mini_less.proofs.Finding.{Lacks, never, setting, setting_below, lacks_below, below_lacks}
+use Rattle.mini_less.proofs.Flags.{spares_below, below_spares, numbers_below, below_numbers, unlike}
+use Rattle.mini_less.proofs.Made.{ByParts, Spared, spared_below, below_spared, FactProperties, plain_properties}
+use Rattle.mini_less.proofs.TellingLists.{by_lists}
+use Rattle.mini_less.proofs.Plainly.{is_reads, is_ended, split, join, not_ended, less_by, Calmly, calm_below, below_calm, standing, standing_below, none_ended, head_scope, later_scopes}
 use Rattle.mini_less.proofs.Shown.{shows_all}
 
 -- how the parts of a loop stand
@@ -220,9 +223,9 @@ module _ (m s : ℕ) (c : Setting) (env : Environment) where
 abbrev pub loop_node : Frame → Tree → Trees → Tree
 loop_node f i ts = node (frame_shape f) [] 0 (i ▸ ts)
 
--- what holds of the parts of one holds of those of the other
-abbrev pub LoopMade : Frame → Tree → Trees → Tree → Trees → Type 1
-LoopMade f i ts j us = (Q : Asked → Tree → Type 0) → ByParts Q → Below Q (frame_asked f) 0 (i ▸ ts) → Below Q (frame_asked f) 0 (j ▸ us)
+-- what holds of the parts of one holds of those of the other, by each property of a kind
+abbrev pub LoopMadeBy : ((Asked → Tree → Type 0) → Type 1) → Frame → Tree → Trees → Tree → Trees → Type 1
+LoopMadeBy Kind f i ts j us = (Q : Asked → Tree → Type 0) → Kind Q → Below Q (frame_asked f) 0 (i ▸ ts) → Below Q (frame_asked f) 0 (j ▸ us)
 
 -- the head and what is evaluated before it stay, or it declares nothing
 abbrev pub HeadStays : Frame → Tree → Trees → Tree → Trees → Type 0
@@ -251,9 +254,9 @@ frame_of_function ADo k = refl
 frame_of_function AnIn k = refl
 frame_of_function AnOf k = refl
 
-module _ (f : Frame) (i j : Tree) (ts us : Trees) (same : headed f j ≡ headed f i) (head : HeadStays f i ts j us) (made : LoopMade f i ts j us) where
+module _ (Told : Question → Type 0) (Kind : (Asked → Tree → Type 0) → Type 1) (kinds : FactProperties Told Kind) (f : Frame) (i j : Tree) (ts us : Trees) (same : headed f j ≡ headed f i) (head : HeadStays f i ts j us) (made : LoopMadeBy Kind f i ts j us) where
   evals : any_has_eval (j ▸ us) ≡ true → any_has_eval (i ▸ ts) ≡ true
-  evals = never (any_has_eval (i ▸ ts)) (any_has_eval (j ▸ us)) (λ a. below_spared (frame_asked f) 0 (j ▸ us) (made Spared spared_by_parts (spared_below (frame_asked f) 0 (i ▸ ts) a)))
+  evals = never (any_has_eval (i ▸ ts)) (any_has_eval (j ▸ us)) (λ a. below_spared (frame_asked f) 0 (j ▸ us) (made Spared kinds.spared (spared_below (frame_asked f) 0 (i ▸ ts) a)))
 
   module _ (c : Setting) (env : Environment) where
     around_both : env ++ opened c.used (frame_shape f) (j ▸ us) 0 ≡ in_head env f i
@@ -262,9 +265,9 @@ module _ (f : Frame) (i j : Tree) (ts us : Trees) (same : headed f j ≡ headed 
     around_first : env ++ opened c.used (frame_shape f) (i ▸ ts) 0 ≡ in_head env f i
     around_first = ap (λ b. env ++ b) (head_scope c.used f i ts)
 
-    asked : (o : Own) → TellsPlainly o → AtMost (pace (asks o) c env (loop_node f j us)) (pace (asks o) c env (loop_node f i ts))
+    asked : (o : Own) (tells : TellsLists o) → Told (asks o) → AtMost (pace (asks o) c env (loop_node f j us)) (pace (asks o) c env (loop_node f i ts))
     unfolding finds
-    asked o p =
+    asked o tells known =
         let h = frame_shape f in
         let cs = below false c h 0 in
         let e = in_head env f i in
@@ -274,13 +277,13 @@ module _ (f : Frame) (i j : Tree) (ts us : Trees) (same : headed f j ≡ headed 
         ap any_of (head_finds o (opened c.used h (j ▸ us)) (later_scopes c.used f j us) cs env j us ∙ ap (λ b. finds_each o (λ k. []) cs 0 b (j ▸ us)) around_both) in
         found_less o c env (loop_node f i ts) (loop_node f j us)
         (either_or (o c env h [] 0 (j ▸ us)) (any_of (finds_each o (opened c.used h (j ▸ us)) cs 0 env (j ▸ us))) (o c env h [] 0 (i ▸ ts)) (any_of (finds_each o (opened c.used h (i ▸ ts)) cs 0 env (i ▸ ts)))
-        (p.looped c env f i j ts us same evals)
+        (tells.plainly.looped c env f i j ts us same evals)
         (never (any_of (finds_each o (opened c.used h (i ▸ ts)) cs 0 env (i ▸ ts))) (any_of (finds_each o (opened c.used h (j ▸ us)) cs 0 env (j ▸ us))) (λ a.
-        w_is ∙ below_lacks o p c e (frame_asked f) (λ k. []) (λ k. refl) cs (loop_setting o p c e f) 0 e refl (j ▸ us)
-        (made (Lacks o p c e) (by_parts (Lacks o p c e) (lacks_updated o p c e) (lacks_properties o p c e) (lacks_moved o p c e) (lacks_local o p c e))
-        (lacks_below o p c e (frame_asked f) (λ k. []) (λ k. refl) cs (loop_setting o p c e f) 0 e refl (i ▸ ts) (sym n_is ∙ a))))))
+        w_is ∙ below_lacks o tells.plainly c e (frame_asked f) (λ k. []) (λ k. refl) cs (loop_setting o tells.plainly c e f) 0 e refl (j ▸ us)
+        (made (Lacks o tells.plainly c e) (kinds.lacks o tells known c e)
+        (lacks_below o tells.plainly c e (frame_asked f) (λ k. []) (λ k. refl) cs (loop_setting o tells.plainly c e f) 0 e refl (i ▸ ts) (sym n_is ∙ a))))))
 
-    module _ (m s : ℕ) where
+    module _ (m s : ℕ) (known : Told (early m s)) where
       abbrev told : Bool
       told = is_among (by_symbol s) (headed f i)
 
@@ -313,7 +316,7 @@ module _ (f : Frame) (i j : Tree) (ts us : Trees) (same : headed f j ≡ headed 
               subst (λ x. AtMost x (pace (early m s) c env (loop_node f i ts))) (sym (w_says false z)) (subst (AtMost (said j us)) (sym (n_says false z))
               (less_by (said j us) (said i ts) (λ a.
               to_turn m s c e f j us (below_calm m s c e (frame_asked f) (λ k. []) (λ k. refl) (below false c (frame_shape f) 0) (loop_standing m s c e f) 0 e refl (j ▸ us)
-              (made (Calmly m s c e) (by_parts (Calmly m s c e) (calm_updated m s c e) (calm_properties m s c e) (calm_moved m s c e) (calm_local m s c e))
+              (made (Calmly m s c e) (kinds.calm m s known c e)
               (calm_below m s c e (frame_asked f) (λ k. []) (λ k. refl) (below false c (frame_shape f) 0) (loop_standing m s c e f) 0 e refl (i ▸ ts) (of_turn m s c e f i ts a)))))
               (turn_ended m s c e f i ts)))
           by true z (inr g) = absurd (true≢false (sym z ∙ ap (is_among (by_symbol s)) g))
@@ -326,28 +329,34 @@ module _ (f : Frame) (i j : Tree) (ts us : Trees) (same : headed f j ≡ headed 
 
   arguments : names_arguments (loop_node f j us) ≡ true → names_arguments (loop_node f i ts) ≡ true
   arguments e = frame_names f (i ▸ ts) ∙ never (any_names_arguments (is_of_function (frame_shape f)) 0 (i ▸ ts)) (any_names_arguments (is_of_function (frame_shape f)) 0 (j ▸ us)) (λ a.
-      below_spares (frame_asked f) (is_of_function (frame_shape f)) (frame_of_function f) 0 (j ▸ us) (made (λ d t. names_arguments t ≡ false) (by_parts (λ d t. names_arguments t ≡ false) (λ x e f. e) spares_properties (λ t e. (λ a. a, λ a. a)) spares_local) (spares_below (frame_asked f) (is_of_function (frame_shape f)) (frame_of_function f) 0 (i ▸ ts) a)))
+      below_spares (frame_asked f) (is_of_function (frame_shape f)) (frame_of_function f) 0 (j ▸ us) (made (λ d t. names_arguments t ≡ false) kinds.names (spares_below (frame_asked f) (is_of_function (frame_shape f)) (frame_of_function f) 0 (i ▸ ts) a)))
       (sym (frame_names f (j ▸ us)) ∙ e)
 
   numbers : (k : ℕ) → has_number k (loop_node f j us) ≡ true → has_number k (loop_node f i ts) ≡ true
   unfolding has_number
   numbers zero e = refl
   numbers (suc k) e = ap (λ b. b || any_has_number (suc k) (i ▸ ts)) (unlike k) ∙ never (any_has_number (suc k) (i ▸ ts)) (any_has_number (suc k) (j ▸ us)) (λ a.
-      below_numbers k (frame_asked f) 0 (j ▸ us) (made (λ d t. has_number (suc k) t ≡ false) (by_parts (λ d t. has_number (suc k) t ≡ false) (λ x e f. e) (numbers_properties k) (λ t e. (λ a. a, λ a. a)) (numbers_local k)) (numbers_below k (frame_asked f) 0 (i ▸ ts) a))) (sym (ap (λ b. b || any_has_number (suc k) (j ▸ us)) (unlike k)) ∙ e)
+      below_numbers k (frame_asked f) 0 (j ▸ us) (made (λ d t. has_number (suc k) t ≡ false) (kinds.numbers k) (numbers_below k (frame_asked f) 0 (i ▸ ts) a))) (sym (ap (λ b. b || any_has_number (suc k) (j ▸ us)) (unlike k)) ∙ e)
 
-module _ (q : StmtSeat) (n w : Tree) (f : Frame) (i j : Tree) (ts us : Trees) (a : n ≡ loop_node f i ts) (b : w ≡ loop_node f j us) (same : headed f j ≡ headed f i) (head : HeadStays f i ts j us) (made : (strict : Bool) (x : Slot) → fits strict x n ≡ true → LoopMade f i ts j us) where
+module _ (Told : Question → Type 0) (Kind : (Asked → Tree → Type 0) → Type 1) (kinds : FactProperties Told Kind) (q : StmtSeat) (n w : Tree) (f : Frame) (i j : Tree) (ts us : Trees) (a : n ≡ loop_node f i ts) (b : w ≡ loop_node f j us) (same : headed f j ≡ headed f i) (head : HeadStays f i ts j us) (made : (strict : Bool) (x : Slot) → fits strict x n ≡ true → LoopMadeBy Kind f i ts j us) where
   less_loop : (x : Question) (k : ℕ) → ((strict : Bool) (s : Slot) → fits strict s n ≡ true → (c : Setting) (env : Environment) → AtMost (pace x c env (loop_node f j us)) (pace x c env (loop_node f i ts))) → AsksLess x (Declared k) (Stmt q) n w
   less_loop x k g = record { by = λ strict s o fit c env st sc. inl (subst (λ t. AtMost (pace x c env t) (pace x c env n)) (sym b) (subst (λ t. AtMost (pace x c env (loop_node f j us)) (pace x c env t)) (sym a) (g strict s fit c env))) }
 
-  pub loop_less : LessAt (Stmt q) n w
-  loop_less = record {
-    asks = shows_all _ _ _ (λ g c k. by_fact (λ x. AsksLess x (Declared k) (Stmt q) n w) (λ o p z. less_loop (asks o) k (λ strict s fit c env. asked f i j ts us same head (made strict s fit) c env o p)) (λ m s. less_loop (early m s) k (λ strict s' fit c env. in_order f i j ts us same head (made strict s' fit) c env m s)) g c k);
+  pub loop_made_less : LessAt (Stmt q) n w
+  loop_made_less = record {
+    asks = shows_all _ _ _ (λ g c k. by_lists (λ x. Told x → AsksLess x (Declared k) (Stmt q) n w)
+        (λ o tells z known. less_loop (asks o) k (λ strict s fit c env. asked Told Kind kinds f i j ts us same head (made strict s fit) c env o tells known))
+        (λ m s known. less_loop (early m s) k (λ strict x fit c env. in_order Told Kind kinds f i j ts us same head (made strict x fit) c env m s known)) g c k (kinds.told g c k));
     fewer = λ strict s o fit. record {
-      eval = λ e. ap has_eval a ∙ frame_evals f (i ▸ ts) ∙ evals f i j ts us same head (made strict s fit) (sym (frame_evals f (j ▸ us)) ∙ sym (ap has_eval b) ∙ e);
+      eval = λ e. ap has_eval a ∙ frame_evals f (i ▸ ts) ∙ evals Told Kind kinds f i j ts us same head (made strict s fit) (sym (frame_evals f (j ▸ us)) ∙ sym (ap has_eval b) ∙ e);
       flags = record {
-        arguments = λ e. ap names_arguments a ∙ arguments f i j ts us same head (made strict s fit) (sym (ap names_arguments b) ∙ e);
-        number = λ k e. ap (has_number k) a ∙ numbers f i j ts us same head (made strict s fit) k (sym (ap (has_number k) b) ∙ e);
+        arguments = λ e. ap names_arguments a ∙ arguments Told Kind kinds f i j ts us same head (made strict s fit) (sym (ap names_arguments b) ∙ e);
+        number = λ k e. ap (has_number k) a ∙ numbers Told Kind kinds f i j ts us same head (made strict s fit) k (sym (ap (has_number k) b) ∙ e);
       };
       callee = λ e c. absurd (cc e);
     };
   }
+
+-- a loop of which what holds by parts passes on
+pub loop_less : (q : StmtSeat) (n w : Tree) (f : Frame) (i j : Tree) (ts us : Trees) → n ≡ loop_node f i ts → w ≡ loop_node f j us → headed f j ≡ headed f i → HeadStays f i ts j us → ((strict : Bool) (x : Slot) → fits strict x n ≡ true → LoopMadeBy ByParts f i ts j us) → LessAt (Stmt q) n w
+loop_less = loop_made_less (λ q. Unit {0}) ByParts plain_properties

@@ -1,4 +1,6 @@
--- What is made of an expression or a statement of which nothing is called that wasn't: whatever holds of trees by their parts holds of it, too. So it asks less.
+-- What is made of an expression or a statement of which nothing is called that wasn't: whatever
+-- holds of trees by their parts holds of it, too. So it asks less. A statement shows less also by
+-- properties that rest on more than parts.
 use Rattle.std.specs.Prelude.{ℕ, zero, suc, ◌≡◌, refl, Bool, true, false, ◌||◌, []}
 use Rattle.std.proofs.Common.{ap, ◌∙◌, sym, subst, inl, true≢false}
 use Rattle.mini_model.specs.declared.kind.PropertyKind.{PropertyKind}
@@ -21,22 +23,26 @@ use Rattle.mini_laws.specs.Value.{Declared}
 use Rattle.mini_kept.specs.KeepsNames.{is_read}
 use Rattle.mini_laws.specs.Resolved.{Environment}
 use Rattle.mini_laws.specs.Scopes.{opened}
-use Rattle.mini_shrink.specs.Pace.{AtMost, Setting, below, pace}
+use Rattle.mini_shrink.specs.Facts.{Fact, question}
+use Rattle.mini_shrink.specs.Pace.{Pace, Ends, Silent, Reads, AtMost, kept_in, Setting, Question, below, pace}
 use Rattle.mini_shrink.specs.Questions.{Own, asks, any_of, finds, finds_each, early}
-use Rattle.mini_shrink.specs.Shrinking.{AsksLess}
-use Rattle.mini_rows.specs.Sketches.{Head, AList, If, Block, Call, shape_by, Asked, AsValue, AsValues, AsWhole, AsTarget, AsUpdated, AsBranch, AsItem, asked_below, use_by, leaps, is_expression_head, is_statement_head}
+use Rattle.mini_shrink.specs.Shrinking.{AsksLess, ShowsLess}
+use Rattle.mini_shrink.proofs.Paces.{inside}
+use Rattle.mini_rows.specs.Sketches.{Head, AList, Empty, OfExpression, Throw, Return, If, Block, Call, shape_by, Asked, AsValue, AsValues, AsWhole, AsTarget, AsUpdated, AsBranch, AsItem, asked_below, use_by, leaps, is_expression_head, is_statement_head}
 use Rattle.mini_less.specs.Families.{LessAt}
 use Rattle.mini_less.specs.Flags.{FlagsLess}
 use Rattle.mini_less.specs.Less.{TellsPlainly, Plain}
+use Rattle.mini_less.specs.TellsLists.{TellsLists}
 use Rattle.mini_rows.proofs.Arranging.{Any, Below, Local}
-use Rattle.mini_rows.specs.Lists.{is_unscoped}
+use Rattle.mini_rows.specs.Lists.{is_unscoped_shape, is_unscoped}
 use Rattle.mini_rows.proofs.ArrangedValues.{is_value}
-use Rattle.mini_less.proofs.EachFact.{AloneToo, Unordered, unordered, by_value, by_fact, found_less}
+use Rattle.mini_less.proofs.EachFact.{AloneToo, Unordered, unordered, by_value, found_less}
 use Rattle.mini_less.proofs.Evals.{no_callee}
 use Rattle.mini_less.proofs.Finding.{Lacks, lacks_local, lacks_anyhow, as_asked, never, setting}
 use Rattle.mini_less.proofs.Flags.{none_of, leaping, spares_local, numbers_local, root_number}
-use Rattle.mini_less.proofs.Plainly.{alone, early_alone, read, is_ended, less_by, Calmly, calm_local, calm_anyhow, root_ended, standing}
-use Rattle.mini_less.proofs.Statements.{alone as anywhere}
+use Rattle.mini_less.proofs.Plainly.{alone, early_alone, read, is_reads, is_ended, less_by, Calmly, calm_local, calm_anyhow, root_ended, standing}
+use Rattle.mini_less.proofs.Ordered.{unscoped_anywhere}
+use Rattle.mini_less.proofs.TellingLists.{by_lists}
 use Rattle.mini_less.proofs.Shown.{shows_all}
 
 -- no call, of which more is asked than of its parts: a direct eval is one of the name `eval`
@@ -44,7 +50,8 @@ abbrev pub is_uncalled : Head → Bool
 is_uncalled (Call false) = false
 is_uncalled h = true
 
--- what holds of a name that is updated where it does of one that is assigned to and of one that is read
+-- what holds of a name that is updated where it does of one that is assigned to and of one that is
+-- read
 abbrev pub Updated : (Asked → Tree → Type 0) → Type 0
 Updated Q = (x : Name) → Q AsTarget (identifier x) → Q AsValue (identifier x) → Q AsUpdated (identifier x)
 
@@ -59,7 +66,8 @@ Properties Q = (k : PropertyKind) (m : Bool) → SameProperty Q k m Init false �
 abbrev pub Moved : (Asked → Tree → Type 0) → Type 0
 Moved Q = (t : Tree) → is_unscoped t ≡ true → (Q AsBranch t → Q AsItem t) × (Q AsItem t → Q AsBranch t)
 
--- what holds of such a node where it does of what is below, of a call where something more does of what is called, and of a name that is updated
+-- what holds of such a node where it does of what is below, of a call where something more does of
+-- what is called, and of a name that is updated
 pub record ByParts (Q : Asked → Tree → Type 0) : Type 1 where
   pub updated : Updated Q
   pub properties : Properties Q
@@ -157,15 +165,29 @@ pub calm_properties : (m s : ℕ) (c : Setting) (env : Environment) → Properti
 unfolding pace
 calm_properties m s c env k d = (λ e t b ts a. a, λ e t b ts a. a)
 
+-- ---- each of these properties holds by parts
+
+pub lacks_parts : (o : Own) (t : TellsPlainly o) (c : Setting) (env : Environment) → ByParts (Lacks o t c env)
+lacks_parts o t c env = by_parts (Lacks o t c env) (lacks_updated o t c env) (lacks_properties o t c env) (lacks_moved o t c env) (lacks_local o t c env)
+
+pub calm_parts : (m s : ℕ) (c : Setting) (env : Environment) → ByParts (Calmly m s c env)
+calm_parts m s c env = by_parts (Calmly m s c env) (calm_updated m s c env) (calm_properties m s c env) (calm_moved m s c env) (calm_local m s c env)
+
+pub names_parts : ByParts (λ d t. names_arguments t ≡ false)
+names_parts = by_parts (λ d t. names_arguments t ≡ false) (λ x e f. e) spares_properties (λ t e. (λ a. a, λ a. a)) spares_local
+
+pub numbers_parts : (b : ℕ) → ByParts (λ d t. has_number (suc b) t ≡ false)
+numbers_parts b = by_parts (λ d t. has_number (suc b) t ≡ false) (λ x e f. e) (numbers_properties b) (λ t e. (λ a. a, λ a. a)) (numbers_local b)
+
 -- ---- what a node tells besides names
 
 module _ (c : Asked) (n w : Tree) (root : has_number 0 n ≡ true) (made : (Q : Asked → Tree → Type 0) → ByParts Q → Q c n → Q c w) where
   pub flags_made : FlagsLess n w
-  flags_made = record { arguments = never (names_arguments n) (names_arguments w) (made (λ d t. names_arguments t ≡ false) (by_parts (λ d t. names_arguments t ≡ false) (λ x e f. e) spares_properties (λ t e. (λ a. a, λ a. a)) spares_local)); number = numbers }
+  flags_made = record { arguments = never (names_arguments n) (names_arguments w) (made (λ d t. names_arguments t ≡ false) names_parts); number = numbers }
     where
       numbers : (k : ℕ) → has_number k w ≡ true → has_number k n ≡ true
       numbers zero e = root
-      numbers (suc k) e = never (has_number (suc k) n) (has_number (suc k) w) (made (λ d t. has_number (suc k) t ≡ false) (by_parts (λ d t. has_number (suc k) t ≡ false) (λ x e f. e) (numbers_properties k) (λ t e. (λ a. a, λ a. a)) (numbers_local k))) e
+      numbers (suc k) e = never (has_number (suc k) n) (has_number (suc k) w) (made (λ d t. has_number (suc k) t ≡ false) (numbers_parts k)) e
 
   pub evals_made : has_eval w ≡ true → has_eval n ≡ true
   evals_made = never (has_eval n) (has_eval w) (made Spared spared_by_parts)
@@ -194,7 +216,7 @@ module _ (q : Seat) (n w : Tree) (h : Head) (ts : Trees) (e : is_expression_head
     by = λ strict x _ fit c env st _.
         let same : alone c ≡ setting o t (alone c) env AsValue = as_asked (alone c) (used c.used st) refl refl in
         let less : finds o (alone c) env n ≡ false → finds o (alone c) env w ≡ false = λ y.
-        subst (λ d. finds o d env w ≡ false) (sym same) (made strict x fit (Lacks o t (alone c) env) (by_parts (Lacks o t (alone c) env) (lacks_updated o t (alone c) env) (lacks_properties o t (alone c) env) (lacks_moved o t (alone c) env) (lacks_local o t (alone c) env)) (subst (λ d. finds o d env n ≡ false) same y)) in
+        subst (λ d. finds o d env w ≡ false) (sym same) (made strict x fit (Lacks o t (alone c) env) (lacks_parts o t (alone c) env) (subst (λ d. finds o d env n ≡ false) same y)) in
         inl (found_less o c env n w (never (finds o c env n) (finds o c env w) (λ y. z c env w (value strict x fit) ∙ less (sym (z c env n n_value) ∙ y))));
   }
 
@@ -205,7 +227,7 @@ module _ (q : Seat) (n w : Tree) (h : Head) (ts : Trees) (e : is_expression_head
         let n_is = early_alone m s c env n n_value ∙ ap (λ d. pace (early m s) d env n) same in
         let w_is = early_alone m s c env w (value strict x fit) ∙ ap (λ d. pace (early m s) d env w) same in
         inl (subst (λ x. AtMost x (pace (early m s) c env n)) (sym w_is) (subst (AtMost (pace (early m s) (standing m s c env AsValue) env w)) (sym n_is)
-        (less_by (pace (early m s) (standing m s c env AsValue) env w) (pace (early m s) (standing m s c env AsValue) env n) (made strict x fit (Calmly m s c env) (by_parts (Calmly m s c env) (calm_updated m s c env) (calm_properties m s c env) (calm_moved m s c env) (calm_local m s c env)))
+        (less_by (pace (early m s) (standing m s c env AsValue) env w) (pace (early m s) (standing m s c env AsValue) env n) (made strict x fit (Calmly m s c env) (calm_parts m s c env))
         (subst (λ t. is_ended (pace (early m s) (standing m s c env AsValue) env t) ≡ false) (sym a) (root_ended m s c env AsValue h ts p)))));
   }
 
@@ -220,29 +242,78 @@ module _ (q : Seat) (n w : Tree) (h : Head) (ts : Trees) (e : is_expression_head
 
 -- ---- a statement for a statement
 
-module _ (q : StmtSeat) (n w : Tree) (h g : Head) (ts us : Trees) (e : is_statement_head h ≡ true) (f : is_statement_head g ≡ true) (a : n ≡ node (shape_by h) [] 0 ts) (b : w ≡ node (shape_by g) [] 0 us) (p : Plain h ts) (made : (strict : Bool) (x : Slot) → fits strict x n ≡ true → (Q : Asked → Tree → Type 0) → ByParts Q → Q AsWhole n → Q AsWhole w) where
-  statement_asked : (k : ℕ) (o : Own) → TellsPlainly o → Unordered o → AsksLess (asks o) (Declared k) (Stmt q) n w
-  statement_asked k o t z = record {
+-- the properties in which facts are asked for, each of a kind, where what the kind rests on is told
+-- of the fact
+pub record FactProperties (Told : Question → Type 0) (Kind : (Asked → Tree → Type 0) → Type 1) : Type 1 where
+  pub told : (g : Fact) (b s : ℕ) → Told (question g b s)
+  pub lacks : (o : Own) (t : TellsLists o) → Told (asks o) → (c : Setting) (env : Environment) → Kind (Lacks o t.plainly c env)
+  pub calm : (m s : ℕ) → Told (early m s) → (c : Setting) (env : Environment) → Kind (Calmly m s c env)
+  pub spared : Kind Spared
+  pub names : Kind (λ d t. names_arguments t ≡ false)
+  pub numbers : (b : ℕ) → Kind (λ d t. has_number (suc b) t ≡ false)
+
+-- ends aside, what says a read only where another does says at most what that does
+pub kept_less : (p r : Pace) → (is_reads r ≡ false → is_reads p ≡ false) → AtMost (kept_in p) (kept_in r)
+kept_less Ends Ends f = tt
+kept_less Ends Silent f = tt
+kept_less Ends Reads f = tt
+kept_less Silent Ends f = tt
+kept_less Silent Silent f = tt
+kept_less Silent Reads f = tt
+kept_less Reads Ends f = absurd (true≢false (f refl))
+kept_less Reads Silent f = absurd (true≢false (f refl))
+kept_less Reads Reads f = tt
+
+module _ (Told : Question → Type 0) (Kind : (Asked → Tree → Type 0) → Type 1) (k : FactProperties Told Kind) (q : StmtSeat) (n w : Tree) (un : is_unscoped n ≡ true) (uw : is_unscoped w ≡ true) (root : has_number 0 n ≡ true) (callee : is_eval_callee w ≡ false) (made : (strict : Bool) (x : Slot) → fits strict x n ≡ true → (Q : Asked → Tree → Type 0) → Kind Q → Q AsWhole n → Q AsWhole w) where
+  unscoped_asked : (j : ℕ) (o : Own) → TellsLists o → Unordered o → Told (asks o) → ShowsLess (asks o) (Declared j) (Stmt q) n w
+  unscoped_asked j o t z told = record {
     by = λ strict x _ fit c env st _.
-        inl (found_less o c env n w (never (finds o c env n) (finds o c env w) (λ y.
-        unordered o z c false env w ∙ made strict x fit (Lacks o t c env) (by_parts (Lacks o t c env) (lacks_updated o t c env) (lacks_properties o t c env) (lacks_moved o t c env) (lacks_local o t c env)) (sym (unordered o z c false env n) ∙ y))));
+        inl (inside (pace (asks o) c env w) (pace (asks o) c env n) (found_less o c env n w (never (finds o c env n) (finds o c env w) (λ y.
+        unordered o z c false env w ∙ made strict x fit (Lacks o t.plainly c env) (k.lacks o t told c env) (sym (unordered o z c false env n) ∙ y)))));
   }
 
-  statement_in_order : (k m s : ℕ) → AsksLess (early m s) (Declared k) (Stmt q) n w
-  statement_in_order k m s = record {
+  unscoped_in_order : (j m s : ℕ) → Told (early m s) → ShowsLess (early m s) (Declared j) (Stmt q) n w
+  unscoped_in_order j m s told = record {
     by = λ strict x _ fit c env st _.
-        let n_is = ap (pace (early m s) c env) a ∙ anywhere m s c env h ts e ∙ sym (ap (pace (early m s) (record c { ordered = false }) env) a) in
-        let w_is = ap (pace (early m s) c env) b ∙ anywhere m s c env g us f ∙ sym (ap (pace (early m s) (record c { ordered = false }) env) b) in
-        inl (subst (λ x. AtMost x (pace (early m s) c env n)) (sym w_is) (subst (AtMost (pace (early m s) (record c { ordered = false }) env w)) (sym n_is)
-        (less_by (pace (early m s) (record c { ordered = false }) env w) (pace (early m s) (record c { ordered = false }) env n) (made strict x fit (Calmly m s c env) (by_parts (Calmly m s c env) (calm_updated m s c env) (calm_properties m s c env) (calm_moved m s c env) (calm_local m s c env)))
-        (subst (λ t. is_ended (pace (early m s) (record c { ordered = false }) env t) ≡ false) (sym a) (root_ended m s c env AsWhole h ts p)))));
+        inl (kept_less (pace (early m s) c env w) (pace (early m s) c env n) (λ y.
+        ap is_reads (unscoped_anywhere m s c c.ordered env w uw) ∙ made strict x fit (Calmly m s c env) (k.calm m s told c env) (sym (ap is_reads (unscoped_anywhere m s c c.ordered env n un)) ∙ y)));
   }
 
-  pub made_statement_less : LessAt (Stmt q) n w
-  made_statement_less = record {
-    asks = shows_all _ _ _ (λ x y k. by_fact (λ z. AsksLess z (Declared k) (Stmt q) n w) (statement_asked k) (statement_in_order k) x y k);
-    fewer = λ strict x o fit. record { eval = evals_made AsWhole n w zero_there (made strict x fit); flags = flags_made AsWhole n w zero_there (made strict x fit); callee = λ i c. absurd (true≢false (sym c ∙ ap is_eval_callee b ∙ no_callee g us)) };
+  unscoped_number : (strict : Bool) (x : Slot) → fits strict x n ≡ true → (b : ℕ) → has_number b w ≡ true → has_number b n ≡ true
+  unscoped_number strict x fit zero e = root
+  unscoped_number strict x fit (suc b) e = never (has_number (suc b) n) (has_number (suc b) w) (made strict x fit (λ d t. has_number (suc b) t ≡ false) (k.numbers b)) e
+
+  pub unscoped_less : LessAt (Stmt q) n w
+  unscoped_less = record {
+    asks = λ g b j. by_lists (λ z. Told z → ShowsLess z (Declared j) (Stmt q) n w) (λ o t z told. unscoped_asked j o t z told) (λ m s told. unscoped_in_order j m s told) g b j (k.told g b j);
+    fewer = λ strict x _ fit. record {
+      eval = never (has_eval n) (has_eval w) (made strict x fit Spared k.spared);
+      flags = record { arguments = never (names_arguments n) (names_arguments w) (made strict x fit (λ d t. names_arguments t ≡ false) k.names); number = unscoped_number strict x fit };
+      callee = λ i e. absurd (true≢false (sym e ∙ callee));
+    };
   }
-    where
-      zero_there : has_number 0 n ≡ true
-      zero_there = ap (has_number 0) a ∙ root_number h ts
+
+-- the kind of those that hold by parts
+pub plain_properties : FactProperties (λ q. Unit {0}) ByParts
+plain_properties = record {
+  told = λ g b s. tt;
+  lacks = λ o t k c env. lacks_parts o t.plainly c env;
+  calm = λ m s k c env. calm_parts m s c env;
+  spared = spared_by_parts;
+  names = names_parts;
+  numbers = numbers_parts;
+}
+
+head_unscoped : (h : Head) → is_statement_head h ≡ true → is_unscoped_shape (shape_by h) ≡ true
+head_unscoped AList e = absurd (cc e)
+head_unscoped Empty e = refl
+head_unscoped OfExpression e = refl
+head_unscoped Throw e = refl
+head_unscoped Return e = refl
+head_unscoped If e = refl
+head_unscoped Block e = refl
+head_unscoped h e = absurd (cc e)
+
+pub made_statement_less : (q : StmtSeat) (n w : Tree) (h g : Head) (ts us : Trees) → is_statement_head h ≡ true → is_statement_head g ≡ true → n ≡ node (shape_by h) [] 0 ts → w ≡ node (shape_by g) [] 0 us → Plain h ts → ((strict : Bool) (x : Slot) → fits strict x n ≡ true → (Q : Asked → Tree → Type 0) → ByParts Q → Q AsWhole n → Q AsWhole w) → LessAt (Stmt q) n w
+made_statement_less q n w h g ts us e f a b p made =
+    unscoped_less (λ q. Unit {0}) ByParts plain_properties q n w (ap is_unscoped a ∙ head_unscoped h e) (ap is_unscoped b ∙ head_unscoped g f) (ap (has_number 0) a ∙ root_number h ts) (ap is_eval_callee b ∙ no_callee g us) made

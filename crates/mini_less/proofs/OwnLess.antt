@@ -14,13 +14,13 @@ use Rattle.mini_shrink.specs.Facts.{ReadsLess}
 use Rattle.mini_rows.specs.OwnArrows.{OwnArrow, OwnCode}
 use Rattle.mini_rows.specs.OwnParts.{OwnPart}
 use Rattle.mini_rows.specs.OwnPrograms.{OwnProgram}
-use Rattle.mini_rows.specs.Steady.{OwnRows, OwnFunctionRow, OwnFunction, LexicalRows, SteadyRow}
+use Rattle.mini_rows.specs.Steady.{OwnRows, OwnFunctionRow, OwnFunction, SteadyRow}
 use Rattle.mini_rows.specs.PastBlocks.{PastBlocks}
 use Rattle.mini_rows.proofs.OwnLightens.{some_row}
 use Rattle.mini_rows.proofs.SteadyKept.{steady_own}
 use Rattle.mini_rows.proofs.SteadyLawful.{AnyRow}
 use Rattle.mini_less.specs.Families.{LessAt}
-use Rattle.mini_less.specs.Own.{OwnReadLess, SteadyReadsLess, LexicalReadsLess, PastBlocksReadLess}
+use Rattle.mini_less.specs.Own.{OwnReadLess, SteadyReadsLess, PastBlocksReadLess}
 use Rattle.mini_less.proofs.BodyThisLess.{body_rows_of_this_less}
 use Rattle.mini_less.proofs.LessRows.{reads_less_by}
 use Rattle.mini_less.proofs.Steps.{steps_less}
@@ -103,9 +103,6 @@ steady_less V p n w r = absurd r
 
 pub steady_reads_less : SteadyReadsLess
 steady_reads_less = own_less SteadyRow (λ V. (steady_own V).names) (λ V. (steady_own V).shapes) (λ V. reads_less_by (SteadyRow V) (steady_less V))
-
-pub lexical_reads_less : LexicalReadsLess
-lexical_reads_less = own_less LexicalRows
 
 pub past_blocks_read_less : PastBlocksReadLess
 past_blocks_read_less o = own_less (PastBlocks o)

@@ -105,12 +105,14 @@ module _ (sp : List ℕ) (k : ℕ) (K : VariableDeclarationKind) (first : Trees)
   abbrev wrote : VariableDeclarationKind → Trees
   wrote K = declared_left K first ▸ (put ▸ none)
 
-  pub head_stretched : HeadLess init head put → names_of declared.Bound put ≡ names_of declared.Bound head → any_names x first ≡ false → names x put ≡ false → (is_lexical K ≡ true → NamesThere x (read K) (wrote K)) → SameHead head put → Other x (names_of declared.Hoisted put) → Stretched sp k (read K) (wrote K)
+  -- of such statements, however that is shown
+  pub drops_stretched : ((q : Position) → is_statement_list q ≡ true → (a before after : Trees) → a ≡ append before (append (read K) after) → Stood q (listed a) → DropsLess x k (read K) (wrote K)) → names_of declared.Bound put ≡ names_of declared.Bound head → any_names x first ≡ false
+      → (is_lexical K ≡ true → NamesThere x (read K) (wrote K)) → SameHead head put → Other x (names_of declared.Hoisted put) → Stretched sp k (read K) (wrote K)
   unfolding names_of
-  head_stretched less bound earlier unnamed lexical same other =
+  drops_stretched drops bound earlier lexical same other =
       let lost = kind_lost sp k K read wrote lexical (head_vars x first init head put earlier other same) in
       record {
-        drops = λ q l a before after is s. once_drops sp k first init head put less K (λ e. first_plain q l a before K first (declarator (binding x) init ▸ none) (head ▸ none) after is s) earlier unnamed;
+        drops = drops;
         lexical = lost.0;
         hoisted = lost.1;
         bound = by K;
@@ -122,6 +124,10 @@ module _ (sp : List ℕ) (k : ℕ) (K : VariableDeclarationKind) (first : Trees)
 
       by : (K : VariableDeclarationKind) → all_names declared.Bound (wrote K) ≡ all_names declared.Bound (read K)
       by K = (λ j. left_bound K first j ++ (bound j ++ []))
+
+  pub head_stretched : HeadLess init head put → names_of declared.Bound put ≡ names_of declared.Bound head → any_names x first ≡ false → names x put ≡ false → (is_lexical K ≡ true → NamesThere x (read K) (wrote K)) → SameHead head put → Other x (names_of declared.Hoisted put) → Stretched sp k (read K) (wrote K)
+  head_stretched less bound earlier unnamed lexical same other =
+      drops_stretched (λ q l a before after is s. once_drops sp k first init head put less K (λ e. first_plain q l a before K first (declarator (binding x) init ▸ none) (head ▸ none) after is s) earlier unnamed) bound earlier lexical same other
 
 -- ---- the next declarator
 

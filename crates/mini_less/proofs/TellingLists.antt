@@ -58,11 +58,11 @@ map_names : (P R : Name → Type 0) → ((x : Name) → P x → R x) → (xs : L
 map_names P R f [] a = tt
 map_names P R f (x ∷ xs) a = (f x a.0, map_names P R f xs a.1)
 
-elsewhere_within : (c : ℕ) (a b : Around) → Within a b → is_elsewhere c a ≡ true → is_elsewhere c b ≡ true
+pub elsewhere_within : (c : ℕ) (a b : Around) → Within a b → is_elsewhere c a ≡ true → is_elsewhere c b ≡ true
 elsewhere_within c a b (inl q) e = ap (is_elsewhere c) q ∙ e
 elsewhere_within c a b (inr q) e = ap (λ z. z || not (nat_eq b.number c)) q
 
-both_true : (x y z : Bool) → (y ≡ true → z ≡ true) → (x && y) ≡ true → (x && z) ≡ true
+pub both_true : (x y z : Bool) → (y ≡ true → z ≡ true) → (x && y) ≡ true → (x && z) ≡ true
 both_true true y z f e = f e
 both_true false y z f e = e
 
@@ -345,19 +345,23 @@ seen_lists s = record {
 
 -- ---- each fact
 
+-- of one symbol
+pub by_lists_of : (k : ℕ) (P : Question → Type 0) → ((o : Own) → TellsLists o → Unordered o → P (asks o)) → ((b : ℕ) → P (early b k)) → (g : Fact) (b : ℕ) → P (question g b k)
+by_lists_of k P f r Written c = f _ (mentions_lists (is_write (by_symbol k)) (λ x a e f. e) (heads_write (by_symbol k)) (write_within (by_symbol k))) (λ c d env h xs n ts. refl)
+by_lists_of k P f r WrittenElsewhere c = f _ (mentions_lists (λ m. is_write (by_symbol k) m && is_elsewhere c m.around) (λ x a e f. e) (heads_elsewhere (by_symbol k) c) (write_elsewhere (by_symbol k) c)) (λ c d env h xs n ts. refl)
+by_lists_of k P f r Given c = f _ (sets_lists (is_write (by_symbol k)) (λ x a e f. e) (heads_write (by_symbol k)) (write_within (by_symbol k))) (λ c d env h xs n ts. refl)
+by_lists_of k P f r GivenElsewhere c = f _ (sets_lists (λ m. is_write (by_symbol k) m && is_elsewhere c m.around) (λ x a e f. e) (heads_elsewhere (by_symbol k) c) (write_elsewhere (by_symbol k) c)) (λ c d env h xs n ts. refl)
+by_lists_of k P f r MentionedElsewhere c = f _ (mentions_lists (λ m. same_variable (by_symbol k) m.name && is_elsewhere c m.around) (λ x a e f. e) (λ x a e. e) (λ x u a b w e. both_true (same_variable (by_symbol k) x) (is_elsewhere c a) (is_elsewhere c b) (elsewhere_within c a b w) e)) (λ c d env h xs n ts. refl)
+by_lists_of k P f r BoundElsewhere c = f _ (mentions_lists (λ m. same_variable (by_symbol k) m.name && m.binds && is_elsewhere c m.around) (λ x a e f. e) (λ x a e. e) (λ x u a b w e. both_true (same_variable (by_symbol k) x && true) (is_elsewhere c a) (is_elsewhere c b) (elsewhere_within c a b w) e)) (λ c d env h xs n ts. refl)
+by_lists_of k P f r IsLexical c = f _ (lexical_lists k) (λ c d env h xs n ts. refl)
+by_lists_of k P f r IsSwitched c = f _ (switched_lists k) (λ c d env h xs n ts. refl)
+by_lists_of k P f r InPattern c = f _ (patterned_lists k) (λ c d env h xs n ts. refl)
+by_lists_of k P f r GivenByPattern c = f _ (patterns_lists k) (λ c d env h xs n ts. refl)
+by_lists_of k P f r UnderCatch c = f _ (caught_lists k) (λ c d env h xs n ts. refl)
+by_lists_of k P f r ByArguments c = f _ (arguments_lists k) (λ c d env h xs n ts. refl)
+by_lists_of k P f r ByEval c = f _ (seen_lists k) (λ c d env h xs n ts. refl)
+by_lists_of k P f r AmongParameters c = f _ (params_lists c k) (λ c d env h xs n ts. refl)
+by_lists_of k P f r ReadEarly c = r c
+
 pub by_lists : (P : Question → Type 0) → ((o : Own) → TellsLists o → Unordered o → P (asks o)) → ((b k : ℕ) → P (early b k)) → (g : Fact) (b k : ℕ) → P (question g b k)
-by_lists P f r Written c k = f _ (mentions_lists (is_write (by_symbol k)) (λ x a e f. e) (heads_write (by_symbol k)) (write_within (by_symbol k))) (λ c d env h xs n ts. refl)
-by_lists P f r WrittenElsewhere c k = f _ (mentions_lists (λ m. is_write (by_symbol k) m && is_elsewhere c m.around) (λ x a e f. e) (heads_elsewhere (by_symbol k) c) (write_elsewhere (by_symbol k) c)) (λ c d env h xs n ts. refl)
-by_lists P f r Given c k = f _ (sets_lists (is_write (by_symbol k)) (λ x a e f. e) (heads_write (by_symbol k)) (write_within (by_symbol k))) (λ c d env h xs n ts. refl)
-by_lists P f r GivenElsewhere c k = f _ (sets_lists (λ m. is_write (by_symbol k) m && is_elsewhere c m.around) (λ x a e f. e) (heads_elsewhere (by_symbol k) c) (write_elsewhere (by_symbol k) c)) (λ c d env h xs n ts. refl)
-by_lists P f r MentionedElsewhere c k = f _ (mentions_lists (λ m. same_variable (by_symbol k) m.name && is_elsewhere c m.around) (λ x a e f. e) (λ x a e. e) (λ x u a b w e. both_true (same_variable (by_symbol k) x) (is_elsewhere c a) (is_elsewhere c b) (elsewhere_within c a b w) e)) (λ c d env h xs n ts. refl)
-by_lists P f r BoundElsewhere c k = f _ (mentions_lists (λ m. same_variable (by_symbol k) m.name && m.binds && is_elsewhere c m.around) (λ x a e f. e) (λ x a e. e) (λ x u a b w e. both_true (same_variable (by_symbol k) x && true) (is_elsewhere c a) (is_elsewhere c b) (elsewhere_within c a b w) e)) (λ c d env h xs n ts. refl)
-by_lists P f r IsLexical c k = f _ (lexical_lists k) (λ c d env h xs n ts. refl)
-by_lists P f r IsSwitched c k = f _ (switched_lists k) (λ c d env h xs n ts. refl)
-by_lists P f r InPattern c k = f _ (patterned_lists k) (λ c d env h xs n ts. refl)
-by_lists P f r GivenByPattern c k = f _ (patterns_lists k) (λ c d env h xs n ts. refl)
-by_lists P f r UnderCatch c k = f _ (caught_lists k) (λ c d env h xs n ts. refl)
-by_lists P f r ByArguments c k = f _ (arguments_lists k) (λ c d env h xs n ts. refl)
-by_lists P f r ByEval c k = f _ (seen_lists k) (λ c d env h xs n ts. refl)
-by_lists P f r AmongParameters c k = f _ (params_lists c k) (λ c d env h xs n ts. refl)
-by_lists P f r ReadEarly c k = r c k
+by_lists P f r g c k = by_lists_of k P f (λ c. r c k) g c

@@ -1,8 +1,10 @@
 -- All families of which each row asks less, as one.
-use Rattle.std.specs.Prelude.{◌⊎◌}
+use Rattle.std.specs.Prelude.{◌⊎◌, ◌<◌}
+use Rattle.std.proofs.Common.{inl, inr}
 use Rattle.mini_model.specs.declared.place.Position.{Position}
 use Rattle.mini_model.specs.Tree.{Tree}
-use Rattle.mini_laws.specs.Value.{VariableSet}
+use Rattle.mini_model.specs.Weight.{weight}
+use Rattle.mini_laws.specs.Value.{VariableSet, nothing}
 use Rattle.mini_model.specs.Redex.{Contracts}
 use Rattle.mini_rows.specs.Spellings.{SpellingContracts}
 use Rattle.mini_rows.specs.SpellKeys.{KeyContracts}
@@ -18,11 +20,19 @@ use Rattle.mini_rows.specs.Negations.{NegationContracts}
 use Rattle.mini_rows.specs.Templates.{TemplateContracts}
 use Rattle.mini_rows.specs.Writes.{WriteContracts}
 use Rattle.mini_rows.specs.Arrows.{ArrowContracts}
+use Rattle.mini_rows.specs.Branches.{BranchContracts}
 use Rattle.mini_rows.specs.Catches.{CatchContracts}
+use Rattle.mini_rows.specs.Lists.{ListContracts}
 use Rattle.mini_rows.specs.KeyHolders.{HeldKeyContracts}
+use Rattle.mini_rows.specs.Declarations.{DeclarationContracts}
+use Rattle.mini_rows.specs.Lets.{LetContracts}
+use Rattle.mini_rows.specs.LoopGuards.{LoopGuardContracts}
+use Rattle.mini_rows.specs.Redex.{Row}
+use Rattle.mini_rows.specs.Redex as rows
 use Rattle.mini_rows.specs.Names.{NameContracts}
 use Rattle.mini_rows.specs.Switches.{Switches}
-use Rattle.mini_less.specs.Families.{WholeFamiliesReadLess}
+use Rattle.mini_less.specs.Families.{WholeFamilies, WholeFamiliesReadLess}
+use Rattle.mini_less.specs.Rows.{RowsReadLess}
 use Rattle.mini_less.proofs.FirstRowsLess.{first_rows_read_less}
 use Rattle.mini_less.proofs.SpellingsLess.{spellings_read_less}
 use Rattle.mini_less.proofs.KeysLess.{keys_read_less}
@@ -40,11 +50,31 @@ use Rattle.mini_less.proofs.WritesLess.{writes_read_less}
 use Rattle.mini_less.proofs.ArrowsLess.{arrows_read_less}
 use Rattle.mini_less.proofs.DeclaredKeysLess.{held_keys_read_less}
 use Rattle.mini_less.proofs.NamesLess.{names_read_less, catches_read_less}
-use Rattle.mini_less.proofs.Joined.{reads_less_joins}
+use Rattle.mini_less.proofs.BranchesLess.{branches_read_less}
+use Rattle.mini_less.proofs.Lists.{lists_read_less}
+use Rattle.mini_less.proofs.DeclarationsLess.{declarations_read_less}
+use Rattle.mini_less.proofs.FadedLess.{lets_read_less}
+use Rattle.mini_less.proofs.LoopGuardsLess.{loop_guards_read_less}
+use Rattle.mini_less.proofs.Joined.{reads_less_joins, reads_less_narrows}
 
 module _ (o : Switches) (W : VariableSet) where
+  abbrev From21 : Position → Tree → Tree → Type 0
+  From21 p n w = LoopGuardContracts o p n w ⊎ LetContracts W p n w
+
+  abbrev From20 : Position → Tree → Tree → Type 0
+  From20 p n w = DeclarationContracts p n w ⊎ From21 p n w
+
+  abbrev From19 : Position → Tree → Tree → Type 0
+  From19 p n w = ListContracts o p n w ⊎ From20 p n w
+
+  abbrev From18 : Position → Tree → Tree → Type 0
+  From18 p n w = BranchContracts p n w ⊎ From19 p n w
+
+  abbrev From17 : Position → Tree → Tree → Type 0
+  From17 p n w = CatchContracts p n w ⊎ From18 p n w
+
   abbrev From16 : Position → Tree → Tree → Type 0
-  From16 p n w = NameContracts o p n w ⊎ CatchContracts p n w
+  From16 p n w = NameContracts o p n w ⊎ From17 p n w
 
   abbrev From15 : Position → Tree → Tree → Type 0
   From15 p n w = ArrowContracts p n w ⊎ From16 p n w
@@ -109,4 +139,40 @@ whole_families_read_less o W =
     (reads_less_joins (WriteContracts W) (From14 o W) (writes_read_less W)
     (reads_less_joins HeldKeyContracts (From15 o W) held_keys_read_less
     (reads_less_joins ArrowContracts (From16 o W) arrows_read_less
-    (reads_less_joins (NameContracts o) CatchContracts (names_read_less o) catches_read_less))))))))))))))))
+    (reads_less_joins (NameContracts o) (From17 o W) (names_read_less o)
+    (reads_less_joins CatchContracts (From18 o W) catches_read_less
+    (reads_less_joins BranchContracts (From19 o W) branches_read_less
+    (reads_less_joins (ListContracts o) (From20 o W) (lists_read_less o).1
+    (reads_less_joins DeclarationContracts (From21 o W) declarations_read_less
+    (reads_less_joins (LoopGuardContracts o) (LetContracts W) (loop_guards_read_less o) (lets_read_less W))))))))))))))))))))))
+
+-- ---- all rows that any program is rewritten by, but those of names
+
+-- which of the families has the row
+module _ (o : Switches) (p : Position) (n w : Tree) (lighter : weight p w < weight p n) where
+  abbrev Whole : Type 0
+  Whole = WholeFamilies o nothing p n w
+
+  families : Row o p n w → Whole
+  families (inl r) = inl (record { row = r; lighter = lighter })
+  families (inr (inl r)) = inr (inl (record { row = r; lighter = lighter }))
+  families (inr (inr (inl r))) = inr (inr (inr (inr (inr (inr (inr (inr (inr (inr (inr (inr (inr (inr (inr (inr (inr (inr (inl (record { row = r; lighter = lighter })))))))))))))))))))
+  families (inr (inr (inr (inl r)))) = inr (inr (inr (inr (inr (inr (inr (inr (inr (inr (inr (inr (inr (inr (inr (inr (inr (inr (inr (inl (record { row = r; lighter = lighter }))))))))))))))))))))
+  families (inr (inr (inr (inr (inl r))))) = inr (inr (inl (record { row = r; lighter = lighter })))
+  families (inr (inr (inr (inr (inr (inl r)))))) = inr (inr (inr (inl (record { row = r; lighter = lighter }))))
+  families (inr (inr (inr (inr (inr (inr (inl r))))))) = inr (inr (inr (inr (inr (inr (inr (inr (inr (inr (inr (inr (inr (inr (inr (inr (inr (inr (inr (inr (inl (record { row = r; lighter = lighter })))))))))))))))))))))
+  families (inr (inr (inr (inr (inr (inr (inr (inl r)))))))) = inr (inr (inr (inr (inl (record { row = r; lighter = lighter })))))
+  families (inr (inr (inr (inr (inr (inr (inr (inr (inl r))))))))) = inr (inr (inr (inr (inr (inl (record { row = r; lighter = lighter }))))))
+  families (inr (inr (inr (inr (inr (inr (inr (inr (inr (inl r)))))))))) = inr (inr (inr (inr (inr (inr (inr (inr (inr (inr (inr (inr (inr (inr (inr (inl (record { row = r; lighter = lighter }))))))))))))))))
+  families (inr (inr (inr (inr (inr (inr (inr (inr (inr (inr (inl r))))))))))) = inr (inr (inr (inr (inr (inr (inl (record { row = r; lighter = lighter })))))))
+  families (inr (inr (inr (inr (inr (inr (inr (inr (inr (inr (inr (inl r)))))))))))) = inr (inr (inr (inr (inr (inr (inr (inr (inr (inr (inr (inr (inr (inr (inl (record { row = r; lighter = lighter })))))))))))))))
+  families (inr (inr (inr (inr (inr (inr (inr (inr (inr (inr (inr (inr (inl r))))))))))))) = inr (inr (inr (inr (inr (inr (inr (inl (record { row = r; lighter = lighter }))))))))
+  families (inr (inr (inr (inr (inr (inr (inr (inr (inr (inr (inr (inr (inr (inl r)))))))))))))) = inr (inr (inr (inr (inr (inr (inr (inr (inl (record { row = r; lighter = lighter })))))))))
+  families (inr (inr (inr (inr (inr (inr (inr (inr (inr (inr (inr (inr (inr (inr (inl r))))))))))))))) = inr (inr (inr (inr (inr (inr (inr (inr (inr (inl (record { row = r; lighter = lighter }))))))))))
+  families (inr (inr (inr (inr (inr (inr (inr (inr (inr (inr (inr (inr (inr (inr (inr (inl r)))))))))))))))) = inr (inr (inr (inr (inr (inr (inr (inr (inr (inr (inl (record { row = r; lighter = lighter })))))))))))
+  families (inr (inr (inr (inr (inr (inr (inr (inr (inr (inr (inr (inr (inr (inr (inr (inr (inl r))))))))))))))))) = inr (inr (inr (inr (inr (inr (inr (inr (inr (inr (inr (inl (record { row = r; lighter = lighter }))))))))))))
+  families (inr (inr (inr (inr (inr (inr (inr (inr (inr (inr (inr (inr (inr (inr (inr (inr (inr (inl r)))))))))))))))))) = inr (inr (inr (inr (inr (inr (inr (inr (inr (inr (inr (inr (inl (record { row = r; lighter = lighter })))))))))))))
+  families (inr (inr (inr (inr (inr (inr (inr (inr (inr (inr (inr (inr (inr (inr (inr (inr (inr (inr r)))))))))))))))))) = inr (inr (inr (inr (inr (inr (inr (inr (inr (inr (inr (inr (inr (inr (inr (inr (inr (inr (inr (inr (inr (inl (record { row = r; lighter = lighter }))))))))))))))))))))))
+
+pub rows_read_less : RowsReadLess
+rows_read_less o = reads_less_narrows (rows.Contracts o) (WholeFamilies o nothing) (λ p n w r. families o p n w r.lighter r.row) (whole_families_read_less o nothing)

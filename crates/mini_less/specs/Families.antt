@@ -11,7 +11,7 @@ use Rattle.mini_model.specs.Position.{callee_seat}
 use Rattle.mini_laws.specs.ScopeList.{has_eval, is_eval_callee}
 use Rattle.mini_kept.specs.Placed.{is_statement_list, fits_place}
 use Rattle.mini_shrink.specs.Shrinking.{ShowsLess}
-use Rattle.mini_rows.specs.Lists.{Head, Return, Throw, If, return_statement, throw_statement, bare_return, Row67, Row77, Row78, AtEnd, Row66Empty, Row66Joined, Row73, Row73Bare, Row76, Row79, InList}
+use Rattle.mini_rows.specs.Lists.{Head, Return, Throw, If, return_statement, throw_statement, bare_return, Row67, Row77, Row78, AtEnd, Row66Empty, Row66Joined, Row73, Row73Bare, Row76, Row79, InList, ListContracts}
 use Rattle.mini_less.specs.Flags.{FlagsLess}
 use Rattle.mini_model.specs.Rewriting.{Reaches}
 use Rattle.mini_accept.specs.WellShaped.{Slot, fits, IsWellShaped}
@@ -30,12 +30,15 @@ use Rattle.mini_rows.specs.Members.{MemberRow}
 use Rattle.mini_kept.specs.Without.{Assured}
 use Rattle.mini_rows.specs.Still.{StillRow}
 use Rattle.mini_rows.specs.Turns.{TurnContracts}
-use Rattle.mini_rows.specs.Branches.{IfRow, Row60, Row79 as Row79InBody, Row78Whole, Row78Never}
+use Rattle.mini_rows.specs.Branches.{BranchContracts, IfRow, Row60, Row79 as Row79InBody, Row78Whole, Row78Never}
 use Rattle.mini_rows.specs.DeMorgan.{DeMorganContracts}
 use Rattle.mini_rows.specs.Folding.{FoldingContracts}
 use Rattle.mini_rows.specs.SpellKeys.{KeyContracts}
 use Rattle.mini_rows.specs.Writes.{WriteContracts}
 use Rattle.mini_rows.specs.Choices.{ChoiceContracts}
+use Rattle.mini_rows.specs.Declarations.{DeclarationContracts}
+use Rattle.mini_rows.specs.Lets.{LetContracts}
+use Rattle.mini_rows.specs.LoopGuards.{LoopGuardContracts}
 use Rattle.mini_rows.specs.Negations.{NegationContracts}
 use Rattle.mini_rows.specs.Booleans.{BooleanContracts}
 use Rattle.mini_rows.specs.Templates.{TemplateContracts}
@@ -182,7 +185,8 @@ abbrev pub WholeFamilies : Switches → VariableSet → Position → Tree → Tr
 WholeFamilies o W p n w =
     Contracts p n w ⊎ (SpellingContracts p n w ⊎ (KeyContracts p n w ⊎ (ChoiceContracts p n w ⊎ (FoldingContracts p n w ⊎ (TurnContracts p n w ⊎ (ConstantContracts p n w
     ⊎ (BooleanContracts p n w ⊎ (DeMorganContracts p n w ⊎ (SequenceContracts p n w ⊎ (OperandContracts p n w ⊎ (NegationContracts p n w ⊎ (TemplateContracts p n w ⊎ (WriteContracts W p n w
-    ⊎ (HeldKeyContracts p n w ⊎ (ArrowContracts p n w ⊎ (NameContracts o p n w ⊎ CatchContracts p n w))))))))))))))))
+    ⊎ (HeldKeyContracts p n w ⊎ (ArrowContracts p n w ⊎ (NameContracts o p n w ⊎ (CatchContracts p n w ⊎ (BranchContracts p n w ⊎ (ListContracts o p n w
+    ⊎ (DeclarationContracts p n w ⊎ (LoopGuardContracts o p n w ⊎ LetContracts W p n w)))))))))))))))))))))
 
 abbrev pub WholeFamiliesReadLess : Type 0
 WholeFamiliesReadLess = (o : Switches) (W : VariableSet) → ReadsLess (WholeFamilies o W)

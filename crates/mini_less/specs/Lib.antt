@@ -10,6 +10,11 @@ pub mod Own
 pub mod HeldKeys
 pub mod Arrows
 pub mod Names
+pub mod Declarations
+pub mod LoopGuards
+pub mod Lets
+pub mod Rows
 pub mod BodyEnds
+pub mod SwitchRows
 pub mod TellsLists
 pub mod Past

@@ -27,10 +27,10 @@ OwnRowsReadLess F = ((V : Assured) → KeepsNames (F V)) → ((V : Assured) → 
 abbrev pub SteadyReadsLess : Type 0
 SteadyReadsLess = OwnReadLess SteadyRow
 
--- those of blocks whose names are lexical, if the rows do
+-- rows of `switch` and `for` over blocks whose names are lexical
 abbrev pub LexicalReadsLess : Type 0
-LexicalReadsLess = OwnRowsReadLess LexicalRows
+LexicalReadsLess = OwnReadLess LexicalRows
 
--- and those of a declaration that is put where it is used, if the rows do
+-- rows of a declaration that is put where it is used, if these rows do
 abbrev pub PastBlocksReadLess : Type 0
 PastBlocksReadLess = (o : Switches) → OwnRowsReadLess (PastBlocks o)

@@ -1,6 +1,6 @@
 -- A `switch` of one case with a lexical name ends the declaration of that name at its own root.
 -- The block that is written for it ends it one level deeper. Neither end is seen around them.
-use Rattle.std.specs.Prelude.{◌≡◌, refl, pos, []}
+use Rattle.std.specs.Prelude.{◌≡◌, refl, []}
 use Rattle.std.proofs.Common.{inl}
 use Rattle.mini_model.specs.declared.kind.VariableDeclarationKind.TheVariants.{Let}
 use Rattle.mini_model.specs.declared.place.Position.TheVariants.{Stmt}

@@ -5,8 +5,13 @@
 ghost use Rattle.mini_less.specs.Families.{ConstantsReadLess, SequencesReadLess, TemplatesReadLess, BooleansReadLess, NegationsReadLess, ChoicesReadLess, WritesReadLess, KeysReadLess, FoldingsReadLess, DeMorganReadsLess, WholeFamiliesReadLess, IfRowsLess, BodyRowsLess, BodyRowsOfThisLess, FirstRowsReadLess, OperandsReadLess, SpellingsReadLess, ReadsLessJoins, ReadsLessNarrows, ListRowsLess, MoreRowsLess, TurnsReadLess, TurnsShrink};
 ghost use Rattle.mini_less.specs.Arrows.{ArrowsReadLess};
 ghost use Rattle.mini_less.specs.BodyEnds.{BodyEndsLess};
+ghost use Rattle.mini_less.specs.Declarations.{DeclarationsReadLess};
+ghost use Rattle.mini_less.specs.Lets.{LetsReadLess};
+ghost use Rattle.mini_less.specs.LoopGuards.{LoopGuardsReadLess};
+ghost use Rattle.mini_less.specs.Rows.{RowsReadLess};
 ghost use Rattle.mini_less.specs.HeldKeys.{HeldKeysReadLess};
 ghost use Rattle.mini_less.specs.Names.{NamesReadLess, CatchesReadLess};
+ghost use Rattle.mini_less.specs.SwitchRows.{BranchesReadLess, LexicalNamesReadLess, LexicalRowsLess, SwitchRowsLess};
 ghost use Rattle.mini_less.specs.Own.{SteadyReadsLess, LexicalReadsLess, PastBlocksReadLess};
 ghost use Rattle.mini_less.specs.ListFamilies.{HeadRowsLess, EnterRowsLess, ListsReadLess};
 ghost use Rattle.mini_less.specs.Past.{PastReadLess, PastInsideReadsLess};
@@ -134,9 +139,9 @@ pub fn body_rows_of_this_less()
     ensures { BodyRowsOfThisLess }
 {}
 
-/// Rows that rest on what is known of a body, in its own code: those of members and of `this` read
-/// less in a function, an arrow function, a program, a static block and an inner expression; so do
-/// those of lexical names and of declarations that are put where they are used, if the rows do.
+/// Rows that rest on what is known of a body, in its own code: those of members, of `this` and of
+/// lexical names read less in a function, an arrow function, a program, a static block and an inner
+/// expression; so do those of declarations that are put where they are used, if the rows do.
 pub fn own_rows_read_less()
     ensures steady { SteadyReadsLess }
     ensures lexical { LexicalReadsLess }
@@ -158,9 +163,45 @@ pub fn names_read_less()
     ensures { NamesReadLess }
 {}
 
+/// The row of a `let` without the value `undefined`: 61.
+pub fn declarations_read_less()
+    ensures { DeclarationsReadLess }
+{}
+
+/// The row of a guard in the body of a loop that goes on with the next turn: 75.
+pub fn loop_guards_read_less()
+    ensures { LoopGuardsReadLess }
+{}
+
+/// Rows of a `let` and an assignment after it, and of a lexical declaration that never runs: 70, 77.
+pub fn lets_read_less()
+    ensures { LetsReadLess }
+{}
+
+/// All rows by which any program is rewritten, whatever is known of its names.
+pub fn rows_read_less()
+    ensures { RowsReadLess }
+{}
+
 /// The row that drops what a `catch` catches where nothing mentions it: 63.
 pub fn catches_read_less()
     ensures { CatchesReadLess }
+{}
+
+/// Rows of a `switch` of one case, and of one over a value that is known: 80 and 81.
+pub fn switch_rows_less()
+    ensures { SwitchRowsLess }
+{}
+
+/// Rows of a `switch` of one case and of a `for` in whose blocks names are declared: 80 and 84.
+pub fn lexical_names_read_less()
+    ensures rows { LexicalRowsLess }
+    ensures family { LexicalNamesReadLess }
+{}
+
+/// All rows of branches: 60, 78 and 79 in branches and in bodies of loops, 80, 81, and 82 to 84.
+pub fn branches_read_less()
+    ensures { BranchesReadLess }
 {}
 
 /// Rows on the jump that ends a block which is the body of a loop: 78.

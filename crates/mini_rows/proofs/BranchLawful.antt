@@ -585,7 +585,7 @@ row_80 n w (inr (inr r)) = kind_along n _ w _ r.shape r.written (row_80_scoped r
 
 -- a `switch` over a value that is known: its cases
 
-abbrev AllFit : Bool → Choices → Type 0
+abbrev pub AllFit : Bool → Choices → Type 0
 AllFit strict no_choices = Unit {0}
 AllFit strict (choice t ss cs) = ((fits strict (one_or_absent an_expression) t ≡ true) × (fill strict (each statement) ss ≡ true)) × AllFit strict cs
 
@@ -639,11 +639,11 @@ test_quiet : (strict : Bool) (t : Tree) → fits strict (one_or_absent an_expres
 test_quiet strict (node shape.Absent xs n ts) e = refl
 test_quiet strict (node h xs n ts) e = expression_is_quiet strict (node h xs n ts) e
 
-all_quiet : (strict : Bool) (cs : Choices) → AllFit strict cs → AllQuiet cs
+pub all_quiet : (strict : Bool) (cs : Choices) → AllFit strict cs → AllQuiet cs
 all_quiet strict no_choices a = tt
 all_quiet strict (choice t ss cs) a = (test_quiet strict t a.0.0, all_quiet strict cs a.1)
 
-over_fits : (strict : Bool) (d : Tree) (cs : Choices) → fits strict statement (switch d (listed (cases_of cs))) ≡ true → (fits strict expression d ≡ true) × AllFit strict cs
+pub over_fits : (strict : Bool) (d : Tree) (cs : Choices) → fits strict statement (switch d (listed (cases_of cs))) ≡ true → (fits strict expression d ≡ true) × AllFit strict cs
 over_fits strict d cs e =
     let (value, list) = and_parts (fits strict expression d) (fits strict (many a_case) (listed (cases_of cs)) && true) e in
     (value, cases_fit strict cs (left (fits strict (many a_case) (listed (cases_of cs))) true list))

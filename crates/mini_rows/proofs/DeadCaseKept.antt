@@ -255,7 +255,7 @@ body_cases : (cs : Choices) → AllQuiet cs → all_as_body false (cases_of cs) 
 body_cases no_choices q = refl
 body_cases (choice t ss cs) (q, qs) = λ k. (after_test (as_body false t) (quiet_declares t q) (all_as_body false ss) ∙ body_statements ss) k ++ body_cases cs qs k
 
-lexical_cases : (cs : Choices) → AllQuiet cs → are_loose cs ≡ true → all_names declared.Lexical (cases_of cs) ≡ []
+pub lexical_cases : (cs : Choices) → AllQuiet cs → are_loose cs ≡ true → all_names declared.Lexical (cases_of cs) ≡ []
 unfolding names_of
 lexical_cases no_choices q u = refl
 lexical_cases (choice t ss cs) (q, qs) u =

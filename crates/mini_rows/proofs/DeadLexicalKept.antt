@@ -137,7 +137,7 @@ module _ (m : Asked → Tree → ℕ) (l : Summed m) (k : VariableDeclarationKin
   list_sum : (xs : List Name) → m AsWholeList (listed (declarators k xs)) ≡ 0
   list_sum xs = l AList AsWholeList (declarators k xs) tt ∙ sum_items m l AsWholeItem 0 (declarators k xs) ∙ each_sum xs
 
-names_given : (k : VariableDeclarationKind) (xs : List Name) → all_names declared.Bound (declarators k xs) ≡ xs
+pub names_given : (k : VariableDeclarationKind) (xs : List Name) → all_names declared.Bound (declarators k xs) ≡ xs
 unfolding names_of
 names_given k [] = refl
 names_given k (x ∷ xs) = ap (λ r. x ∷ r) (names_given k xs)

@@ -150,7 +150,7 @@ pub left_leaves : (x : Name) (K : VariableDeclarationKind) (d : Tree) (ts : Tree
 left_leaves x K d none l = no_statement_leaves x (d ▸ none) l
 left_leaves x K d (t ▸ ts) l = l
 
-left_names : (x : Name) (K : VariableDeclarationKind) (d : Tree) (ts : Trees) → NamesThere x (d ▸ none) (declared_left K ts ▸ none) → NamesThere x (d ▸ none) (head_left K ts ▸ none)
+pub left_names : (x : Name) (K : VariableDeclarationKind) (d : Tree) (ts : Trees) → NamesThere x (d ▸ none) (declared_left K ts ▸ none) → NamesThere x (d ▸ none) (head_left K ts ▸ none)
 left_names x K d none n = no_statement_names x (d ▸ none) n
 left_names x K d (t ▸ ts) n = n
 

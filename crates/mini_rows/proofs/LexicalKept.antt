@@ -44,7 +44,7 @@ use Rattle.mini_rows.proofs.UnusedNames.{unmentioned}
 
 -- ---- a test in which no name of the block stands has its names without that scope
 
-with_pass : (P : Name → Bool) (seen xs : List Name) → all_pass P seen ≡ true → all_pass P xs ≡ true → all_pass P (with_names seen xs) ≡ true
+pub with_pass : (P : Name → Bool) (seen xs : List Name) → all_pass P seen ≡ true → all_pass P xs ≡ true → all_pass P (with_names seen xs) ≡ true
 unfolding with_names
 with_pass P seen [] a b = a
 with_pass P seen (x ∷ xs) a b = let (first, rest) = and_parts (P x) (all_pass P xs) b in with_pass P (with_name seen x) xs (by (is_spelled x.spelling seen) first) rest

@@ -85,9 +85,9 @@ module _ (f : Free) (ps : Parts) (u : AreLoose ps f) (g : AllVanish ps.trees f.d
 
 -- ---- what a block keeps, by whether it fits
 
-record Turned (n w : Tree) : Type 0 where
-  inside : (strict : Bool) → fits strict (statement nested) n ≡ true → Inside n w
-  said : Said n w
+pub record Turned (n w : Tree) : Type 0 where
+  pub inside : (strict : Bool) → fits strict (statement nested) n ≡ true → Inside n w
+  pub said : Said n w
 
 turned_along : (n n' w w' : Tree) → n ≡ n' → w ≡ w' → Turned n' w' → Turned n w
 turned_along n n' w w' e f t = subst (λ x. Turned x w) (sym e) (subst (λ y. Turned n' y) (sym f) t)
@@ -159,7 +159,7 @@ row_75_block_turned before body rest test l h =
     (branch_fits before rest test (block (append body (bare_continue ▸ none))) (block body) (λ strict e. block_fits strict body (both_fit strict (statement nested) body (bare_continue ▸ none) (of_block strict nested (append body (bare_continue ▸ none)) e)).0))
     (block_turned before body rest test l h)
 
-turned : (before a b : Trees) → TurnsGuard a b → Turned (block (append before a)) (block (append before b))
+pub turned : (before a b : Trees) → TurnsGuard a b → Turned (block (append before a)) (block (append before b))
 turned before a b (inl r) =
     turned_along _ _ _ _ (ap (λ ts. block (append before ts)) r.shape) (ap (λ ts. block (append before ts)) r.written) (row_75_turned before r.rest r.test r.unscoped)
 turned before a b (inr r) =
@@ -177,7 +177,7 @@ body_fits strict before a b r e =
     block_fits strict (append before b) (append_fits strict (statement nested) before b x (turned_fit strict a b r y))
 
 -- the body of a loop that fits
-in_loop : (strict : Bool) (k : Surrounding) (x : Tree) → is_loop k ≡ true → fits strict (statement nested) (around k x) ≡ true → fits strict (statement nested) x ≡ true
+pub in_loop : (strict : Bool) (k : Surrounding) (x : Tree) → is_loop k ≡ true → fits strict (statement nested) (around k x) ≡ true → fits strict (statement nested) x ≡ true
 in_loop strict (Consequent a u) x h e = absurd (true≢false (sym h))
 in_loop strict (Alternate a s) x h e = absurd (true≢false (sym h))
 in_loop strict (WhileBody a) x h e = left (fits strict (statement nested) x) true (right (fits strict expression a) (fits strict (statement nested) x && true) e)

@@ -17,3 +17,7 @@ pub mod PortSteps
 pub mod Tops
 pub mod Within
 pub mod Exact
+pub mod Spelled
+pub mod Debts
+pub mod Silence
+pub mod Provided
