@@ -56,7 +56,7 @@ and_true : (b : Bool) → (b && true) ≡ b
 and_true true = refl
 and_true false = refl
 
-same_belongs : (c : Setting) → with_belongs c ≡ c
+pub same_belongs : (c : Setting) → with_belongs c ≡ c
 same_belongs c = λ i. record c { belongs = and_true c.belongs i }
 
 -- unscoped statements, one for the other

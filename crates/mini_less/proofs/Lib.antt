@@ -91,3 +91,5 @@ pub mod PastLess
 pub mod InsideWays
 pub mod InsideOnes
 pub mod InsideLess
+pub mod NextHeads
+pub mod PastBlocksLess

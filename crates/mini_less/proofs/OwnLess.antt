@@ -103,6 +103,3 @@ steady_less V p n w r = absurd r
 
 pub steady_reads_less : SteadyReadsLess
 steady_reads_less = own_less SteadyRow (λ V. (steady_own V).names) (λ V. (steady_own V).shapes) (λ V. reads_less_by (SteadyRow V) (steady_less V))
-
-pub past_blocks_read_less : PastBlocksReadLess
-past_blocks_read_less o = own_less (PastBlocks o)

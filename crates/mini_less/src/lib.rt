@@ -140,8 +140,8 @@ pub fn body_rows_of_this_less()
 {}
 
 /// Rows that rest on what is known of a body, in its own code: those of members, of `this` and of
-/// lexical names read less in a function, an arrow function, a program, a static block and an inner
-/// expression; so do those of declarations that are put where they are used, if the rows do.
+/// lexical names, and of declarations that are put where they are used, read less in a function, an
+/// arrow function, a program, a static block and an inner expression.
 pub fn own_rows_read_less()
     ensures steady { SteadyReadsLess }
     ensures lexical { LexicalReadsLess }
