@@ -69,7 +69,6 @@ pub mod ForHeadLess
 pub mod ClosedTold
 pub mod PutTold
 pub mod SwitchHolds
-pub mod NextHeadLess
 pub mod RowsUnused
 pub mod UnusedLess
 pub mod BodyEndsLess
@@ -91,3 +90,7 @@ pub mod RowsOnce
 pub mod OnceNext
 pub mod PastLess
 pub mod InsideWays
+pub mod InsideOnes
+pub mod InsideLess
+pub mod NextHeads
+pub mod PastBlocksLess

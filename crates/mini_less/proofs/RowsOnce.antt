@@ -24,7 +24,9 @@ use Rattle.mini_rows.proofs.InsideNames.{Losing, SameHead, VarThere, head_vars, 
 use Rattle.mini_rows.proofs.HeadKept.{head_names}
 use Rattle.mini_rows.proofs.HeadMeaning.{head_unnamed}
 use Rattle.mini_rows.proofs.NextKept.{next_names}
-use Rattle.mini_rows.proofs.PastInsideKept.{of_behind}
+use Rattle.mini_rows.proofs.PastInsideKept.{of_behind, one_next}
+use Rattle.mini_rows.proofs.PastHeadKept.{no_second}
+use Rattle.mini_rows.specs.PastInside.{passes_var}
 use Rattle.mini_rows.proofs.PastStretches.{behind, of_head, of_next}
 use Rattle.mini_rows.proofs.UnusedMeaning.{movable}
 use Rattle.mini_rows.specs.Past.{PastRow, are_past_by_value, held}
@@ -186,3 +188,24 @@ past_unseen V W o a b (inr r) = r.unseen
 
 pub past_list : (V : Assured) (W : Liberties) (o : Tree) (a b : Trees) (r : PastRow V W o a b) → ListLess a b (of_behind V W.writable o a b (behind V W o a b r))
 past_list V W o a b r = in_list a b (of_behind V W.writable o a b (behind V W o a b r)) (past_stretched V W o a b r)
+
+-- of a `var`, wherever it stands
+pub past_var_drops : (V : Assured) (W : Liberties) (o : Tree) (a b : Trees) (r : PastRow V W o a b) → passes_var r ≡ true → let t = behind V W o a b r in DropsLess (resolved t.spelling t.symbol) t.symbol t.d t.w
+unfolding behind of_head of_next
+past_var_drops V W o a b (inl r) v =
+    let x = resolved r.spelling r.symbol in
+    let plain = movable W.switches r.init r.moves in
+    let H = held V a r.before (is_lexical r.kind) r.first in
+    let (less, bound) = head_less x r.init r.head plain r.once (past_suits H x OfValues r.init (evaluated r.head) (and_parts (are_past_by_value H x r.init (evaluated r.head)) (fits_in r.init (evaluated r.head)) r.passed).0) in
+    once_drops r.spelling r.symbol r.first r.init r.head (put_first x r.init r.head) less r.kind (λ e. absurd (true≢false (sym v ∙ ap not e))) r.declared_earlier (head_unnamed x r.head r.once r.init r.initial)
+past_var_drops V W o a b (inr r) v =
+    let x = resolved r.spelling r.symbol in
+    let plain = movable W.switches r.init r.moves in
+    let H = held V a r.before (is_lexical r.kind) r.first in
+    next_drops r.spelling r.symbol r.first r.init r.binds r.value r.last r.once plain (past_suits H x OfValues r.init r.value (and_parts (are_past_by_value H x r.init r.value) (fits_in r.init r.value) r.passed).0) r.kind r.declared_earlier r.other (put_unnamed x r.value r.once r.init r.initial) r.declared_later
+
+-- of one that stands alone
+pub past_one_suits : (V : Assured) (W : Liberties) (q n w : Tree) (r : PastRow V W q (n ▸ none) (w ▸ none)) (v : passes_var r ≡ true) → let t = one_next V W q n w r v in suits_all (resolved t.spelling t.symbol) t.next.init t.next.value ≡ true
+unfolding one_next
+past_one_suits V W q n w (inl r) v = absurd (no_second r.before r.after _ r.head n r.shape)
+past_one_suits V W q n w (inr r) v = let H = held V (n ▸ none) r.before (is_lexical r.kind) r.first in past_suits H (resolved r.spelling r.symbol) OfValues r.init r.value (and_parts (are_past_by_value H (resolved r.spelling r.symbol) r.init r.value) (fits_in r.init r.value) r.passed).0

@@ -149,7 +149,7 @@ module _ (o : Switches) where
   -- ---- in a case of a `switch`
 
   -- no direct eval stands in the `switch`, since none stands around the statements, nor in them
-  switch_unseen : (d : Tree) (first : Trees) (test : Tree) (last a : Trees) → has_eval (switch_around d first test last) ≡ false → any_has_eval a ≡ false → has_eval (switch d (listed (append first (switch_case test a ▸ last)))) ≡ false
+  pub switch_unseen : (d : Tree) (first : Trees) (test : Tree) (last a : Trees) → has_eval (switch_around d first test last) ≡ false → any_has_eval a ≡ false → has_eval (switch d (listed (append first (switch_case test a ▸ last)))) ≡ false
   unfolding has_eval
   switch_unseen d first test last a e f =
       let emptied = node shape.SwitchCase [] 0 (test ▸ (absent ▸ none)) in

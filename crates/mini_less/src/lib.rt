@@ -15,7 +15,7 @@ ghost use Rattle.mini_less.specs.Names.{NamesReadLess, CatchesReadLess};
 ghost use Rattle.mini_less.specs.SwitchRows.{BranchesReadLess, LexicalNamesReadLess, LexicalRowsLess, SwitchRowsLess};
 ghost use Rattle.mini_less.specs.Own.{SteadyReadsLess, LexicalReadsLess, PastBlocksReadLess};
 ghost use Rattle.mini_less.specs.ListFamilies.{HeadRowsLess, EnterRowsLess, ListsReadLess};
-ghost use Rattle.mini_less.specs.Past.{PastReadLess};
+ghost use Rattle.mini_less.specs.Past.{PastReadLess, PastInsideReadsLess};
 ghost use Rattle.mini_less.specs.Rebuilt.{ListsAskLess, StatementsAskLess};
 
 use mini_laws::Rewrites;
@@ -141,8 +141,8 @@ pub fn body_rows_of_this_less()
 {}
 
 /// Rows that rest on what is known of a body, in its own code: those of members, of `this` and of
-/// lexical names read less in a function, an arrow function, a program, a static block and an inner
-/// expression; so do those of declarations that are put where they are used, if the rows do.
+/// lexical names, and of declarations that are put where they are used, read less in a function, an
+/// arrow function, a program, a static block and an inner expression.
 pub fn own_rows_read_less()
     ensures steady { SteadyReadsLess }
     ensures lexical { LexicalReadsLess }
@@ -241,4 +241,9 @@ pub fn lists_read_less()
 /// statements of a function, of an arrow function, of a module and of a static block.
 pub fn past_read_less()
     ensures { PastReadLess }
+{}
+
+/// The row of such a `var` that stands further inside the body that it belongs to.
+pub fn past_inside_reads_less()
+    ensures { PastInsideReadsLess }
 {}
