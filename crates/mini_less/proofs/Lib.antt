@@ -93,3 +93,4 @@ pub mod InsideOnes
 pub mod InsideLess
 pub mod NextHeads
 pub mod PastBlocksLess
+pub mod InsideUnused

@@ -18,3 +18,4 @@ pub mod BodyEnds
 pub mod SwitchRows
 pub mod TellsLists
 pub mod Past
+pub mod Inside
