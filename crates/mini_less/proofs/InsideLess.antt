@@ -104,7 +104,7 @@ way_less o first place last z read put there t d e told p n w f g =
 
 -- ---- past names that keep their value
 
-weaker : (sp : List ℕ) (k : ℕ) (n w : Tree) → WroteIn sp k is_statement_use n w → WroteIn sp k is_read n w
+pub weaker : (sp : List ℕ) (k : ℕ) (n w : Tree) → WroteIn sp k is_statement_use n w → WroteIn sp k is_read n w
 weaker sp k n w z = record { said = λ g b s e c u env. z.said g b s e c (by c.used u) env; unnamed = z.unnamed; evals = z.evals; arguments = z.arguments; numbers = z.numbers; bound = z.bound; lexical = z.lexical; hoisted = z.hoisted }
   where
     by : (v : Use) → is_read v ≡ true → is_statement_use v ≡ true

@@ -94,3 +94,4 @@ pub mod InsideOnes
 pub mod InsideLess
 pub mod NextHeads
 pub mod PastBlocksLess
+pub mod InsideUnused

@@ -19,3 +19,4 @@ pub mod BodyEnds
 pub mod SwitchRows
 pub mod TellsLists
 pub mod Past
+pub mod Inside

@@ -15,6 +15,7 @@ ghost use Rattle.mini_less.specs.Names.{NamesReadLess, CatchesReadLess};
 ghost use Rattle.mini_less.specs.SwitchRows.{BranchesReadLess, LexicalNamesReadLess, LexicalRowsLess, SwitchRowsLess};
 ghost use Rattle.mini_less.specs.Own.{SteadyReadsLess, LexicalReadsLess, PastBlocksReadLess};
 ghost use Rattle.mini_less.specs.ListFamilies.{HeadRowsLess, EnterRowsLess, ListsReadLess};
+ghost use Rattle.mini_less.specs.Inside.{InsideReadsLess};
 ghost use Rattle.mini_less.specs.Past.{PastReadLess, PastInsideReadsLess};
 ghost use Rattle.mini_less.specs.Rebuilt.{ListsAskLess, StatementsAskLess};
 
@@ -246,4 +247,10 @@ pub fn past_read_less()
 /// The row of such a `var` that stands further inside the body that it belongs to.
 pub fn past_inside_reads_less()
     ensures { PastInsideReadsLess }
+{}
+
+/// Rows of a `var` further inside the body that it belongs to, which nothing mentions, or which is
+/// read once: 71, 72.
+pub fn inside_reads_less()
+    ensures { InsideReadsLess }
 {}
