@@ -20,7 +20,6 @@ use Rattle.mini_model.specs.declared.place.Position.TheVariants.{Stmt}
 use Rattle.mini_rows.specs.Branches.{Alternate, BodyRow, BranchRow, Consequent, DoBody, Ending, ForBody, IfRow, InBody, IsEmpty, IsFalse, IsIdleVoid, OfBody, Row60, Row78, Row78Block, Row78Do, Row78Never, Row78Once, Row78Whole, Row79, Row82Empty, Row82EmptyAnd, Row82EmptyOr, Row82Ends, Row82EndsAnd, Row82EndsOr, Row83, Row83Alone, Row83Block, Row83Else, Row83Nested, StatementRow, Surrounding, SwitchRow, WhileBody, after, around, bare_continue, conjunct_seat, has_else, is_loop, keeps_block, not_of_all, with_not, without_not}
 use Rattle.mini_rows.specs.Lists.{block}
 use Rattle.mini_rows.specs.Loops.{bare_break}
-use Rattle.mini_rows.specs.Spellings.{update}
 use Rattle.mini_terms.specs.Calculated.{operand_depth}
 use Rattle.std.proofs.Common.{ap, inl, inr}
 use Rattle.std.specs.Prelude.{false, refl, true, ◌≡◌}

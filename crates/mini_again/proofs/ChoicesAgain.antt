@@ -347,7 +347,7 @@ row13_both_again ρ n w r = record {
   written = ap (again ρ) r.written;
 }
 
-pub zero_row_again : (ρ : Renaming) (asked : Bool) (n w : Tree) → ZeroRow asked n w → ZeroRow asked (again ρ n) (again ρ w)
+unfoldable pub zero_row_again : (ρ : Renaming) (asked : Bool) (n w : Tree) → ZeroRow asked n w → ZeroRow asked (again ρ n) (again ρ w)
 zero_row_again ρ asked n w r = record {
   idle = again ρ r.idle;
   last = again ρ r.last;

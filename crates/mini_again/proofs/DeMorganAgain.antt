@@ -10,9 +10,9 @@ use Rattle.mini_model.specs.Tree.{Tree, Trees, logical, none, ◌▸◌}
 use Rattle.mini_model.specs.declared.place.Position.{Position}
 use Rattle.mini_model.specs.declared.place.Position.TheVariants.{Expr, Stmt}
 use Rattle.mini_rows.specs.DeMorgan.{Alone, Begins, DeMorganRow, Row50, Row50Part, Turns, VoidPlace, ended, turned_logical, void_of}
-use Rattle.mini_rows.specs.Spellings.{update}
 use Rattle.std.proofs.Common.{ap}
 use Rattle.std.specs.Prelude.{refl, ◌≡◌}
+use Rattle.mini_model.specs.declared.shape.Shape.TheVariants as shape
 
 abbrev pub again_void_place : Renaming → VoidPlace → VoidPlace
 again_void_place ρ Alone = Alone

@@ -14,6 +14,8 @@ use Rattle.mini_rows.specs.DeadCases.{known}
 use Rattle.mini_rows.specs.Lets.{LetContracts, LetRow, LetsRow, Row70Let}
 use Rattle.mini_rows.specs.Lists.{assigned, binding, declarator, resolved}
 use Rattle.std.proofs.Common.{ap, inl, inr}
+use Rattle.std.specs.Prelude.{◌≡◌}
+use Rattle.mini_model.specs.declared.shape.Shape.TheVariants as shape
 
 pub row70_let_again : (ρ : Renaming) (W : VariableSet) (a b : Trees) → Row70Let (with_others_in ρ W) a b → Row70Let W (all_again ρ a) (all_again ρ b)
 row70_let_again ρ W a b r = record {

@@ -18,9 +18,7 @@ use Rattle.mini_model.specs.declared.place.Position.{Position}
 use Rattle.mini_model.specs.declared.place.Position.TheVariants.{BodyList, StatementList, Stmt}
 use Rattle.mini_model.specs.declared.shape.Shape.{Shape}
 use Rattle.mini_rows.specs.Lists.{Alone, AsReturn, AsStatement, AsThrow, Before, Beginning, Breaks, Continues, Declaring, Each, EachIn, EachOf, EndRow, EntersRow, For, Going, GuardsRow, Head, Heading, Holder, If, Init, JoinRow, Leap, ListRow, LoopRow, Looping, NeighbourRow, Return, Row66Empty, Row66Joined, Row67, Row67Absent, Row67In, Row68, Row68Free, Row68Init, Row69, Row70, Row73, Row73Bare, Row74, Row75, Row75Block, Row76, Row77, Row77Leap, Row77Unreached, Row78, Row79, Saying, SequencesRow, Statement, StretchRow, Switch, Throw, all_bind, all_enclose, alternate_of, are_bare_declarators, are_parts, are_terminated, are_unscoped, assigned, bare_declarators, bare_return, bare_var, begins_well, begun, begun_without, binding, binds, declarator, declared_bare, declares_nothing, each_loop, encloses, encloses_by, first_binds, first_declares_nothing, holding, holds, holds_well, is_terminated, leap, left_behind, of_parts, resolved, return_statement, says, sequence, throw_statement, void_zero, with_head}
-use Rattle.mini_rows.specs.Spellings.{update}
 use Rattle.mini_rows.specs.Switches.{Switches}
-use Rattle.mini_terms.specs.Kind.{kind}
 use Rattle.std.proofs.Common.{ap, inl, inr}
 use Rattle.std.specs.Prelude.{Bool, List, [], false, map, refl, suc, true, ℕ, ◌∷◌, ◌≡◌}
 use Rattle.mini_laws.specs.declared.names.Declared.TheVariants as declared

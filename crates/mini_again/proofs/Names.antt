@@ -1,7 +1,8 @@
 -- A symbol that is renamed is there where the symbol is.
 use Rattle.std.specs.Prelude.{◌≡◌, refl, Bool, true, false, if◌then◌else◌, Option, Some, None, is_some, is_none}
+use Rattle.mini_model.specs.declared.name.Name.{Name}
 use Rattle.mini_model.specs.declared.name.SymbolId.{SymbolId}
-use Rattle.mini_laws.specs.Renaming.{rename_symbol}
+use Rattle.mini_laws.specs.Renaming.{rename_name, rename_symbol}
 use Rattle.mini_model.specs.Tree.{Tree, Trees}
 use Rattle.mini_laws.specs.Symbols.{is_same}
 use Rattle.mini_again.specs.Again.{Renaming, again, all_again}
@@ -30,3 +31,7 @@ if_again ρ false t u = refl
 pub if_all_again : (ρ : Renaming) (b : Bool) (ts us : Trees) → (if b then all_again ρ ts else all_again ρ us) ≡ all_again ρ (if b then ts else us)
 if_all_again ρ true ts us = refl
 if_all_again ρ false ts us = refl
+
+-- the names whose other ones P holds of
+abbrev pub names_with_others : Renaming → (Name → Bool) → Name → Bool
+names_with_others ρ P x = P (rename_name ρ.symbol x)

@@ -11,12 +11,13 @@ use Rattle.mini_rows.specs.Names.{AClass, AFunction, NameContracts, NameRow, Nam
 use Rattle.mini_rows.specs.Switches.{Switches}
 use Rattle.std.proofs.Common.{ap}
 use Rattle.std.specs.Prelude.{refl, ◌≡◌}
+use Rattle.mini_model.specs.declared.shape.Shape.TheVariants as shape
 
 abbrev pub again_nameable : Renaming → Nameable → Nameable
 again_nameable ρ (AFunction a0 a1 a2 a3) = AFunction a0 a1 (again ρ a2) (again ρ a3)
 again_nameable ρ (AClass a0 a1) = AClass (again ρ a0) (again ρ a1)
 
-pub inside_of_again : (ρ : Renaming) (n : Nameable) → inside_of (again_nameable ρ n) ≡ all_again ρ (inside_of n)
+unfoldable pub inside_of_again : (ρ : Renaming) (n : Nameable) → inside_of (again_nameable ρ n) ≡ all_again ρ (inside_of n)
 inside_of_again ρ (AFunction is_generator directives params body) = refl
 inside_of_again ρ (AClass superclass body) = refl
 

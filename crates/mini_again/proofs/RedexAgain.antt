@@ -31,6 +31,7 @@ use Rattle.mini_model.specs.declared.place.Position.{Position}
 use Rattle.mini_rows.specs.Redex.{Contracts, Rewrites, Row}
 use Rattle.mini_rows.specs.Switches.{Switches, liberties}
 use Rattle.std.proofs.Common.{inl, inr}
+use Rattle.std.specs.Prelude.{◌≡◌}
 
 pub row_again : (ρ : Renaming) (o : Switches) (p : Position) (n w : Tree) → Row o p n w → Row o p (again ρ n) (again ρ w)
 row_again ρ o p n w (inl r) = inl (redex_row_again ρ p n w r)

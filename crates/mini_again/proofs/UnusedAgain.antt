@@ -28,9 +28,10 @@ use Rattle.mini_node.specs.Children.{names_of, part, rest_children}
 use Rattle.mini_rows.specs.Cases.{switch_case}
 use Rattle.mini_rows.specs.Lists.{binding, block, declaration, declarator, for_loop, resolved}
 use Rattle.mini_rows.specs.Switches.{Liberties, Switches, without_vars}
-use Rattle.mini_rows.specs.Unused.{Alone, ArrowBodyRow, BlockRow, ForHeadRow, ForNextRow, ForRow, FunctionBodyRow, ModuleRow, Row71, Row71Next, Row72, Row72Idle, StaticBlockRow, SwitchRow, UnusedContracts, UnusedRow, all_passed, any_names, are_passed_in, begins, begins_bare, begins_let, begins_var, begins_with, declared_among, declared_left, declared_one, evaluated, evaluated_hidden, first_value, gathered_below, goes_over, goes_over_let, has_declarator, has_symbol_of, head_left, holds_list, is_called_by, is_childless, is_constant, is_first, is_like_one, is_own_key, leads, leads_to, may_hold, names, passes_at, passes_branch, passes_item, put_among, put_first, reads_first, suits_in, suits_under, switch_around, takes_name}
+use Rattle.mini_rows.specs.Unused.{Alone, ArrowBodyRow, BlockRow, ForHeadRow, ForNextRow, ForRow, FunctionBodyRow, ModuleRow, Row71, Row71Next, Row72, Row72Idle, StaticBlockRow, SwitchRow, UnusedContracts, UnusedRow, all_passed, any_names, are_passed_in, begins, begins_bare, begins_let, begins_var, begins_with, declared_among, declared_left, declared_one, evaluated, evaluated_hidden, first_value, gathered_below, goes_over, goes_over_let, has_declarator, has_symbol_of, head_left, holds_list, is_called_by, is_childless, is_constant, is_first, is_like_one, is_own_key, leads, leads_to, may_hold, names, passes_at, passes_branch, passes_item, put_among, put_first, reads_first, reads_head, suits_in, suits_under, switch_around, takes_name}
 use Rattle.mini_rows.specs.declared.gathered.Gathered.{Gathered}
 use Rattle.mini_rows.specs.declared.gathered.Gathered.TheVariants.{Texts as OfTexts, Values as OfValues}
+use Rattle.mini_terms.specs.Kind.{kind}
 use Rattle.std.proofs.Common.{ap, inl, inr}
 use Rattle.std.specs.Prelude.{Bool, List, [], false, if◌then◌else◌, map, refl, suc, true, zero, ℕ, ◌∷◌, ◌≡◌}
 use Rattle.mini_model.specs.declared.shape.Shape.TheVariants as shape
@@ -115,6 +116,9 @@ pub declared_left_again : (ρ : Renaming) (k : VariableDeclarationKind) (ts : Tr
 declared_left_again ρ k none = refl
 declared_left_again ρ k (d ▸ ds) = refl
 
+pub evaluated_again : (ρ : Renaming) (t : Tree) → evaluated (again ρ t) ≡ again ρ (evaluated t)
+evaluated_again ρ t = simp (if_again ρ (begins_var t) (first_value (part t 0)) t, if_again ρ (goes_over t) (part t 1) (if begins_var t then first_value (part t 0) else t), if_again ρ (has_declarator t) (first_value t) (if goes_over t then part t 1 else (if begins_var t then first_value (part t 0) else t)), shape_of_again ρ t, is_bare_again ρ t 1, children_again ρ t, child_or_absent_again ρ (children t) 0, shape_of_again ρ (part t 0), is_nameless_again ρ (part t 0), is_childless_again ρ (part t 0), children_again ρ (part t 0), child_or_absent_again ρ (children (part t 0)) 0, shape_of_again ρ (part (part t 0) 0), is_bare_again ρ (part (part t 0) 0) 2, children_again ρ (part (part t 0) 0), child_or_absent_again ρ (children (part (part t 0) 0)) 1, is_bare_again ρ t 3, count_again ρ (children (part t 0)), shape_of_again ρ (child_or_absent (children (part t 0)) 0), children_again ρ (child_or_absent (children (part t 0)) 0), count_again ρ (children (child_or_absent (children (part t 0)) 0)), child_or_absent_again ρ (children (child_or_absent (children (part t 0)) 0)) 0, shape_of_again ρ (child_or_absent (children (child_or_absent (children (part t 0)) 0)) 0), children_again ρ (child_or_absent (children (child_or_absent (children (part t 0)) 0)) 0), count_again ρ (children (child_or_absent (children (child_or_absent (children (part t 0)) 0)) 0)), child_or_absent_again ρ (children (child_or_absent (children (child_or_absent (children (part t 0)) 0)) 0)) 1, is_absent_again ρ (child_or_absent (children (child_or_absent (children (child_or_absent (children (part t 0)) 0)) 0)) 1), child_or_absent_again ρ (children t) 1, is_bare_again ρ t 4, is_bare_again ρ (part t 0) 1, is_nameless_again ρ (part (part t 0) 0), is_childless_again ρ (part (part t 0) 0), child_or_absent_again ρ (children (part (part t 0) 0)) 0, shape_of_again ρ (part (part (part t 0) 0) 0), is_bare_again ρ (part (part (part t 0) 0) 0) 2, children_again ρ (part (part (part t 0) 0) 0), child_or_absent_again ρ (children (part (part (part t 0) 0) 0)) 1)
+
 pub has_symbol_of_again : (ρ : Renaming) (x : Name) (xs : List Name) → has_symbol_of (rename_name ρ.symbol x) (map (rename_name ρ.symbol) xs) ≡ has_symbol_of x xs
 has_symbol_of_again ρ x [] = refl
 has_symbol_of_again ρ x (y ∷ ys) = simp (is_same_again ρ x.symbol y.symbol)
@@ -178,13 +182,16 @@ pub reads_first_again : (ρ : Renaming) (x : Name) (t : Tree) → reads_first (r
 reads_first_again ρ x (node h ys n none) = refl
 reads_first_again ρ x (node h ys n (t ▸ ts)) = simp (is_nameless_again ρ (node h ys n (t ▸ ts)), is_first_again ρ x false t, any_names_again ρ x ts)
 
+pub reads_head_again : (ρ : Renaming) (x : Name) (t : Tree) → reads_head (rename_name ρ.symbol x) (again ρ t) ≡ reads_head x t
+reads_head_again ρ x t = simp (reads_first_again ρ x t, shape_of_again ρ t, is_bare_again ρ t 1, children_again ρ t, child_or_absent_again ρ (children t) 0, shape_of_again ρ (part t 0), is_nameless_again ρ (part t 0), is_childless_again ρ (part t 0), children_again ρ (part t 0), child_or_absent_again ρ (children (part t 0)) 0, shape_of_again ρ (part (part t 0) 0), is_bare_again ρ (part (part t 0) 0) 2, children_again ρ (part (part t 0) 0), child_or_absent_again ρ (children (part (part t 0) 0)) 1, is_first_again ρ x false (part (part (part t 0) 0) 1), child_or_absent_again ρ (children (part (part t 0) 0)) 0, names_again ρ x (part (part (part t 0) 0) 0), rest_children_again ρ 1 (children (part t 0)), any_names_again ρ x (rest_children 1 (children (part t 0))), is_bare_again ρ t 2, is_bare_again ρ t 4, is_first_again ρ x false (part t 0), rest_children_again ρ 1 (children t), any_names_again ρ x (rest_children 1 (children t)), is_bare_again ρ t 3, count_again ρ (children (part t 0)), shape_of_again ρ (child_or_absent (children (part t 0)) 0), children_again ρ (child_or_absent (children (part t 0)) 0), count_again ρ (children (child_or_absent (children (part t 0)) 0)), child_or_absent_again ρ (children (child_or_absent (children (part t 0)) 0)) 0, shape_of_again ρ (child_or_absent (children (child_or_absent (children (part t 0)) 0)) 0), children_again ρ (child_or_absent (children (child_or_absent (children (part t 0)) 0)) 0), count_again ρ (children (child_or_absent (children (child_or_absent (children (part t 0)) 0)) 0)), child_or_absent_again ρ (children (child_or_absent (children (child_or_absent (children (part t 0)) 0)) 0)) 1, is_absent_again ρ (child_or_absent (children (child_or_absent (children (child_or_absent (children (part t 0)) 0)) 0)) 1), child_or_absent_again ρ (children t) 1, is_first_again ρ x false (part t 1), names_again ρ x (part t 0), rest_children_again ρ 2 (children t), any_names_again ρ x (rest_children 2 (children t)), is_bare_again ρ (part t 0) 1, is_nameless_again ρ (part (part t 0) 0), is_childless_again ρ (part (part t 0) 0), shape_of_again ρ (part (part (part t 0) 0) 0), is_bare_again ρ (part (part (part t 0) 0) 0) 2, children_again ρ (part (part (part t 0) 0) 0), child_or_absent_again ρ (children (part (part (part t 0) 0) 0)) 1, is_first_again ρ x false (part (part (part (part t 0) 0) 0) 1), child_or_absent_again ρ (children (part (part (part t 0) 0) 0)) 0, names_again ρ x (part (part (part (part t 0) 0) 0) 0), rest_children_again ρ 1 (children (part (part t 0) 0)), any_names_again ρ x (rest_children 1 (children (part (part t 0) 0))))
+
 pub takes_name_again : (ρ : Renaming) (o : Switches) (h : Shape) (own : Tree) → takes_name o h (again ρ own) ≡ takes_name o h own
 takes_name_again ρ o (shape.Function is_declaration is_generator directives) own = simp (shape_of_again ρ own, is_bare_again ρ own 0)
 takes_name_again ρ o (shape.ArrowFunctionExpression directives) own = refl
 takes_name_again ρ o (shape.Class is_declaration) own = simp (shape_of_again ρ own, is_bare_again ρ own 0)
 takes_name_again ρ o h own = refl
 
-pub row71_again : (ρ : Renaming) (W : Liberties) (n w : Tree) → Row71 (liberties_with_others_in ρ W) n w → Row71 W (again ρ n) (again ρ w)
+unfoldable pub row71_again : (ρ : Renaming) (W : Liberties) (n w : Tree) → Row71 (liberties_with_others_in ρ W) n w → Row71 W (again ρ n) (again ρ w)
 row71_again ρ W n w r = record {
   before = all_again ρ r.before;
   kind = r.kind;
@@ -196,7 +203,7 @@ row71_again ρ W n w r = record {
   after = all_again ρ r.after;
   goes = r.goes;
   moves = simp (is_plain_part_again ρ r.init, shape_of_again ρ r.init, children_again ρ r.init, child_or_absent_again ρ (children r.init) 0, takes_name_again ρ W.switches (shape_of r.init) (part r.init 0)) r.moves;
-  taken = simp (reads_first_again ρ (resolved r.spelling r.symbol) r.head, shape_of_again ρ r.head, is_bare_again ρ r.head 1, children_again ρ r.head, child_or_absent_again ρ (children r.head) 0, shape_of_again ρ (part r.head 0), is_nameless_again ρ (part r.head 0), is_childless_again ρ (part r.head 0), children_again ρ (part r.head 0), child_or_absent_again ρ (children (part r.head 0)) 0, shape_of_again ρ (part (part r.head 0) 0), is_bare_again ρ (part (part r.head 0) 0) 2, children_again ρ (part (part r.head 0) 0), child_or_absent_again ρ (children (part (part r.head 0) 0)) 1, is_first_again ρ (resolved r.spelling r.symbol) false (part (part (part r.head 0) 0) 1), child_or_absent_again ρ (children (part (part r.head 0) 0)) 0, names_again ρ (resolved r.spelling r.symbol) (part (part (part r.head 0) 0) 0), rest_children_again ρ 1 (children (part r.head 0)), any_names_again ρ (resolved r.spelling r.symbol) (rest_children 1 (children (part r.head 0))), is_bare_again ρ r.head 2, is_bare_again ρ r.head 4, is_first_again ρ (resolved r.spelling r.symbol) false (part r.head 0), rest_children_again ρ 1 (children r.head), any_names_again ρ (resolved r.spelling r.symbol) (rest_children 1 (children r.head)), is_bare_again ρ r.head 3, count_again ρ (children (part r.head 0)), shape_of_again ρ (child_or_absent (children (part r.head 0)) 0), children_again ρ (child_or_absent (children (part r.head 0)) 0), count_again ρ (children (child_or_absent (children (part r.head 0)) 0)), child_or_absent_again ρ (children (child_or_absent (children (part r.head 0)) 0)) 0, shape_of_again ρ (child_or_absent (children (child_or_absent (children (part r.head 0)) 0)) 0), children_again ρ (child_or_absent (children (child_or_absent (children (part r.head 0)) 0)) 0), count_again ρ (children (child_or_absent (children (child_or_absent (children (part r.head 0)) 0)) 0)), child_or_absent_again ρ (children (child_or_absent (children (child_or_absent (children (part r.head 0)) 0)) 0)) 1, is_absent_again ρ (child_or_absent (children (child_or_absent (children (child_or_absent (children (part r.head 0)) 0)) 0)) 1), child_or_absent_again ρ (children r.head) 1, is_first_again ρ (resolved r.spelling r.symbol) false (part r.head 1), names_again ρ (resolved r.spelling r.symbol) (part r.head 0), rest_children_again ρ 2 (children r.head), any_names_again ρ (resolved r.spelling r.symbol) (rest_children 2 (children r.head)), is_bare_again ρ (part r.head 0) 1, is_nameless_again ρ (part (part r.head 0) 0), is_childless_again ρ (part (part r.head 0) 0), shape_of_again ρ (part (part (part r.head 0) 0) 0), is_bare_again ρ (part (part (part r.head 0) 0) 0) 2, children_again ρ (part (part (part r.head 0) 0) 0), child_or_absent_again ρ (children (part (part (part r.head 0) 0) 0)) 1, is_first_again ρ (resolved r.spelling r.symbol) false (part (part (part (part r.head 0) 0) 0) 1), child_or_absent_again ρ (children (part (part (part r.head 0) 0) 0)) 0, names_again ρ (resolved r.spelling r.symbol) (part (part (part (part r.head 0) 0) 0) 0), rest_children_again ρ 1 (children (part (part r.head 0) 0)), any_names_again ρ (resolved r.spelling r.symbol) (rest_children 1 (children (part (part r.head 0) 0))), if_again ρ (begins_var r.head) (first_value (part r.head 0)) r.head, if_again ρ (goes_over r.head) (part r.head 1) (if begins_var r.head then first_value (part r.head 0) else r.head), if_again ρ (has_declarator r.head) (first_value r.head) (if goes_over r.head then part r.head 1 else (if begins_var r.head then first_value (part r.head 0) else r.head)), are_passed_in_again ρ (resolved r.spelling r.symbol) OfValues r.init (evaluated r.head), is_shallow_again ρ 250 r.init, is_shallow_again ρ 250 (evaluated r.head), shape_of_again ρ r.init, is_bare_again ρ r.init 0, is_bare_again ρ r.init 1, children_again ρ r.init, child_or_absent_again ρ (children r.init) 0, shape_of_again ρ (part r.init 0), is_bare_again ρ (part r.init 0) 0, if_again ρ (goes_over_let r.head) (part r.head 1) r.head, if_again ρ (begins_let r.head) (first_value (part r.head 0)) (if goes_over_let r.head then part r.head 1 else r.head), are_passed_in_again ρ (resolved r.spelling r.symbol) OfValues r.init (evaluated_hidden r.head), is_shallow_again ρ 250 (evaluated_hidden r.head)) r.taken;
+  taken = simp (reads_head_again ρ (resolved r.spelling r.symbol) r.head, evaluated_again ρ r.head) (simp (are_passed_in_again ρ (resolved r.spelling r.symbol) OfValues r.init (evaluated r.head), is_shallow_again ρ 250 r.init, is_shallow_again ρ 250 (evaluated r.head), shape_of_again ρ r.init, is_bare_again ρ r.init 0, is_bare_again ρ r.init 1, children_again ρ r.init, child_or_absent_again ρ (children r.init) 0, shape_of_again ρ (part r.init 0), is_bare_again ρ (part r.init 0) 0, shape_of_again ρ r.head, is_bare_again ρ r.head 4, children_again ρ r.head, child_or_absent_again ρ (children r.head) 0, shape_of_again ρ (part r.head 0), is_bare_again ρ (part r.head 0) 1, children_again ρ (part r.head 0), child_or_absent_again ρ (children (part r.head 0)) 0, shape_of_again ρ (part (part r.head 0) 0), is_nameless_again ρ (part (part r.head 0) 0), is_childless_again ρ (part (part r.head 0) 0), children_again ρ (part (part r.head 0) 0), child_or_absent_again ρ (children (part (part r.head 0) 0)) 0, shape_of_again ρ (part (part (part r.head 0) 0) 0), is_bare_again ρ (part (part (part r.head 0) 0) 0) 2, children_again ρ (part (part (part r.head 0) 0) 0), child_or_absent_again ρ (children (part (part (part r.head 0) 0) 0)) 1, is_first_again ρ (resolved r.spelling r.symbol) false (part (part (part (part r.head 0) 0) 0) 1), child_or_absent_again ρ (children (part (part (part r.head 0) 0) 0)) 0, names_again ρ (resolved r.spelling r.symbol) (part (part (part (part r.head 0) 0) 0) 0), rest_children_again ρ 1 (children (part (part r.head 0) 0)), any_names_again ρ (resolved r.spelling r.symbol) (rest_children 1 (children (part (part r.head 0) 0))), rest_children_again ρ 1 (children r.head), any_names_again ρ (resolved r.spelling r.symbol) (rest_children 1 (children r.head)), is_bare_again ρ r.head 3, child_or_absent_again ρ (children r.head) 1, is_first_again ρ (resolved r.spelling r.symbol) false (part r.head 1), names_again ρ (resolved r.spelling r.symbol) (part r.head 0), rest_children_again ρ 2 (children r.head), any_names_again ρ (resolved r.spelling r.symbol) (rest_children 2 (children r.head)), if_again ρ (goes_over_let r.head) (part r.head 1) r.head, if_again ρ (begins_let r.head) (first_value (part r.head 0)) (if goes_over_let r.head then part r.head 1 else r.head), are_passed_in_again ρ (resolved r.spelling r.symbol) OfValues r.init (evaluated_hidden r.head), is_shallow_again ρ 250 (evaluated_hidden r.head)) r.taken);
   earlier = simp (any_names_again ρ (resolved r.spelling r.symbol) r.before) r.earlier;
   declared_earlier = simp (any_names_again ρ (resolved r.spelling r.symbol) r.first) r.declared_earlier;
   initial = simp (names_again ρ (resolved r.spelling r.symbol) r.init) r.initial;
@@ -206,7 +213,7 @@ row71_again ρ W n w r = record {
   written = simp (← (declared_left_again ρ r.kind r.first), ← (put_first_again ρ (resolved r.spelling r.symbol) r.init r.head), ← (append_again ρ r.before (declared_left r.kind r.first ▸ (put_first (resolved r.spelling r.symbol) r.init r.head ▸ r.after)))) at (ap (again ρ) r.written);
 }
 
-pub row71_next_again : (ρ : Renaming) (W : Liberties) (n w : Tree) → Row71Next (liberties_with_others_in ρ W) n w → Row71Next W (again ρ n) (again ρ w)
+unfoldable pub row71_next_again : (ρ : Renaming) (W : Liberties) (n w : Tree) → Row71Next (liberties_with_others_in ρ W) n w → Row71Next W (again ρ n) (again ρ w)
 row71_next_again ρ W n w r = record {
   before = all_again ρ r.before;
   kind = r.kind;
@@ -233,7 +240,7 @@ row71_next_again ρ W n w r = record {
   written = simp (← (put_first_again ρ (resolved r.spelling r.symbol) r.init r.value), ← (append_again ρ r.first (declarator r.binds (put_first (resolved r.spelling r.symbol) r.init r.value) ▸ r.last)), ← (append_again ρ r.before (declaration r.kind (append r.first (declarator r.binds (put_first (resolved r.spelling r.symbol) r.init r.value) ▸ r.last)) ▸ r.after))) at (ap (again ρ) r.written);
 }
 
-pub row72_again : (ρ : Renaming) (W : Liberties) (n w : Tree) → Row72 (liberties_with_others_in ρ W) n w → Row72 W (again ρ n) (again ρ w)
+unfoldable pub row72_again : (ρ : Renaming) (W : Liberties) (n w : Tree) → Row72 (liberties_with_others_in ρ W) n w → Row72 W (again ρ n) (again ρ w)
 row72_again ρ W n w r = record {
   before = all_again ρ r.before;
   kind = r.kind;
@@ -248,7 +255,7 @@ row72_again ρ W n w r = record {
   written = simp (← (append_again ρ r.before (expression_statement r.init ▸ r.after))) at (ap (again ρ) r.written);
 }
 
-pub row72_idle_again : (ρ : Renaming) (W : Liberties) (n w : Tree) → Row72Idle (liberties_with_others_in ρ W) n w → Row72Idle W (again ρ n) (again ρ w)
+unfoldable pub row72_idle_again : (ρ : Renaming) (W : Liberties) (n w : Tree) → Row72Idle (liberties_with_others_in ρ W) n w → Row72Idle W (again ρ n) (again ρ w)
 row72_idle_again ρ W n w r = record {
   before = all_again ρ r.before;
   kind = r.kind;
@@ -265,7 +272,7 @@ row72_idle_again ρ W n w r = record {
   written = simp (← (append_again ρ r.first r.last), ← (declared_left_again ρ r.kind (append r.first r.last)), ← (append_again ρ r.before (declared_left r.kind (append r.first r.last) ▸ r.after))) at (ap (again ρ) r.written);
 }
 
-pub block_row_again : (ρ : Renaming) (W : Liberties) (n w : Tree) → BlockRow (liberties_with_others_in ρ W) n w → BlockRow W (again ρ n) (again ρ w)
+unfoldable pub block_row_again : (ρ : Renaming) (W : Liberties) (n w : Tree) → BlockRow (liberties_with_others_in ρ W) n w → BlockRow W (again ρ n) (again ρ w)
 block_row_again ρ W n w (inl r) = inl (row72_again ρ W n w r)
 block_row_again ρ W n w (inr (inl r)) = inr (inl (row72_idle_again ρ W n w r))
 block_row_again ρ W n w (inr (inr (inl r))) = inr (inr (inl (row71_again ρ W n w r)))

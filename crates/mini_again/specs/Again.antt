@@ -3,6 +3,7 @@ use Rattle.std.specs.Prelude.{ℕ, zero, suc, Option, Some, None}
 use Rattle.mini_model.specs.Tree.{Tree, Trees}
 use Rattle.mini_laws.specs.Renaming.{rename, rename_all, rename_variable, TellsApart}
 use Rattle.mini_laws.specs.Value.{VariableSet}
+use Rattle.mini_kept.specs.Without.{Assured, BodySets}
 use Rattle.mini_rows.specs.Switches.{Liberties}
 
 -- a symbol for each symbol, which tells symbols apart, and for a number above 0 the one before its
@@ -35,3 +36,11 @@ with_others_in ρ V x = V (rename_variable ρ.symbol x)
 
 abbrev pub liberties_with_others_in : Renaming → Liberties → Liberties
 liberties_with_others_in ρ V = record { writable = with_others_in ρ V.writable; switches = V.switches }
+
+-- what is known of a body whose other symbols are known so
+abbrev pub assured_with_others : Renaming → Assured → Assured
+assured_with_others ρ V = record { steady = with_others_in ρ V.steady; unshared = with_others_in ρ V.unshared; initial = with_others_in ρ V.initial; has_this = V.has_this }
+
+-- and of each body, by its other number
+abbrev pub sets_with_others : Renaming → BodySets → BodySets
+sets_with_others ρ S n = assured_with_others ρ (S (other_number ρ n))

@@ -1,12 +1,25 @@
 -- What the rows write for a node they write for the node that is read again.
-use Rattle.std.specs.Prelude.{◌≡◌}
+use Rattle.std.specs.Prelude.{◌≡◌, ◌⊎◌, ℕ}
 use Rattle.mini_model.specs.declared.place.Position.{Position}
 use Rattle.mini_model.specs.Tree.{Tree}
 use Rattle.mini_laws.specs.Renaming.{rename_variable}
 use Rattle.mini_laws.specs.Value.{VariableSet, Variable}
 use Rattle.mini_rows.specs.Redex.{Rewrites, HasNoRedex}
-use Rattle.mini_rows.specs.Switches.{Switches}
-use Rattle.mini_again.specs.Again.{Renaming, again, with_others_in}
+use Rattle.mini_kept.specs.Without.{Assured, BodySets}
+use Rattle.mini_model.specs.Rewriting.{Everywhere}
+use Rattle.mini_rows.specs.Inside.{InsideContracts}
+use Rattle.mini_rows.specs.OwnArrows.{OwnCode}
+use Rattle.mini_rows.specs.OwnParts.{OwnPart}
+use Rattle.mini_rows.specs.OwnPrograms.{OwnProgram}
+use Rattle.mini_rows.specs.Past.{PastFunction}
+use Rattle.mini_rows.specs.PastArrows.{PastArrow}
+use Rattle.mini_rows.specs.PastBlocks.{PastBlocks}
+use Rattle.mini_rows.specs.PastInside.{PastInside}
+use Rattle.mini_rows.specs.PastModules.{PastModule}
+use Rattle.mini_rows.specs.PastStatics.{PastStatic}
+use Rattle.mini_rows.specs.Steady.{OwnRows, SteadyRow, LexicalRows}
+use Rattle.mini_rows.specs.Switches.{Switches, Liberties, liberties}
+use Rattle.mini_again.specs.Again.{Renaming, again, with_others_in, assured_with_others, sets_with_others, liberties_with_others_in}
 
 -- of all rows but those that rest on what is known of the body around
 abbrev pub RewritesSurvive : Type 0
@@ -19,3 +32,45 @@ HasOthers ρ W V = (x : Variable) → V (rename_variable ρ.symbol x) ≡ W x
 -- nothing is left to rewrite in a program, if nothing is in the program that is read again
 abbrev pub NothingIsLeft : Type 0
 NothingIsLeft = (ρ : Renaming) (o : Switches) (W V : VariableSet) → HasOthers ρ W V → (p : Position) (t : Tree) → HasNoRedex o V p (again ρ t) → HasNoRedex o W p t
+
+-- ---- rows that rest on what is known of the body around
+
+-- of a family of rows in the own code of a body
+abbrev pub OwnSurvives : OwnRows → Type 0
+OwnSurvives F = (ρ : Renaming) (V : Assured) (p : Position) (n w : Tree) → F (assured_with_others ρ V) p n w → F V p (again ρ n) (again ρ w)
+
+-- of rows over what is known of each body and over what may be written
+abbrev pub BodiesSurvive : (BodySets → Liberties → Position → Tree → Tree → Type 0) → Type 0
+BodiesSurvive R = (ρ : Renaming) (S : BodySets) (W : Liberties) (p : Position) (n w : Tree) → R (sets_with_others ρ S) (liberties_with_others_in ρ W) p n w → R S W p (again ρ n) (again ρ w)
+
+-- ---- all of those rows
+
+-- a row of a family in the own code of whatever has a body
+abbrev pub OwnCodeRow : OwnRows → BodySets → Position → Tree → Tree → Type 0
+OwnCodeRow F S p n w = (OwnCode F S p n w ⊎ OwnProgram F S p n w) ⊎ OwnPart F S p n w
+
+-- 71 past names that keep their value
+abbrev pub PastCodeRow : BodySets → Liberties → Position → Tree → Tree → Type 0
+PastCodeRow S W p n w = ((PastFunction S W p n w ⊎ PastArrow S W p n w) ⊎ (PastModule S W p n w ⊎ PastStatic S W p n w)) ⊎ OwnCodeRow (PastBlocks W.switches) S p n w
+
+-- 71 and 72 of a `var` further inside a body, and 71 past such names
+abbrev pub InsideCodeRow : BodySets → Liberties → Position → Tree → Tree → Type 0
+InsideCodeRow S W p n w = InsideContracts W p n w ⊎ PastInside S W p n w
+
+-- and members, `this` and lexical names
+abbrev pub BodyRewrites : BodySets → Liberties → Position → Tree → Tree → Type 0
+BodyRewrites S W p n w = (OwnCodeRow SteadyRow S p n w ⊎ OwnCodeRow LexicalRows S p n w) ⊎ (PastCodeRow S W p n w ⊎ InsideCodeRow S W p n w)
+
+-- where S says what is known of each body, by its number, and W what may be written
+abbrev pub BodyRewritesSurvive : Type 0
+BodyRewritesSurvive = BodiesSurvive BodyRewrites
+
+-- S, by other numbers, has the other one of each variable that R has
+abbrev pub HasOtherSets : Renaming → BodySets → BodySets → Type 0
+HasOtherSets ρ R S = (b : ℕ) → sets_with_others ρ S b ≡ R b
+
+-- nothing is left for those rows in a program, if nothing is in the program that is read again
+abbrev pub NothingIsLeftInBodies : Type 0
+NothingIsLeftInBodies =
+    (ρ : Renaming) (R S : BodySets) → HasOtherSets ρ R S → (o : Switches) (W V : VariableSet) → HasOthers ρ W V → (p : Position) (t : Tree)
+    → Everywhere (λ q n. (w : Tree) → BodyRewrites S (liberties o V) q n w → ⊥) p (again ρ t) → Everywhere (λ q n. (w : Tree) → BodyRewrites R (liberties o W) q n w → ⊥) p t

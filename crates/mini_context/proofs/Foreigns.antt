@@ -1,4 +1,4 @@
--- What is foreign to a body.
+-- What is foreign to a body, and what is told of it.
 use Rattle.std.specs.Prelude.{ℕ, suc, ◌≡◌, ◌<◌, refl, ◌&&◌, ◌||◌, not, Bool, true, false, cond, List, [], ◌∷◌, map}
 use Rattle.std.specs.List.{filter, list_any}
 use Rattle.std.proofs.Common.{ap, ◌∙◌, sym}
@@ -15,9 +15,10 @@ use Rattle.mini_laws.specs.ScopeList.{seen_by_eval}
 use Rattle.mini_laws.specs.Shared.{given_values, is_shared, program_var_writes, reached_by_arguments, script_tops, var_writes, var_writes_from, write_at}
 use Rattle.mini_laws.specs.Foreign.{all_writes, imported_names, is_declared_in, is_foreign, is_foreign_always, is_read_early, is_write, lexical_variables, may_be_uninitialised, moments, pattern_names, switched as switched_names}
 use Rattle.mini_context.specs.Enclosing.{is_around}
-use Rattle.mini_context.specs.Facts.{Facts, Looked, foreign, foreign_always, is_changed, is_changed_outside, may_be_unset, shares}
+use Rattle.mini_context.specs.Facts.{Facts, Looked, Told, foreign, foreign_always, is_assigned, is_changed, is_changed_outside, may_be_unset, shares}
 use Rattle.mini_context.specs.Lists.{holds}
-use Rattle.mini_context.specs.Mentioned.{is_outside, is_somewhere, mentioned_at}
+use Rattle.mini_context.specs.Mentioned.{is_outside, mentioned_at}
+use Rattle.mini_context.specs.Steady.{is_steady, TellsBodies}
 use Rattle.mini_context.specs.Tables.{mark_at, named}
 use Rattle.mini_context.specs.Visits.{is_writing}
 use Rattle.mini_context.proofs.Shares.{somewhere_told, tables_share}
@@ -88,11 +89,14 @@ writing_outside s b (m ∷ ms) =
 value_writes : (s : ℕ) (a : Around) (y : Name) → same_variable (named s) y ≡ is_write (named s) (write_at a y)
 value_writes s a y = sym (and_true (same_variable (named s) y && true) ∙ and_true (same_variable (named s) y))
 
+pub assigned_told : (f : Facts) (n : ℕ) (t : Tree) → Looked f n t → (s : ℕ) → s < n → is_assigned f s ≡ list_any (is_write (named s)) (program_mentions t)
+assigned_told f n t w s h = somewhere_told (λ m. same_variable (named s) m.name) (mentioned_at f.written s) (filter is_writing (program_mentions t)) (λ b. w.written_told s h b) ∙ writing s (program_mentions t)
+
 pub changed_told : (f : Facts) (n : ℕ) (t : Tree) → Looked f n t → (s : ℕ) → s < n → is_changed f s ≡ list_any (is_write (named s)) (all_writes t)
 changed_told f n t w s h =
     let p : Mention → Bool = λ m. same_variable (named s) m.name in
-    ap (λ v. v || is_somewhere (mentioned_at f.written s)) (somewhere_told p (mentioned_at f.given s) (program_var_writes t) (λ b. w.given_told s h b) ∙ given_any p (is_write (named s)) (value_writes s) Read outermost t)
-    ∙ ap (λ v. list_any (is_write (named s)) (program_var_writes t) || v) (somewhere_told p (mentioned_at f.written s) (filter is_writing (program_mentions t)) (λ b. w.written_told s h b) ∙ writing s (program_mentions t))
+    ap (λ v. v || is_assigned f s) (somewhere_told p (mentioned_at f.given s) (program_var_writes t) (λ b. w.given_told s h b) ∙ given_any p (is_write (named s)) (value_writes s) Read outermost t)
+    ∙ ap (λ v. list_any (is_write (named s)) (program_var_writes t) || v) (assigned_told f n t w s h)
     ∙ sym (list_any-append (is_write (named s)) (program_var_writes t) (program_mentions t))
 
 pub changed_outside_told : (f : Facts) (n : ℕ) (t : Tree) → Looked f n t → (s b : ℕ) → s < n → is_changed_outside f s b ≡ list_any (λ m. is_write (named s) m && is_elsewhere b m.around) (all_writes t)
@@ -128,3 +132,16 @@ tables_foreign f n t w s b h =
     ∙ ap (λ v. is_foreign_always t (named s) || (is_shared t b (named s) && list_any (λ m. is_write (named s) m && is_elsewhere b m.around) (all_writes t)) || (not v && is_changed f s) || may_be_unset f s b) (w.homes_told s h b)
     ∙ ap (λ v. is_foreign_always t (named s) || (is_shared t b (named s) && list_any (λ m. is_write (named s) m && is_elsewhere b m.around) (all_writes t)) || (not (is_declared_in t b (named s)) && v) || may_be_unset f s b) (changed_told f n t w s h)
     ∙ ap (λ v. is_foreign_always t (named s) || (is_shared t b (named s) && list_any (λ m. is_write (named s) m && is_elsewhere b m.around) (all_writes t)) || (not (is_declared_in t b (named s)) && list_any (is_write (named s)) (all_writes t)) || v) (unset_told f n t w s b h)
+
+-- ---- what they tell of bodies
+
+pub steady_told : (f : Facts) (n : ℕ) (t : Tree) → Looked f n t → (s b : ℕ) → s < n → is_steady f s b ≡ (not (list_any (is_write (named s)) (program_mentions t)) && not (is_foreign t b (named s)))
+steady_told f n t w s b h = ap (λ v. not v && not (foreign f s b)) (assigned_told f n t w s h) ∙ ap (λ v. not (list_any (is_write (named s)) (program_mentions t)) && not v) (tables_foreign f n t w s b h)
+
+pub bodies_told : (f : Facts) (n : ℕ) (t : Tree) → Told f n t → TellsBodies f n t
+bodies_told f n t w = record {
+  steady = steady_told f n t w.looked;
+  unshared = λ s b h. ap not (tables_share f n t w.looked s b h);
+  initial = λ s b h. (λ i. steady_told f n t w.looked s b h i && not (w.looked.lexical_told s h i));
+  has_this = λ b. ap not (w.asking_told b);
+}

@@ -18,8 +18,7 @@ mod Shares
 pub mod Known
 mod Patterns
 mod Values
-mod Foreigns
+pub mod Foreigns
 mod Uses
 mod Holding
-pub mod Stays
 mod Askings

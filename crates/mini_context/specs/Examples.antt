@@ -8,7 +8,7 @@ use Rattle.mini_context.specs.declared.count.Tally.TheVariants.{Out}
 use Rattle.mini_context.specs.Tallies.{tallied}
 use Rattle.mini_context.specs.declared.mentions.Mentioned.TheVariants.{In}
 use Rattle.mini_context.specs.Facts.{Facts}
-use Rattle.mini_context.specs.Steady.{is_steady, stays_bound, symbol_stays}
+use Rattle.mini_context.specs.Steady.{is_steady}
 
 steps_of_a_sum : length (references Read (sum (reference_of 1 p) (reference_of 1 p))) ≡ 2
 unfolding references
@@ -47,19 +47,18 @@ a_binding_in_other_bodies = refl
 a_binding_that_is_written : is_steady (record binding { written = In 1 ∷ [] }) 0 1 ≡ false
 a_binding_that_is_written = refl
 
-a_write_more : symbol_stays parameter (record parameter { written = In 1 ∷ [] }) 0 ≡ false
-a_write_more = refl
+-- a `var` of the body 1, which gives it a value
+abbrev given_variable : Facts
+given_variable = record untold { given = In 1 ∷ []; homes = (1 ∷ []) ∷ [] }
 
-a_write_less : symbol_stays (record parameter { written = In 1 ∷ [] }) parameter 0 ≡ true
-a_write_less = refl
+a_given_variable_at_home : is_steady given_variable 0 1 ≡ true
+a_given_variable_at_home = refl
 
--- `{ let z; f(z); }` that becomes `{ f(z); let z; }`
-an_early_read : symbol_stays binding (record binding { early = (1 ∷ []) ∷ [] }) 0 ≡ false
-an_early_read = refl
+a_given_variable_in_other_bodies : is_steady given_variable 0 2 ≡ false
+a_given_variable_in_other_bodies = refl
 
--- a function before it is gone
-another_number : symbol_stays (record parameter { functions = (1 ∷ []) ∷ [] }) parameter 0 ≡ true
-another_number = refl
+a_given_variable_that_is_written : is_steady (record given_variable { written = In 1 ∷ [] }) 0 1 ≡ false
+a_given_variable_that_is_written = refl
 
-a_parameter_more : stays_bound [] (0 ∷ []) ≡ false
-a_parameter_more = refl
+a_variable_without_a_value : is_steady (record given_variable { given = [] }) 0 2 ≡ true
+a_variable_without_a_value = refl

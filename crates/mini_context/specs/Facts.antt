@@ -122,9 +122,16 @@ shared_always f s = mark_at f.now_top s || mark_at f.exchanged s || mark_at f.se
 abbrev pub shares : Facts → ℕ → ℕ → Bool
 shares f s b = shared_always f s || is_outside (mentioned_at f.mentioned s) b
 
+-- whether a `var` gives the symbol a value, and whether a reference writes it
+abbrev pub is_given : Facts → ℕ → Bool
+is_given f s = is_somewhere (mentioned_at f.given s)
+
+abbrev pub is_assigned : Facts → ℕ → Bool
+is_assigned f s = is_somewhere (mentioned_at f.written s)
+
 -- whether something writes the symbol, and whether another body than this or a carried node does
 abbrev pub is_changed : Facts → ℕ → Bool
-is_changed f s = is_somewhere (mentioned_at f.given s) || is_somewhere (mentioned_at f.written s)
+is_changed f s = is_given f s || is_assigned f s
 
 abbrev pub is_changed_outside : Facts → ℕ → ℕ → Bool
 is_changed_outside f s b = is_outside (mentioned_at f.given s) b || is_outside (mentioned_at f.written s) b

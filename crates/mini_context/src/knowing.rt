@@ -1,14 +1,12 @@
 //! What the context of rewrites knows of a program, and how it looks at one anew.
 
-ghost use Rattle.std.specs.Prelude.{◌≡◌, IfOk, OnOk};
+ghost use Rattle.std.specs.Prelude.{◌≡◌};
 ghost use Rattle.mini_model.specs.Weight.{capped};
 ghost use Rattle.mini_node.specs.Children.{names};
-ghost use Rattle.mini_tree.specs.Context.{KnowsAnew};
-ghost use Rattle.mini_context.specs.Steady.{Renewed};
 ghost use Rattle.mini_context.specs.Known.{reference_count as count_of_references, own_reference_count as count_of_own};
 
 use crate::context::TraverseCtx;
-use crate::refreshing::{refresh, renew};
+use crate::refreshing::refresh;
 use mini_model::{Name, OutOfMemory, Shape};
 use mini_node::Node;
 use mini_tree::{CompressOptions, Context};
@@ -36,24 +34,6 @@ fn reference_count(node: &Node) -> u64
         total = total.saturating_add(reference_count(child));
     }
     total
-}
-
-impl TraverseCtx {
-    ghost use Rattle.mini_context.specs.Known.{Knows};
-
-    /// Looks at a program as `refresh` does, and answers whether all that was told of each body
-    /// before is so in this program: which symbols are steady there, which it begins with, which it
-    /// doesn't share, and that it has a `this`. The only error is that memory runs out, and then
-    /// the context is fit only to be dropped.
-    pub fn renew(&mut self, alloc: Global, program: &Node) -> Result<bool, OutOfMemory>
-        ensures knows { OnOk result (KnowsAnew Knows self.old self.new program.now) }
-        ensures renewed { IfOk result (λ answer. Renewed answer self.old.scopes self.new.scopes program.now) }
-    {
-        if reference_count(program) > 4_294_967_294 {
-            return Err(OutOfMemory);
-        }
-        renew(alloc, program, self)
-    }
 }
 
 impl Context for TraverseCtx {

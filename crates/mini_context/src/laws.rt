@@ -1,6 +1,6 @@
 //! Laws of counts. Each is the contract of a function that does nothing.
 
-ghost use Rattle.mini_context.specs.Steady.{BodiesTold, StayingTells, SteadyTells};
+ghost use Rattle.mini_context.specs.Steady.{BodiesTold, SteadyTells};
 ghost use Rattle.mini_context.specs.Laws.{CountsTell, DeclaratorsTell, ForeignTells, NamesTell, RefreshTells, SharesTell, TablesTell, UsesTell};
 
 /// The counts by symbol of a tree are how often each symbol is read, and how often it is written.
@@ -36,12 +36,6 @@ pub fn steady_tells()
 /// The tables of a program tell all that is told of bodies.
 pub fn bodies_told()
     ensures { BodiesTold }
-{}
-
-/// What is told of a body in a program, and stays from one look to the next, is so in the later
-/// program.
-pub fn staying_tells()
-    ensures { StayingTells }
 {}
 
 /// After a refresh the tables tell what is foreign to a body, and what is steady in it, of the

@@ -24,8 +24,6 @@ mod refreshing;
 mod resolution;
 mod scopes;
 mod standing;
-mod staying;
-mod steady;
 mod steps;
 mod strictness;
 mod survey;
@@ -35,7 +33,7 @@ pub use context::{Parent, TraverseCtx};
 pub use count::{Counts, Tally, fresh_counts, tally_node};
 pub use laws::{
     bodies_told, counts_tell, declarators_tell, foreign_tells, names_tell, refresh_tells,
-    shares_tell, staying_tells, steady_tells, tables_tell, uses_tell,
+    shares_tell, steady_tells, tables_tell, uses_tell,
 };
 pub use refreshing::refresh;
 pub use resolution::resolve;

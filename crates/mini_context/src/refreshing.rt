@@ -1,10 +1,9 @@
 //! What is known of the names of a program, anew.
 
-ghost use Rattle.std.specs.Prelude.{◌≡◌, ◌+◌, ◌<◌, ◌^◌, length, OnOk, IfOk};
+ghost use Rattle.std.specs.Prelude.{◌≡◌, ◌+◌, ◌<◌, ◌^◌, length, OnOk};
 ghost use Rattle.mini_laws.specs.declared.names.Use.TheVariants as variant;
 ghost use Rattle.mini_laws.specs.References.{references};
 ghost use Rattle.mini_context.specs.Facts.{Refreshed};
-ghost use Rattle.mini_context.specs.Steady.{Renewed};
 
 use crate::context::TraverseCtx;
 use mini_model::OutOfMemory;
@@ -21,17 +20,4 @@ pub fn refresh(alloc: Global, program: &Node, context: &mut TraverseCtx) -> Resu
     ensures changes { OnOk result (context.new.changes ≡ context.old.changes) }
 {
     context.scopes.refresh(alloc, program)
-}
-
-/// Looks at a program as `refresh` does, and answers whether all that was told of each body before
-/// is so in this program. The only error is that memory runs out, and then the context is fit only
-/// to be dropped.
-pub fn renew(alloc: Global, program: &Node, context: &mut TraverseCtx) -> Result<bool, OutOfMemory>
-    requires { length (references variant.Read program.now) + 1 < 2 ^ 32 }
-    ensures renewed { IfOk result (λ answer. Renewed answer context.old.scopes context.new.scopes program.now) }
-    ensures options { OnOk result (context.new.options ≡ context.old.options) }
-    ensures parent { OnOk result (context.new.parent ≡ context.old.parent) }
-    ensures changes { OnOk result (context.new.changes ≡ context.old.changes) }
-{
-    context.scopes.renew(alloc, program)
 }

@@ -6,12 +6,12 @@ ghost use Rattle.mini_laws.specs.References.{references, reads as is_read, write
 ghost use Rattle.mini_laws.specs.Shared.{script_tops as script_tops_of};
 ghost use Rattle.mini_context.specs.Mentioned.{is_outside as is_outside_of, mentioned_at as entry_at};
 ghost use Rattle.mini_context.specs.Own.{is_script_shape};
-ghost use Rattle.mini_context.specs.Facts.{Refreshed, Tells, Told, facts_of, foreign, foreign_always, is_changed as changes, is_changed_outside, may_be_unset, shared_always, shares};
+ghost use Rattle.mini_context.specs.Facts.{Refreshed, Tells, Told, facts_of, foreign, foreign_always, is_assigned as assigned, is_changed as changes, is_changed_outside, may_be_unset, shared_always, shares};
 ghost use Rattle.mini_context.specs.Found.{Found, FoundScopes};
 ghost use Rattle.mini_laws.specs.Foreign.{is_read_early, moments as moments_of};
 ghost use Rattle.mini_laws.specs.Mentions.{outermost};
 ghost use Rattle.mini_context.specs.Lists.{holds};
-ghost use Rattle.mini_context.specs.Steady.{has_this as this_held, is_initial as initial, is_past as past, is_steady as steady, is_unshared as unshared, Renewed};
+ghost use Rattle.mini_context.specs.Steady.{has_this as this_held, is_initial as initial, is_past as past, is_steady as steady, is_unshared as unshared};
 ghost use Rattle.mini_context.specs.Tables.{mark_at, named, Marked};
 ghost use Rattle.mini_laws.specs.Counts.{Contained, FellBy};
 
@@ -21,10 +21,9 @@ use crate::early::{Moments, empty_moments, open_moments, pass_node};
 use crate::listing::{ScopeTables, empty_scopes, has_eval, list_scopes, open_scopes};
 use crate::lists::holds_number;
 use crate::marks::{is_marked, mark_bindings, no_marks};
-use crate::mentions::{is_outside, mentioned_at};
+use crate::mentions::{is_outside, is_somewhere, mentioned_at};
 use crate::params::is_around;
 use crate::standing::{at_top, first_reading};
-use crate::steady::{is_changed, is_foreign_always, is_shared_always, look_stays};
 use crate::steps::Steps;
 use crate::survey::{Tables, empty_tables, open_tables, survey_node};
 use crate::writable::mark_writable;
@@ -227,38 +226,6 @@ impl Scopes {
         }
     }
 
-    /// Looks at a program as `refresh` does, and answers whether all that was told of each body
-    /// before is so in this program: which symbols are steady there, which it begins with, which it
-    /// doesn't share, and that it has a `this`. After `OutOfMemory` what is known is fit only to be
-    /// dropped.
-    pub fn renew(&mut self, alloc: Global, program: &Node) -> Result<bool, OutOfMemory>
-        requires { length (references variant.Read program.now) + 1 < 2 ^ 32 }
-        ensures { IfOk result (λ answer. Renewed answer self.old self.new program.now) }
-    {
-        match u32::try_from(self.look.counts.reads.len()) {
-            Ok(symbols) => self.look_again(alloc, program, symbols),
-            Err(_) => Err(OutOfMemory),
-        }
-    }
-
-    // What `renew` does, with how many symbols there are.
-    fn look_again(
-        &mut self,
-        alloc: Global,
-        program: &Node,
-        symbols: u32,
-    ) -> Result<bool, OutOfMemory>
-        requires references { length (references variant.Read program.now) + 1 < 2 ^ 32 }
-        requires symbols { symbols ≡ length self.old.reads }
-        ensures { IfOk result (λ answer. Renewed answer self.old self.new program.now) }
-    {
-        let mut look = no_look(alloc);
-        look_at(&mut look, alloc, program, symbols)?;
-        let answer = look_stays(alloc, &self.look, &look, symbols);
-        self.look = look;
-        answer
-    }
-
     /// Whether there is no room for the symbol: the program that was looked at last doesn't mention
     /// it.
     pub fn is_past(&self, symbol: SymbolId) -> bool
@@ -267,12 +234,12 @@ impl Scopes {
         symbol.0 as usize >= self.look.counts.reads.len()
     }
 
-    /// Whether the symbol is steady in the body with this number: nothing writes it, and it isn't
-    /// foreign to the body.
+    /// Whether the symbol is steady in the body with this number: no reference writes it, and it
+    /// isn't foreign to the body. What a `var` of the body gives it isn't counted.
     pub fn is_steady(&self, symbol: SymbolId, body: u32) -> bool
         ensures { result ≡ steady self.now symbol.0 body }
     {
-        !self.is_changed(symbol.0) && !self.is_foreign(symbol, body)
+        !self.is_assigned(symbol.0) && !self.is_foreign(symbol, body)
     }
 
     /// Whether no event of the body with this number shows the symbol: the body doesn't share it.
@@ -387,10 +354,16 @@ impl Scopes {
         self.is_shared_always(symbol.0) || self.is_mentioned_outside(symbol, body)
     }
 
+    // Whether every body shares the symbol that mentions it.
     fn is_shared_always(&self, symbol: u32) -> bool
         ensures { result ≡ shared_always self.now symbol }
     {
-        is_shared_always(&self.look, symbol)
+        is_marked(self.look.tops.as_slice(), symbol)
+            || is_marked(self.look.tables.exchanged.as_slice(), symbol)
+            || is_marked(self.look.scopes.seen.as_slice(), symbol)
+            || is_marked(self.look.tables.reached.as_slice(), symbol)
+            || is_marked(self.look.tables.caught.as_slice(), symbol)
+            || is_marked(self.look.pattern_writes.as_slice(), symbol)
     }
 
     /// Whether the symbol is foreign to the body with this number: others may change it while the
@@ -404,17 +377,31 @@ impl Scopes {
             || self.may_be_unset(symbol.0, body)
     }
 
+    // Whether the symbol is foreign to every body.
     fn is_foreign_always(&self, symbol: u32) -> bool
         ensures { result ≡ foreign_always self.now symbol }
     {
-        is_foreign_always(&self.look, symbol)
+        is_marked(self.look.tables.imported.as_slice(), symbol)
+            || is_marked(self.look.tops.as_slice(), symbol)
+            || is_marked(self.look.scopes.seen.as_slice(), symbol)
+            || is_marked(self.look.tables.reached.as_slice(), symbol)
+            || is_marked(self.look.tables.patterns.as_slice(), symbol)
+            || is_marked(self.look.pattern_writes.as_slice(), symbol)
     }
 
-    // Whether something writes the symbol.
+    // Whether a reference writes the symbol.
+    fn is_assigned(&self, symbol: u32) -> bool
+        ensures { result ≡ assigned self.now symbol }
+    {
+        is_somewhere(mentioned_at(self.look.tables.written.as_slice(), symbol))
+    }
+
+    // Whether a `var` gives the symbol a value, or a reference writes it.
     fn is_changed(&self, symbol: u32) -> bool
         ensures { result ≡ changes self.now symbol }
     {
-        is_changed(&self.look, symbol)
+        is_somewhere(mentioned_at(self.look.tables.given.as_slice(), symbol))
+            || self.is_assigned(symbol)
     }
 
     // Whether something writes the symbol in another body than this or in a carried node.

@@ -1,5 +1,5 @@
 -- What is lifted out or spread is what a row says, and where nothing is no row reads the expression.
-use Rattle.std.proofs.Common.{◌≡◌, ℕ, zero, suc, ◌<◌, ◌≤◌, Bool, true, false, Option, Some, None, refl, sym, ap, ◌∙◌, inl, inr, true≢false, arith}
+use Rattle.std.proofs.Common.{◌≡◌, ℕ, zero, suc, ◌<◌, ◌≤◌, Bool, true, false, Option, Some, None, refl, sym, ap, ◌∙◌, subst, inl, inr, true≢false, arith}
 use Rattle.std.specs.Prelude.{◌+◌, ◌==◌, List, [], ◌∷◌, not, ◌&&◌, ◌||◌, nat_eq, nat_le, is_some, if◌then◌else◌}
 use Rattle.std.proofs.lemmas.Bool.{and_parts, false≢true, le-leb, leb-true, eqb-true}
 use Rattle.mini_model.specs.declared.operator.BinaryOperator.{BinaryOperator}
@@ -12,6 +12,7 @@ use Rattle.mini_model.specs.declared.seat.Seat.{Seat}
 use Rattle.mini_model.specs.declared.name.Name.{Name}
 use Rattle.mini_model.specs.declared.shape.Shape.{Shape}
 use Rattle.mini_model.specs.declared.shape.Shape.TheVariants as shape
+use Rattle.mini_model.specs.Rewriting.{Reaches, done, more, here}
 use Rattle.mini_model.specs.Tree.{Tree, Trees, node, none, ◌▸◌, count, node_count, shape_of, children, child_or_absent, first_or_absent}
 use Rattle.mini_model.specs.Paths.{append}
 use Rattle.mini_model.specs.Position.{passed_part_seat}
@@ -25,9 +26,11 @@ use Rattle.mini_terms.specs.Folds.{is_effect_free}
 use Rattle.mini_terms.specs.Parts.{is_number, leaves_nothing, weighs}
 use Rattle.mini_rows.specs.Sequences.{Plus, Minus, Complement, Operation, Decides, Chooses, Negates, Operates, Converts, Yields, over, along, innermost, operation_shape, operand_seat, takes_last, takes_along, is_inner_shape, is_bare_at, lifts_out, takes_alone, stays_alone, Row20, Row21, Row21Idle, Row21Alone, SequenceRow}
 use Rattle.mini_rows.proofs.SequenceWeights.{lighter}
-use Rattle.mini_tree.specs.Rule.{Applied}
+use Rattle.mini_tree.specs.Rule.{Applied, Moves}
 use Rattle.mini_tree.proofs.Reaching.{moves_once}
-use Rattle.mini_fold.specs.FoldSequences.{has_several, is_several, last_of, but_last, converts, is_minus, is_operation, takes_last_of, is_yield, gives_parts, reaches_sequence, first_place, ends_bare, leaves_bare, has_room, is_lifted, parts_before, left_of, lifted, any_of, is_nested, spread_at, is_idle, idle_before_last, is_left, loses_part, Gives, Rests}
+use Rattle.mini_held.specs.Parts.{idle_before_last, left_after}
+use Rattle.mini_held.proofs.PartsGone.{count_with, found as found_idle, parts_go}
+use Rattle.mini_fold.specs.FoldSequences.{has_several, is_several, last_of, but_last, converts, is_minus, is_operation, takes_last_of, is_yield, gives_parts, reaches_sequence, first_place, ends_bare, leaves_bare, has_room, is_lifted, parts_before, left_of, lifted, any_of, is_nested, spread_at, is_idle, is_left, loses_part, Gives, Rests}
 
 pub several_by_count : (ts : Trees) → nat_le 2 (count ts) ≡ has_several ts
 several_by_count none = refl
@@ -453,40 +456,34 @@ found (u ▸ us) t after e = or_true (is_several u) (any_of is_several (append u
 
 -- ---- 21, of parts that have no effect
 
-without_is : (ts : Trees) (i : ℕ) → i < count ts → without ts i ≡ append (first_children i ts) (rest_children (suc i) ts)
-without_is none i h = absurd (omega (arith, h))
-without_is (t ▸ ts) zero h = sym (from_first ts)
-without_is (t ▸ ts) (suc i) h = ap (λ us. t ▸ us) (without_is ts i (omega (arith, h)))
-
-count_without : (ts : Trees) (i : ℕ) → i < count ts → suc (count (without ts i)) ≡ count ts
-count_without none i h = absurd (omega (arith, h))
-count_without (t ▸ ts) zero h = refl
-count_without (t ▸ ts) (suc i) h = ap suc (count_without ts i (omega (arith, h)))
-
-idle_row : (t : Tree) (i : ℕ) → is_sequence t ≡ true → i + 1 < count (children (part t 0)) → is_idle (child_or_absent (children (part t 0)) i) ≡ true → nat_le 3 (count (children (part t 0))) ≡ true → Row21Idle t (sequence (without (children (part t 0)) i))
-idle_row t i is h e k =
-    let ts : Trees = children (part t 0) in
-    let idle : Tree = child_or_absent ts i in
-    let here : i < count ts = omega (arith, h) in
-    let (free, rest) = and_parts (is_effect_free idle) (leaves_nothing idle && weighs idle) e in
-    let (dropped, heavy) = and_parts (leaves_nothing idle) (weighs idle) rest in
-    let next : rest_children (suc i) ts ≡ child_or_absent ts (suc i) ▸ rest_children (suc (suc i)) ts = next_child ts (suc i) (omega (arith, h)) in
-    let kept : without ts i ≡ append (first_children i ts) (child_or_absent ts (suc i) ▸ rest_children (suc (suc i)) ts) = without_is ts i here ∙ ap (append (first_children i ts)) next in
-    let whole : ts ≡ append (first_children i ts) (idle ▸ (child_or_absent ts (suc i) ▸ rest_children (suc (suc i)) ts)) = split ts i here ∙ ap (λ us. append (first_children i ts) (idle ▸ without us 0)) (next_child ts i here) ∙ ap (λ us. append (first_children i ts) (idle ▸ us)) next in record {
-      before = first_children i ts;
-      idle = idle;
-      next = child_or_absent ts (suc i);
-      after = rest_children (suc (suc i)) ts;
+idle_row : (before : Trees) (a q : Tree) (qs : Trees) → is_idle a ≡ true → nat_le 2 (count (append before (q ▸ qs))) ≡ true → Row21Idle (sequence (append before (a ▸ (q ▸ qs)))) (sequence (append before (q ▸ qs)))
+idle_row before a q qs e several =
+    let (free, rest) = and_parts (is_effect_free a) (leaves_nothing a && weighs a) e in
+    let (dropped, heavy) = and_parts (leaves_nothing a) (weighs a) rest in record {
+      before = before;
+      idle = a;
+      next = q;
+      after = qs;
       effect_free = free;
       dropped = dropped;
       heavy = heavy;
-      several = ap (λ us. nat_le 2 (count us)) (sym kept) ∙ le-leb 2 (count (without ts i)) (omega (arith, count_without ts i here, leb-true 3 (count ts) k));
-      shape = sequence_is t is ∙ ap sequence whole;
-      written = ap sequence kept;
+      several = several;
+      shape = refl;
+      written = refl;
     }
 
-pub idle_applied : (s : Seat) (t : Tree) (i : ℕ) → is_sequence t ≡ true → i + 1 < count (children (part t 0)) → is_idle (child_or_absent (children (part t 0)) i) ≡ true → nat_le 3 (count (children (part t 0))) ≡ true → Applied Gives Rests (Expr s) t (sequence (without (children (part t 0)) i)) true
-idle_applied s t i is h e k = let row = idle_row t i is h e k in let w : Tree = sequence (without (children (part t 0)) i) in moves_once Gives (Expr s) t w (record { row = inr (inr (inl row)); lighter = lighter (Expr s) t w (inr (inr (inl row))) })
+-- a part goes, and others after it
+idle_goes : (s : Seat) (before : Trees) (a q : Tree) (qs : Trees) (v : Tree) → is_idle a ≡ true → nat_le 2 (count (append before (q ▸ qs))) ≡ true → Reaches Gives (Expr s) (sequence (append before (q ▸ qs))) v → Moves Gives (Expr s) (sequence (append before (a ▸ (q ▸ qs)))) v
+idle_goes s before a q qs v e several others =
+    let t : Tree = sequence (append before (a ▸ (q ▸ qs))) in
+    let w : Tree = sequence (append before (q ▸ qs)) in
+    let row : Row21Idle t w = idle_row before a q qs e several in
+    record { next = w; step = here (Expr s) t w (record { row = inr (inr (inl row)); lighter = lighter (Expr s) t w (inr (inr (inl row))) }); others = others }
+
+pub idle_applied : (s : Seat) (t : Tree) → is_sequence t ≡ true → idle_before_last is_idle (children (part t 0)) ≡ true → nat_le 3 (count (children (part t 0))) ≡ true → Moves Gives (Expr s) t (sequence (left_after is_idle 0 (children (part t 0))))
+idle_applied s t is e k =
+    subst (λ u. Moves Gives (Expr s) u (sequence (left_after is_idle 0 (children (part t 0))))) (sym (sequence_is t is))
+    (parts_go is_idle (Reaches Gives (Expr s)) (Moves Gives (Expr s)) (done (Expr s)) (idle_goes s) (λ u v m. more (Expr s) u m.next v m.step m.others) (children (part t 0)) e k)
 
 alone_row : (s : Seat) (t : Tree) → is_sequence t ≡ true → is_left s (children (part t 0)) ≡ true → Row21Alone s t (child_or_absent (children (part t 0)) 1)
 alone_row s t is e = go (children (part t 0)) refl e
@@ -505,20 +502,11 @@ alone_row s t is e = go (children (part t 0)) refl e
 pub alone_applied : (s : Seat) (t : Tree) → is_sequence t ≡ true → is_left s (children (part t 0)) ≡ true → Applied Gives Rests (Expr s) t (child_or_absent (children (part t 0)) 1) true
 alone_applied s t is e = let row = alone_row s t is e in let w : Tree = child_or_absent (children (part t 0)) 1 in moves_once Gives (Expr s) t w (record { row = inr (inr (inr row)); lighter = lighter (Expr s) t w (inr (inr (inr row))) })
 
-found_idle : (before : Trees) (a q : Tree) (qs : Trees) → is_idle a ≡ true → idle_before_last (append before (a ▸ (q ▸ qs))) ≡ true
-found_idle none a q qs e = ap (λ b. b || idle_before_last (q ▸ qs)) e
-found_idle (u ▸ none) a q qs e = or_true (is_idle u) (idle_before_last (a ▸ (q ▸ qs))) (found_idle none a q qs e)
-found_idle (u ▸ (v ▸ vs)) a q qs e = or_true (is_idle u) (idle_before_last (v ▸ append vs (a ▸ (q ▸ qs)))) (found_idle (v ▸ vs) a q qs e)
-
-count_with_idle : (before : Trees) (a q : Tree) (qs : Trees) → count (append before (a ▸ (q ▸ qs))) ≡ suc (count (append before (q ▸ qs)))
-count_with_idle none a q qs = refl
-count_with_idle (u ▸ us) a q qs = ap suc (count_with_idle us a q qs)
-
 loses_idle : (s : Seat) (before : Trees) (a q : Tree) (qs : Trees) → is_idle a ≡ true → nat_le 2 (count (append before (q ▸ qs))) ≡ true → loses_part s (sequence (append before (a ▸ (q ▸ qs)))) ≡ true
 loses_idle s before a q qs e h =
     let ts : Trees = append before (a ▸ (q ▸ qs)) in
-    ap (λ b. if b then idle_before_last ts else is_left s ts) (le-leb 3 (count ts) (omega (arith, count_with_idle before a q qs, leb-true 2 (count (append before (q ▸ qs))) h)))
-    ∙ found_idle before a q qs e
+    ap (λ b. if b then idle_before_last is_idle ts else is_left s ts) (le-leb 3 (count ts) (omega (arith, count_with before a q qs, leb-true 2 (count (append before (q ▸ qs))) h)))
+    ∙ found_idle is_idle before a q qs e
 
 idle_parts : (a : Tree) → is_effect_free a ≡ true → leaves_nothing a ≡ true → weighs a ≡ true → is_idle a ≡ true
 idle_parts a e f g = both_true (is_effect_free a) (leaves_nothing a && weighs a) e (both_true (leaves_nothing a) (weighs a) f g)
@@ -531,50 +519,19 @@ rests s t h k l w (inr (inr (inr r))) = true≢false (sym (both_true (takes_alon
 
 -- what is no sequence loses no part
 pub not_losing : (s : Seat) (t : Tree) → is_sequence t ≡ false → loses_part s t ≡ false
-not_losing s t e = ap (λ b. b && (if nat_le 3 (count (children (part t 0))) then idle_before_last (children (part t 0)) else is_left s (children (part t 0)))) e
+not_losing s t e = ap (λ b. b && (if nat_le 3 (count (children (part t 0))) then idle_before_last is_idle (children (part t 0)) else is_left s (children (part t 0)))) e
 
-pub no_idle : (s : Seat) (t : Tree) → is_sequence t ≡ true → nat_le 3 (count (children (part t 0))) ≡ true → idle_before_last (children (part t 0)) ≡ false → loses_part s t ≡ false
+pub no_idle : (s : Seat) (t : Tree) → is_sequence t ≡ true → nat_le 3 (count (children (part t 0))) ≡ true → idle_before_last is_idle (children (part t 0)) ≡ false → loses_part s t ≡ false
 no_idle s t is k e =
-    ap (λ b. b && (if nat_le 3 (count (children (part t 0))) then idle_before_last (children (part t 0)) else is_left s (children (part t 0)))) is
-    ∙ ap (λ b. if b then idle_before_last (children (part t 0)) else is_left s (children (part t 0))) k
+    ap (λ b. b && (if nat_le 3 (count (children (part t 0))) then idle_before_last is_idle (children (part t 0)) else is_left s (children (part t 0)))) is
+    ∙ ap (λ b. if b then idle_before_last is_idle (children (part t 0)) else is_left s (children (part t 0))) k
     ∙ e
 
 pub not_left : (s : Seat) (t : Tree) → is_sequence t ≡ true → nat_le 3 (count (children (part t 0))) ≡ false → is_left s (children (part t 0)) ≡ false → loses_part s t ≡ false
 not_left s t is k e =
-    ap (λ b. b && (if nat_le 3 (count (children (part t 0))) then idle_before_last (children (part t 0)) else is_left s (children (part t 0)))) is
-    ∙ ap (λ b. if b then idle_before_last (children (part t 0)) else is_left s (children (part t 0))) k
+    ap (λ b. b && (if nat_le 3 (count (children (part t 0))) then idle_before_last is_idle (children (part t 0)) else is_left s (children (part t 0)))) is
+    ∙ ap (λ b. if b then idle_before_last is_idle (children (part t 0)) else is_left s (children (part t 0))) k
     ∙ e
-
--- ---- a look for a part that has no effect
-
-pub idle_stops : (ts : Trees) (i : ℕ) → i + 1 < count ts → is_idle (child_or_absent ts i) ≡ true → idle_before_last (rest_children i ts) ≡ idle_before_last ts → true ≡ idle_before_last ts
-idle_stops ts i h e inv =
-    sym (ap (λ b. b || idle_before_last (child_or_absent ts (suc i) ▸ rest_children (suc (suc i)) ts)) e)
-    ∙ sym (ap idle_before_last (next_child ts i (omega (arith, h)) ∙ ap (λ us. child_or_absent ts i ▸ us) (next_child ts (suc i) (omega (arith, h)))))
-    ∙ inv
-
-pub idle_goes_on : (ts : Trees) (i : ℕ) → i + 1 < count ts → is_idle (child_or_absent ts i) ≡ false → idle_before_last (rest_children i ts) ≡ idle_before_last ts → idle_before_last (rest_children (i + 1) ts) ≡ idle_before_last ts
-idle_goes_on ts i h e inv =
-    let next : i + 1 ≡ suc i = omega arith in
-    let second = next_child ts (suc i) (omega (arith, h)) in
-    ap (λ k. idle_before_last (rest_children k ts)) next
-    ∙ ap idle_before_last second
-    ∙ sym (ap (λ b. b || idle_before_last (child_or_absent ts (suc i) ▸ rest_children (suc (suc i)) ts)) e)
-    ∙ sym (ap idle_before_last (next_child ts i (omega (arith, h)) ∙ ap (λ us. child_or_absent ts i ▸ us) second))
-    ∙ inv
-
-pub idle_ends : (ts : Trees) (i : ℕ) → count ts ≤ i + 1 → idle_before_last (rest_children i ts) ≡ idle_before_last ts → false ≡ idle_before_last ts
-idle_ends ts i h inv = sym (few (rest_children i ts) (at_most ts i h)) ∙ inv
-  where
-    few : (us : Trees) → count us ≤ 1 → idle_before_last us ≡ false
-    few none k = refl
-    few (u ▸ none) k = refl
-    few (u ▸ (v ▸ vs)) k = absurd (omega (arith, k))
-
-    at_most : (ts : Trees) (i : ℕ) → count ts ≤ i + 1 → count (rest_children i ts) ≤ 1
-    at_most none i h = omega arith
-    at_most (t ▸ ts) zero h = omega (arith, h)
-    at_most (t ▸ ts) (suc i) h = at_most ts i (omega (arith, h))
 
 pub not_nested : (t : Tree) → is_sequence t ≡ false → is_nested t ≡ false
 not_nested t e = ap (λ b. b && any_of is_several (children (part t 0))) e

@@ -17,6 +17,7 @@ use Rattle.mini_node.specs.Children.{part, is_bare, first_children, rest_childre
 use Rattle.mini_node.specs.Kinds.{logical_operator, binary_operator, unary_operator, is_conditional, is_negation, is_sequence_shape, is_sequence, sequence}
 use Rattle.mini_terms.specs.Folds.{is_effect_free}
 use Rattle.mini_terms.specs.Parts.{is_number, leaves_nothing, weighs}
+use Rattle.mini_held.specs.Parts.{idle_before_last}
 use Rattle.mini_rows.specs.Sequences.{is_bare_at, takes_alone, stays_alone, SequenceRow, SequenceContracts}
 
 -- two or more
@@ -134,19 +135,13 @@ spread_at i ts = append (append (first_children i ts) (children (part (first_or_
 abbrev pub is_idle : Tree → Bool
 is_idle t = is_effect_free t && (leaves_nothing t && weighs t)
 
--- one of them is such, and not the last
-abbrev pub idle_before_last : Trees → Bool
-idle_before_last none = false
-idle_before_last (t ▸ none) = false
-idle_before_last (t ▸ (u ▸ us)) = is_idle t || idle_before_last (u ▸ us)
-
 -- of two the last one may stand alone
 abbrev pub is_left : Seat → Trees → Bool
 is_left s ts = nat_eq (count ts) 2 && (takes_alone s && (is_idle (child_or_absent ts 0) && stays_alone s (child_or_absent ts 1)))
 
--- a part of a sequence goes
+-- a part of a sequence goes, and is not the last, where there are three or more
 abbrev pub loses_part : Seat → Tree → Bool
-loses_part s t = is_sequence t && (if nat_le 3 (count (children (part t 0))) then idle_before_last (children (part t 0)) else is_left s (children (part t 0)))
+loses_part s t = is_sequence t && (if nat_le 3 (count (children (part t 0))) then idle_before_last is_idle (children (part t 0)) else is_left s (children (part t 0)))
 
 -- ---- all
 

@@ -1,2 +1,3 @@
 pub mod Enclosing
 pub mod NeverEqual
+pub mod PartsGone

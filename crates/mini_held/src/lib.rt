@@ -5,8 +5,10 @@
 
 mod alone;
 mod held_names;
+mod parts;
 mod types;
 
 pub use alone::{stays_alone, takes_alone};
 pub use held_names::takes_names_along;
+pub use parts::{IdleParts, drop_parts};
 pub use types::{UNDEFINED, is_equality, is_never_type, is_typeof, negated_digit, says_equal};

@@ -1,7 +1,7 @@
 -- What holds of trees by their parts holds so of the statements of a list, too: of a loop whose
 -- head declares no lexical name, of a `switch`, and of a `var`.
-use Rattle.std.specs.Prelude.{ℕ, suc, ◌≡◌, refl, nat_eq, Bool, true, false, ◌&&◌, ◌||◌, not, [], ◌++◌}
-use Rattle.std.proofs.Common.{ap, ◌∙◌, sym, subst}
+use Rattle.std.specs.Prelude.{ℕ, suc, ◌≡◌, refl, nat_eq, Bool, true, false, ◌&&◌, ◌||◌, not, List, [], ◌∷◌, ◌++◌, length, map, if◌then◌else◌}
+use Rattle.std.proofs.Common.{ap, ◌∙◌, sym, subst, arith}
 use Rattle.std.proofs.lemmas.Bool.{and_parts}
 use Rattle.std.proofs.lemmas.List.{append-nil}
 use Rattle.mini_model.specs.declared.kind.VariableDeclarationKind.{VariableDeclarationKind}
@@ -12,18 +12,21 @@ use Rattle.mini_model.specs.Tree.{Tree, Trees, none, ◌▸◌, listed, absent, 
 use Rattle.mini_laws.specs.declared.names.Declared.TheVariants as declared
 use Rattle.mini_laws.specs.declared.names.Use.{Use}
 use Rattle.mini_laws.specs.declared.names.Use.TheVariants.{Read, Write, Hoisted, Headed, Alone}
+use Rattle.mini_laws.specs.declared.names.Binding.{Binding}
+use Rattle.mini_laws.specs.declared.names.Opening.TheVariants as opening
 use Rattle.mini_laws.specs.DeclaredNames.{names_of}
+use Rattle.mini_laws.proofs.Numbers.{fresh, with_fresh}
 use Rattle.mini_laws.specs.Foreign.{has_number, any_has_number}
 use Rattle.mini_laws.specs.Mentions.{is_among, is_elsewhere, same_variable}
 use Rattle.mini_laws.specs.References.{reads}
 use Rattle.mini_laws.specs.Resolved.{Environment}
 use Rattle.mini_laws.specs.ScopeList.{has_eval, any_has_eval, by_symbol}
-use Rattle.mini_laws.specs.Scopes.{use_of, opened, scopes_by, hoisted_by}
+use Rattle.mini_laws.specs.Scopes.{use_of, is_alone, opened, scopes_by, at_or_empty, lexical_scope, hoisted_by}
 use Rattle.mini_laws.specs.Shared.{names_arguments, any_names_arguments, is_of_function}
 use Rattle.mini_kept.specs.KeepsNames.{is_statement_use}
 use Rattle.mini_kept.proofs.Quiet.{is_quiet, no_names}
 use Rattle.mini_shrink.specs.Pace.{Pace, Silent, followed, ends_after, all_followed, in_turn, reads_if, Setting, below, pace, paces}
-use Rattle.mini_shrink.specs.Questions.{Own, finds, finds_each, any_of, early, hands_on}
+use Rattle.mini_shrink.specs.Questions.{Own, finds, finds_each, any_of, early, hands_on, alone_names}
 use Rattle.mini_rows.specs.Lists.{binding, declarator, declaration, bare_var, switch, is_unscoped}
 use Rattle.mini_rows.specs.Sketches.{AList, If, Asked, AsValue, AsTarget, AsItem, AsWholeItem, AsWholeList, use_by}
 use Rattle.mini_rows.proofs.Arranging.{All, Any, Below, all_of, of_all}
@@ -88,6 +91,31 @@ kind_use Let = refl
 kind_use Const = refl
 
 -- ---- what is found
+
+-- a declaration that opens no scope declares no name in one
+empty_scope : (xs : List Name) → lexical_scope xs ≡ [] → xs ≡ []
+empty_scope [] e = refl
+empty_scope (x ∷ xs) e = absurd (let long : suc (length (lexical_tail x xs)) ≡ 0 = sym (ap (λ ys. length (map as_lexical ys)) (with_fresh [] (x ∷ xs))) ∙ ap length e in omega (arith, long))
+  where
+    as_lexical : Name → Binding
+    as_lexical y = record { name = y; hoists = false }
+
+    lexical_tail : Name → List Name → List Binding
+    lexical_tail y ys = map as_lexical (fresh (y ∷ []) ys)
+
+nothing_alone : (u : Use) (k : VariableDeclarationKind) (t : Tree) → opened u (shape.VariableDeclaration k) (t ▸ none) 0 ≡ [] → alone_names u k t ≡ []
+unfolding scopes_by
+nothing_alone u Var t e = refl
+nothing_alone u Let t e = by (is_alone u) e
+  where
+    by : (b : Bool) → at_or_empty (scopes_by (if b then opening.Bound else opening.Nothing) (t ▸ none)) 0 ≡ [] → (if b then names_of declared.Bound t else []) ≡ []
+    by true f = empty_scope (names_of declared.Bound t) f
+    by false f = refl
+nothing_alone u Const t e = by (is_alone u) e
+  where
+    by : (b : Bool) → at_or_empty (scopes_by (if b then opening.Bound else opening.Nothing) (t ▸ none)) 0 ≡ [] → (if b then names_of declared.Bound t else []) ≡ []
+    by true f = empty_scope (names_of declared.Bound t) f
+    by false f = refl
 
 module _ (o : Own) (t : TellsLists o) (c : Setting) (env : Environment) (r : c.used ≡ Read) where
   su : is_statement_use c.used ≡ true
@@ -328,10 +356,13 @@ module _ (m s : ℕ) (c : Setting) (env : Environment) (r : c.used ≡ Read) whe
     abbrev listing : Bool → Setting
     listing b = record { used = v; around = c.around; strict = c.strict; is_body = false; belongs = c.belongs; ordered = b }
 
-    no_order : (kind : VariableDeclarationKind) → ((hands_on (shape.VariableDeclaration kind) && false) || false) ≡ false
-    no_order Var = refl
-    no_order Let = refl
-    no_order Const = refl
+    no_order : (ds : Trees) → ((hands_on (shape.VariableDeclaration k) && false) || is_among (by_symbol s) (alone_names (use_by c.used u) k (listed ds))) ≡ false
+    no_order ds = by k (nothing_alone (use_by c.used u) k (listed ds) (closed ds))
+      where
+        by : (kind : VariableDeclarationKind) → alone_names (use_by c.used u) k (listed ds) ≡ [] → ((hands_on (shape.VariableDeclaration kind) && false) || is_among (by_symbol s) (alone_names (use_by c.used u) k (listed ds))) ≡ false
+        by Var e = ap (is_among (by_symbol s)) e
+        by Let e = ap (is_among (by_symbol s)) e
+        by Const e = ap (is_among (by_symbol s)) e
 
     calm_around : (b : Bool) → below b (stood u) (shape.VariableDeclaration k) 0 0 ≡ listing b
     calm_around b = λ i. record { used = used i; around = c.around; strict = c.strict; is_body = false; belongs = belongs_same If c.belongs 0 i; ordered = b }
@@ -340,7 +371,7 @@ module _ (m s : ℕ) (c : Setting) (env : Environment) (r : c.used ≡ Read) whe
     unfolding pace
     var_says ds =
         let later = env ++ opened (use_by c.used u) (shape.VariableDeclaration k) (listed ds ▸ none) 0 in
-        (λ j. followed (ends_after ((early m s).ends (calm_around (no_order k j) j) (listed ds)) (pace (early m s) (calm_around (no_order k j) j) later (listed ds))) Silent)
+        (λ j. followed (ends_after ((early m s).ends (calm_around (no_order ds j) j) (listed ds)) (pace (early m s) (calm_around (no_order ds j) j) later (listed ds))) Silent)
         ∙ ap (λ r. followed (ends_after false (pace (early m s) (listing false) r (listed ds))) Silent) (ap (λ b. env ++ b) (closed ds) ∙ append-nil env)
 
     pub var_calm : (ds : Trees) → C u (declaration k ds) → All (Declaring v) AsWholeItem ds

@@ -145,29 +145,31 @@ bare_turn shape.ForInStatement e ps = absurd (cc e)
 bare_turn shape.ForOfStatement e ps = absurd (cc e)
 bare_turn h e ps = refl
 
-pub calm_listed : (h : Shape) → is_calm_shape h ≡ true → (ts : Trees) → listed_names h ts ≡ []
-calm_listed (shape.Program m ds) e ts = absurd (cc e)
-calm_listed shape.FunctionBody e ts = absurd (cc e)
-calm_listed shape.StaticBlock e ts = absurd (cc e)
-calm_listed shape.BlockStatement e ts = absurd (cc e)
-calm_listed shape.ForStatement e ts = absurd (cc e)
-calm_listed shape.ForInStatement e ts = absurd (cc e)
-calm_listed shape.ForOfStatement e ts = absurd (cc e)
-calm_listed shape.SwitchStatement e ts = absurd (cc e)
-calm_listed shape.CatchClause e ts = absurd (cc e)
-calm_listed h e ts = refl
+pub calm_listed : (u : Use) (h : Shape) → is_calm_shape h ≡ true → (ts : Trees) → listed_names u h ts ≡ []
+calm_listed u (shape.Program m ds) e ts = absurd (cc e)
+calm_listed u shape.FunctionBody e ts = absurd (cc e)
+calm_listed u shape.StaticBlock e ts = absurd (cc e)
+calm_listed u shape.BlockStatement e ts = absurd (cc e)
+calm_listed u shape.ForStatement e ts = absurd (cc e)
+calm_listed u shape.ForInStatement e ts = absurd (cc e)
+calm_listed u shape.ForOfStatement e ts = absurd (cc e)
+calm_listed u shape.SwitchStatement e ts = absurd (cc e)
+calm_listed u shape.CatchClause e ts = absurd (cc e)
+calm_listed u (shape.VariableDeclaration k) e ts = absurd (cc e)
+calm_listed u h e ts = refl
 
-pub part_listed : (h : Shape) → is_pattern_part h ≡ true → (ts : Trees) → listed_names h ts ≡ []
-part_listed (shape.Program m ds) e ts = absurd (cc e)
-part_listed shape.FunctionBody e ts = absurd (cc e)
-part_listed shape.StaticBlock e ts = absurd (cc e)
-part_listed shape.BlockStatement e ts = absurd (cc e)
-part_listed shape.ForStatement e ts = absurd (cc e)
-part_listed shape.ForInStatement e ts = absurd (cc e)
-part_listed shape.ForOfStatement e ts = absurd (cc e)
-part_listed shape.SwitchStatement e ts = absurd (cc e)
-part_listed shape.CatchClause e ts = absurd (cc e)
-part_listed h e ts = refl
+pub part_listed : (u : Use) (h : Shape) → is_pattern_part h ≡ true → (ts : Trees) → listed_names u h ts ≡ []
+part_listed u (shape.Program m ds) e ts = absurd (cc e)
+part_listed u shape.FunctionBody e ts = absurd (cc e)
+part_listed u shape.StaticBlock e ts = absurd (cc e)
+part_listed u shape.BlockStatement e ts = absurd (cc e)
+part_listed u shape.ForStatement e ts = absurd (cc e)
+part_listed u shape.ForInStatement e ts = absurd (cc e)
+part_listed u shape.ForOfStatement e ts = absurd (cc e)
+part_listed u shape.SwitchStatement e ts = absurd (cc e)
+part_listed u shape.CatchClause e ts = absurd (cc e)
+part_listed u (shape.VariableDeclaration k) e ts = absurd (cc e)
+part_listed u h e ts = refl
 
 pub calm_alone : (h : Shape) → is_calm_shape h ≡ true → (c : Setting) (s : ℕ) (ts : Trees) → (early 0 s).orders c h ts ≡ false
 calm_alone shape.Listed e c s ts = absurd (cc e)
@@ -175,7 +177,7 @@ calm_alone shape.SwitchCase e c s ts = absurd (cc e)
 calm_alone (shape.VariableDeclaration k) e c s ts = absurd (cc e)
 calm_alone shape.ExportNamedDeclaration e c s ts = absurd (cc e)
 calm_alone shape.ExportDefaultDeclaration e c s ts = absurd (cc e)
-calm_alone h e c s ts = ap (is_among (by_symbol s)) (calm_listed h e ts)
+calm_alone h e c s ts = ap (is_among (by_symbol s)) (calm_listed c.used h e ts)
 
 pub bare_calls : (h : Shape) → is_bare_shape h ≡ true → (ts : Trees) → is_eval_call h ts ≡ false
 bare_calls (shape.CallExpression o) e ts = absurd (cc e)

@@ -69,7 +69,7 @@ each_parts ByEval b s = record { before = λ c env h e xs n ts us x. ap reads_if
 each_parts AmongParameters b s = record { before = λ c env h e xs n ts us x. given_alike s _ _ (bare_params b h (part_bare h e) ts) (bare_params b h (part_bare h e) us); orders = λ c h e ts us. refl; ends = λ c t u x y. refl }
 each_parts ReadEarly b s = record {
   before = λ c env h e xs n ts us x. refl;
-  orders = λ c h e ts us. ap (λ ys. (hands_on h && c.ordered) || is_among (by_symbol s) ys) (part_listed h e us ∙ sym (part_listed h e ts));
+  orders = λ c h e ts us. ap (λ ys. (hands_on h && c.ordered) || is_among (by_symbol s) ys) (part_listed c.used h e us ∙ sym (part_listed c.used h e ts));
   ends = λ c t u x y. λ j. c.ordered && (is_among (by_symbol s) (x j) || is_among (by_symbol s) (y j));
 }
 
@@ -141,9 +141,9 @@ module _ (t u rest : Tree) (a : Alike t u) (k : SameTold t u) (pattern : is_patt
   declaring_caught true = ap (λ r. spelled_among r (all_names declared.Hoisted (rest ▸ none))) bound
   declaring_caught false = refl
 
-  declaring_listed : (c : Bool) → listed_names (declaring_shape c) new ≡ listed_names (declaring_shape c) old
-  declaring_listed true = bound
-  declaring_listed false = refl
+  declaring_listed : (v : Use) (c : Bool) → listed_names v (declaring_shape c) new ≡ listed_names v (declaring_shape c) old
+  declaring_listed v true = bound
+  declaring_listed v false = refl
 
   declaring_seen : (c : Bool) (v : Use) (s : ℕ) → seen_from (opened v (declaring_shape c) new) 0 new (by_symbol s) ≡ seen_from (opened v (declaring_shape c) old) 0 old (by_symbol s)
   declaring_seen c v s = λ j. (same_evals t u k (rest ▸ none) none j && is_among (by_symbol s) (names_in (declaring_opens c v 0 j))) || seen_from (λ i. declaring_opens c v i j) 1 (rest ▸ none) (by_symbol s)
@@ -173,7 +173,7 @@ module _ (t u rest : Tree) (a : Alike t u) (k : SameTold t u) (pattern : is_patt
   declaring_before ReadEarly b s c d env = refl
 
   declaring_orders : (g : Fact) (b s : ℕ) (c : Bool) (d : Setting) → (question g b s).orders d (declaring_shape c) new ≡ (question g b s).orders d (declaring_shape c) old
-  declaring_orders ReadEarly b s c d = ap (λ xs. (hands_on (declaring_shape c) && d.ordered) || is_among (by_symbol s) xs) (declaring_listed c)
+  declaring_orders ReadEarly b s c d = ap (λ xs. (hands_on (declaring_shape c) && d.ordered) || is_among (by_symbol s) xs) (declaring_listed d.used c)
   declaring_orders Written b s c d = refl
   declaring_orders WrittenElsewhere b s c d = refl
   declaring_orders Given b s c d = refl

@@ -56,7 +56,7 @@ module _ (b s : ℕ) (c : Setting) (env : Environment) (o : Bool) where
 
   alone : (h : Head) (ts : Trees) → is_statement_head h ≡ true → pace q (of_items o c) env (node (shape_by h) [] 0 ts) ≡ pace q (of_items false c) env (node (shape_by h) [] 0 ts)
   unfolding pace
-  alone h ts e = λ j. followed (q.before (of_items false c) env (shape_by h) [] 0 ts) (in_turn (shape_by h) (paces q (opened c.used (shape_by h) ts) (below (by o j || is_among (by_symbol s) (listed_names (shape_by h) ts)) (of_items false c) (shape_by h) 0) 0 env ts))
+  alone h ts e = λ j. followed (q.before (of_items false c) env (shape_by h) [] 0 ts) (in_turn (shape_by h) (paces q (opened c.used (shape_by h) ts) (below (by o j || is_among (by_symbol s) (listed_names c.used (shape_by h) ts)) (of_items false c) (shape_by h) 0) 0 env ts))
     where
       by : (x : Bool) → (hands_on (shape_by h) && x) ≡ (hands_on (shape_by h) && false)
       by x = ap (λ y. y && x) (hands_nothing h e) ∙ sym (ap (λ y. y && false) (hands_nothing h e))

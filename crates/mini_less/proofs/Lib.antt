@@ -70,6 +70,7 @@ pub mod ClosedTold
 pub mod PutTold
 pub mod SwitchHolds
 pub mod RowsUnused
+pub mod UnusedLess
 pub mod BodyEndsLess
 pub mod SwitchTold
 pub mod OneCaseLess

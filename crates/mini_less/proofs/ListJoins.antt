@@ -18,7 +18,7 @@ use Rattle.mini_laws.specs.ScopeList.{has_eval, any_has_eval, by_symbol}
 use Rattle.mini_laws.specs.Scopes.{opened}
 use Rattle.mini_laws.specs.Shared.{names_arguments}
 use Rattle.mini_shrink.specs.Pace.{Pace, Ends, Silent, Reads, reads_if, followed, ends_after, AtMost, Setting, below, Question, pace}
-use Rattle.mini_shrink.specs.Questions.{Own, asks, early}
+use Rattle.mini_shrink.specs.Questions.{Own, asks, early, alone_names}
 use Rattle.mini_rows.specs.Lists.{declarator, declaration, Row68}
 use Rattle.mini_rows.proofs.ListKeptDeclarations.{all_both}
 use Rattle.mini_rows.specs.Sketches.{AsWholeItem}
@@ -119,7 +119,7 @@ module _ (b s : ℕ) (c : Setting) (env : Environment) where
       by false true e f h g = later (ends_after (q.ends (of_items true (inside true)) t) (pace q (of_items true (inside true)) env t)) (items true ts) (h f)
       by false false e f h g = absurd (true≢false (sym g))
 
-  abbrev ends_inside : Bool → Trees → Bool
+  abbrev pub ends_inside : Bool → Trees → Bool
   ends_inside o ts = q.ends (inside o) (listed ts)
 
   -- the declarators of a declaration in a list
@@ -127,13 +127,23 @@ module _ (b s : ℕ) (c : Setting) (env : Environment) where
     opens : (k : VariableDeclarationKind) (o : Bool) (ts : Trees) → pace q (inside o) (env ++ opened c.used (shape.VariableDeclaration k) (listed ts ▸ none) 0) (listed ts) ≡ pace q (inside o) env (listed ts)
     opens k o ts = ap (λ e. pace q (inside o) e (listed ts)) (ap (λ b. env ++ b) (declaration_opens c.used r k (listed ts ▸ none) 0) ∙ append-nil env)
 
-    says : (k : VariableDeclarationKind) → is_lexical k ≡ true → (o : Bool) (ts : Trees) → pace q (of_items o c) env (declaration k ts) ≡ followed (ends_after (ends_inside o ts) (items o ts)) Silent
+    -- a declaration in a list is no scope of its own
+    unalone : (k : VariableDeclarationKind) → is_lexical k ≡ true → (ts : Trees) → is_among (by_symbol s) (alone_names c.used k (listed ts)) ≡ false
+    unalone Var e ts = absurd (true≢false (sym e))
+    unalone Let e ts = ap (λ u. is_among (by_symbol s) (alone_names u Let (listed ts))) r
+    unalone Const e ts = ap (λ u. is_among (by_symbol s) (alone_names u Const (listed ts))) r
+
+    pub says : (k : VariableDeclarationKind) → is_lexical k ≡ true → (o : Bool) (ts : Trees) → pace q (of_items o c) env (declaration k ts) ≡ followed (ends_after (ends_inside o ts) (items o ts)) Silent
     unfolding pace
     says Var e o ts = absurd (true≢false (sym e))
     says Let e true ts = λ j. followed (ends_after (ends_inside true ts) ((opens Let true ts ∙ listed_is q (early_passes b s) (inside true) env ts) j)) Silent
-    says Let e false ts = λ j. followed (ends_after (ends_inside false ts) ((opens Let false ts ∙ listed_is q (early_passes b s) (inside false) env ts) j)) Silent
+    says Let e false ts =
+        (λ j. followed (ends_after (ends_inside (unalone Let e ts j) ts) (pace q (inside (unalone Let e ts j)) (env ++ opened c.used (shape.VariableDeclaration Let) (listed ts ▸ none) 0) (listed ts))) Silent)
+        ∙ (λ j. followed (ends_after (ends_inside false ts) ((opens Let false ts ∙ listed_is q (early_passes b s) (inside false) env ts) j)) Silent)
     says Const e true ts = λ j. followed (ends_after (ends_inside true ts) ((opens Const true ts ∙ listed_is q (early_passes b s) (inside true) env ts) j)) Silent
-    says Const e false ts = λ j. followed (ends_after (ends_inside false ts) ((opens Const false ts ∙ listed_is q (early_passes b s) (inside false) env ts) j)) Silent
+    says Const e false ts =
+        (λ j. followed (ends_after (ends_inside (unalone Const e ts j) ts) (pace q (inside (unalone Const e ts j)) (env ++ opened c.used (shape.VariableDeclaration Const) (listed ts ▸ none) 0) (listed ts))) Silent)
+        ∙ (λ j. followed (ends_after (ends_inside false ts) ((opens Const false ts ∙ listed_is q (early_passes b s) (inside false) env ts) j)) Silent)
 
     declares_alone : (ts : Trees) → (is_among (by_symbol s) (all_names declared.Bound ts ++ []) || false) ≡ declares ts
     declares_alone ts = or_none (is_among (by_symbol s) (all_names declared.Bound ts ++ [])) ∙ ap (is_among (by_symbol s)) (append-nil (all_names declared.Bound ts))

@@ -305,13 +305,13 @@ module _ (sp : List ℕ) (k : ℕ) where
         by (on_way g) = refl
         by m = refl
 
-    listed_same : (s : ℕ) → nat_eq s k ≡ false → is_among (by_symbol s) (listed_names (shape_by m) us) ≡ is_among (by_symbol s) (listed_names (shape_by m) ts)
-    listed_same s e = by m
+    listed_same : (v : Use) (s : ℕ) → nat_eq s k ≡ false → is_among (by_symbol s) (listed_names v (shape_by m) us) ≡ is_among (by_symbol s) (listed_names v (shape_by m) ts)
+    listed_same v s e = by m
       where
         lost : is_among (by_symbol s) (names_of declared.Lexical u) ≡ is_among (by_symbol s) (names_of declared.Lexical t)
         lost = among_lost sp k s e (names_of declared.Lexical t) (names_of declared.Lexical u) lexical
 
-        by : (m : Holds) → is_among (by_symbol s) (listed_names (shape_by m) (append (front m) (u ▸ post))) ≡ is_among (by_symbol s) (listed_names (shape_by m) (append (front m) (t ▸ post)))
+        by : (m : Holds) → is_among (by_symbol s) (listed_names v (shape_by m) (append (front m) (u ▸ post))) ≡ is_among (by_symbol s) (listed_names v (shape_by m) (append (front m) (t ▸ post)))
         by (on_way Braces) = lost
         by (on_way Heading) = lost
         by (on_way (Switched a)) = lost
@@ -361,7 +361,7 @@ module _ (sp : List ℕ) (k : ℕ) where
         before_less ReadEarly b s e c env n = itself _
 
     orders_same : (g : Fact) (b s : ℕ) → nat_eq s k ≡ false → (c : Setting) → (question g b s).orders c (shape_by m) us ≡ (question g b s).orders c (shape_by m) ts
-    orders_same ReadEarly b s e c = λ j. (hands_on (shape_by m) && c.ordered) || listed_same s e j
+    orders_same ReadEarly b s e c = λ j. (hands_on (shape_by m) && c.ordered) || listed_same c.used s e j
     orders_same Written b s e c = refl
     orders_same WrittenElsewhere b s e c = refl
     orders_same Given b s e c = refl

@@ -53,7 +53,7 @@ module _ (b s : ℕ) where
 
     pub more_ordered : (x y : Bool) → Implies x y → (c : Setting) (env : Environment) (t : Tree) → AtMost (pace q (record c { ordered = x }) env t) (pace q (record c { ordered = y }) env t)
     more_ordered x y f c env (node h xs n ts) =
-        let own = is_among (by_symbol s) (listed_names h ts) in
+        let own = is_among (by_symbol s) (listed_names c.used h ts) in
         let k = (hands_on h && x) || own in
         let l = (hands_on h && y) || own in
         let sc = opened c.used h ts in
@@ -80,7 +80,7 @@ hands_unscoped h e = refl
 
 pub unscoped_anywhere : (b s : ℕ) (c : Setting) (x : Bool) (env : Environment) (t : Tree) → is_unscoped t ≡ true → pace (early b s) (record c { ordered = x }) env t ≡ pace (early b s) (record c { ordered = false }) env t
 unfolding pace
-unscoped_anywhere b s c x env (node h xs n ts) e = λ j. followed ((early b s).before c env h xs n ts) (in_turn h (paces (early b s) (opened c.used h ts) (below (by j || is_among (by_symbol s) (listed_names h ts)) c h n) 0 env ts))
+unscoped_anywhere b s c x env (node h xs n ts) e = λ j. followed ((early b s).before c env h xs n ts) (in_turn h (paces (early b s) (opened c.used h ts) (below (by j || is_among (by_symbol s) (listed_names c.used h ts)) c h n) 0 env ts))
   where
     by : (hands_on h && x) ≡ (hands_on h && false)
     by = ap (λ y. y && x) (hands_unscoped h e) ∙ sym (ap (λ y. y && false) (hands_unscoped h e))

@@ -12,6 +12,7 @@ use Rattle.mini_model.specs.declared.kind.PropertyKind.TheVariants.{Init}
 use Rattle.mini_model.specs.declared.name.Name.{Name}
 use Rattle.mini_model.specs.declared.place.Position.TheVariants.{Expr}
 use Rattle.mini_model.specs.declared.seat.Seat.{Seat}
+use Rattle.mini_model.specs.declared.kind.VariableDeclarationKind.TheVariants.{Var, Let, Const}
 use Rattle.mini_model.specs.declared.shape.Shape.{Shape}
 use Rattle.mini_model.specs.declared.shape.Shape.TheVariants as shape
 use Rattle.mini_model.specs.Tree.{Tree, Trees, node, none, ◌▸◌, shape_of}
@@ -300,6 +301,18 @@ expression_is_value If e = absurd (cc e)
 expression_is_value Block e = absurd (cc e)
 expression_is_value h e = refl
 
+-- an unscoped statement declares the same names wherever it stands
+unscoped_listed : (v u : Use) (h : Shape) (ts : Trees) → is_unscoped_shape h ≡ true → listed_names v h ts ≡ listed_names u h ts
+unscoped_listed v u (shape.VariableDeclaration Let) ts e = absurd (cc e)
+unscoped_listed v u (shape.VariableDeclaration Const) ts e = absurd (cc e)
+unscoped_listed v u (shape.VariableDeclaration Var) none e = refl
+unscoped_listed v u (shape.VariableDeclaration Var) (t ▸ ts) e = refl
+unscoped_listed v u shape.SwitchStatement none e = refl
+unscoped_listed v u shape.SwitchStatement (a ▸ none) e = refl
+unscoped_listed v u shape.SwitchStatement (a ▸ (t ▸ ts)) e = refl
+unscoped_listed v u h none e = refl
+unscoped_listed v u h (t ▸ ts) e = refl
+
 -- where it stands directly in a body, or in a list of declarations, doesn't matter to an expression
 abbrev pub alone : Setting → Setting
 alone c = record c { is_body = false; ordered = false }
@@ -312,7 +325,7 @@ pub early_alone : (b k : ℕ) (c : Setting) (env : Environment) (t : Tree) → i
 unfolding pace
 early_alone b k c env (node h xs n ts) e =
     let m = reads_if (list_any (λ m. same_variable (by_symbol k) m.name && not m.binds && reads m.used && not (is_elsewhere b m.around)) (own_mentions c.used c.around h xs)) in
-    let own = is_among (by_symbol k) (listed_names h ts) in
+    let own = is_among (by_symbol k) (listed_names c.used h ts) in
     λ j. followed m (in_turn h (paces (early b k) (opened c.used h ts) (λ i. record (below (by c.ordered j || own) c h n i) { is_body = body_value h c.is_body e j }) 0 env ts))
   where
     by : (o : Bool) → (hands_on h && o) ≡ (hands_on h && false)
@@ -434,9 +447,11 @@ module _ (b s : ℕ) (k : Setting) (env : Environment) where
       let u = use_by k.used d in
       let scopes : (j : ℕ) → opened v h ts j ≡ opened u h ts j = same_scopes v u h e ts in
       let o = q.orders (standing c) h ts in
-      let settings : (j : ℕ) → below o (standing c) h n j ≡ below o (standing d) h n j = λ j i. record { used = same_use v u (statement_use k.used a₀ c x) (statement_use k.used a₀ d y) h j e i; around = around_child h k.around n j; strict = is_strict_in k.strict h; is_body = no_body_below (mentions_such (λ m. true)) (mentions_plainly (λ m. true) (λ x a e f. e)) k env h (body_by k.is_body c) (body_by k.is_body d) e i; belongs = (below o (standing c) h n j).belongs; ordered = o } in
+      let p = q.orders (standing d) h ts in
+      let order : o ≡ p = ap (λ ys. (hands_on h && false) || is_among (by_symbol s) ys) (unscoped_listed v u h ts e) in
+      let settings : (j : ℕ) → below o (standing c) h n j ≡ below p (standing d) h n j = λ j i. record { used = same_use v u (statement_use k.used a₀ c x) (statement_use k.used a₀ d y) h j e i; around = around_child h k.around n j; strict = is_strict_in k.strict h; is_body = no_body_below (mentions_such (λ m. true)) (mentions_plainly (λ m. true) (λ x a e f. e)) k env h (body_by k.is_body c) (body_by k.is_body d) e i; belongs = (below o (standing c) h n j).belongs; ordered = order i } in
       let own : q.before (standing c) env h xs n ts ≡ q.before (standing d) env h xs n ts = ap reads_if (unscoped_mention read_here (standing c) h xs e ∙ sym (unscoped_mention read_here (standing d) h xs e)) in
-      sym (λ j. is_reads (followed (own j) (in_turn h (same_paces (opened v h ts) (opened u h ts) scopes (below o (standing c) h n) (below o (standing d) h n) settings 0 env ts j)))) ∙ a
+      sym (λ j. is_reads (followed (own j) (in_turn h (same_paces (opened v h ts) (opened u h ts) scopes (below o (standing c) h n) (below p (standing d) h n) settings 0 env ts j)))) ∙ a
 
   pub calm_moves : is_statement_use k.used ≡ true → Moves Calmly
   calm_moves u c d x y t e m a = calm_anyhow u c d x y t e a

@@ -48,7 +48,7 @@ not_inner h e = refl
 -- where a statement stands in a list of declarations doesn't matter to it
 pub alone : (b k : ℕ) (c : Setting) (env : Environment) (h : Head) (ts : Trees) → is_statement_head h ≡ true → pace (early b k) c env (node (shape_by h) [] 0 ts) ≡ pace (early b k) (record c { ordered = false }) env (node (shape_by h) [] 0 ts)
 unfolding pace
-alone b k c env h ts e = λ j. followed ((early b k).before c env (shape_by h) [] 0 ts) (in_turn (shape_by h) (paces (early b k) (opened c.used (shape_by h) ts) (below (by c.ordered j || is_among (by_symbol k) (listed_names (shape_by h) ts)) c (shape_by h) 0) 0 env ts))
+alone b k c env h ts e = λ j. followed ((early b k).before c env (shape_by h) [] 0 ts) (in_turn (shape_by h) (paces (early b k) (opened c.used (shape_by h) ts) (below (by c.ordered j || is_among (by_symbol k) (listed_names c.used (shape_by h) ts)) c (shape_by h) 0) 0 env ts))
   where
     by : (x : Bool) → (hands_on (shape_by h) && x) ≡ (hands_on (shape_by h) && false)
     by x = ap (λ y. y && x) (hands_nothing h e) ∙ sym (ap (λ y. y && false) (hands_nothing h e))

@@ -13,6 +13,7 @@ pub mod Names
 pub mod Declarations
 pub mod LoopGuards
 pub mod Lets
+pub mod Unused
 pub mod Rows
 pub mod BodyEnds
 pub mod SwitchRows

@@ -8,7 +8,8 @@ ghost use Rattle.mini_less.specs.BodyEnds.{BodyEndsLess};
 ghost use Rattle.mini_less.specs.Declarations.{DeclarationsReadLess};
 ghost use Rattle.mini_less.specs.Lets.{LetsReadLess};
 ghost use Rattle.mini_less.specs.LoopGuards.{LoopGuardsReadLess};
-ghost use Rattle.mini_less.specs.Rows.{RowsReadLess};
+ghost use Rattle.mini_less.specs.Unused.{UnusedReadLess};
+ghost use Rattle.mini_less.specs.Rows.{RowsReadLess, RewritesReadLess};
 ghost use Rattle.mini_less.specs.HeldKeys.{HeldKeysReadLess};
 ghost use Rattle.mini_less.specs.Names.{NamesReadLess, CatchesReadLess};
 ghost use Rattle.mini_less.specs.SwitchRows.{BranchesReadLess, LexicalNamesReadLess, LexicalRowsLess, SwitchRowsLess};
@@ -179,9 +180,19 @@ pub fn lets_read_less()
     ensures { LetsReadLess }
 {}
 
+/// Rows of a name that nothing mentions, and of one that is read once: 71, 72.
+pub fn unused_read_less()
+    ensures { UnusedReadLess }
+{}
+
 /// All rows by which any program is rewritten, whatever is known of its names.
 pub fn rows_read_less()
     ensures { RowsReadLess }
+{}
+
+/// And those of names that nothing mentions, are read once or may be written.
+pub fn rewrites_read_less()
+    ensures { RewritesReadLess }
 {}
 
 /// The row that drops what a `catch` catches where nothing mentions it: 63.

@@ -8,7 +8,7 @@ use Rattle.mini_laws.specs.Mentions.{is_among}
 use Rattle.mini_laws.specs.Value.{Variable, Declared, Global}
 use Rattle.mini_context.specs.Tables.{named}
 use Rattle.mini_kept.specs.Without.{Within}
-use Rattle.mini_steady.specs.Told.{told_in, is_written, stays_as_it_is}
+use Rattle.mini_steady.specs.Told.{told_in, is_assigned, is_steady_in_body}
 use Rattle.mini_peephole.specs.Environments.{steady_in}
 
 -- what is nowhere lexical the body doesn't declare as lexical
@@ -21,8 +21,8 @@ all_so true h e f = f
 all_so false h e f = absurd (true≢false (sym e))
 
 module _ (q : Tree) (b : ℕ) where
-  no_answer : (s : ℕ) → stays_as_it_is q b s ≡ true → not (is_foreign q b (named s)) ≡ true
-  no_answer s h = (and_parts (not (is_written q s)) (not (is_foreign q b (named s))) h).1
+  no_answer : (s : ℕ) → is_steady_in_body q b s ≡ true → not (is_foreign q b (named s)) ≡ true
+  no_answer s h = (and_parts (not (is_assigned q s)) (not (is_foreign q b (named s))) h).1
 
   steady_so : (x : Variable) → (told_in q b).steady x ≡ true → (steady_in q b).steady x ≡ true
   steady_so (Declared s) h = no_answer s h
@@ -35,7 +35,7 @@ module _ (q : Tree) (b : ℕ) where
   initial_so : (x : Variable) → (told_in q b).initial x ≡ true → (steady_in q b).initial x ≡ true
   initial_so (Declared s) h =
       let lexical = is_among (named s) (lexical_variables false q) in
-      let (stays, nowhere) = and_parts (stays_as_it_is q b s) (not lexical) h in
+      let (stays, nowhere) = and_parts (is_steady_in_body q b s) (not lexical) h in
       all_so (not (is_foreign q b (named s))) (not (lexical && is_declared_in q b (named s))) (no_answer s stays) (not_both lexical (is_declared_in q b (named s)) nowhere)
   initial_so (Global s) h = absurd (true≢false (sym h))
 

@@ -72,7 +72,7 @@ past_inside_lightens S W = holders_lighten (past_ends S W) (past_falls S W)
 -- ---- whatever holds the list
 
 module _ (S : BodySets) (W : Liberties) where
-  abbrev Holds : Position → Tree → Tree → Type 0
+  abbrev pub Holds : Position → Tree → Tree → Type 0
   Holds p n w = (FunctionsBehind S W.writable p n w ⊎ ArrowsBehind S W.writable p n w) ⊎ (ModulesBehind S W.writable p n w ⊎ StaticsBehind S W.writable p n w)
 
   body_behind : (n w : Tree) (r : PastInsideRow S W n w) → Behind (S (number_of (over r.holder absent))) W.writable (front r.holder) (append r.first (plug r.place r.read ▸ r.last)) (append r.first (plug r.place r.put ▸ r.last))
@@ -91,7 +91,7 @@ module _ (S : BodySets) (W : Liberties) where
   held_by (Static k) Elsewhere e {a} {b} t f g = inr (inr (record { number = k; before = a; after = b; there = t; shape = f; written = g }))
   held_by (Static k) p e t f g = absurd (cc e)
 
-  held : (p : Position) (n w : Tree) → PastInside S W p n w → Holds p n w
+  pub held : (p : Position) (n w : Tree) → PastInside S W p n w → Holds p n w
   held p n w c = held_by c.row.holder p c.stands (body_behind n w c.row) c.row.shape c.row.written
 
   pub holders_lawful : (K : Shape → Bool) → LawfulRooted K W.writable S (PastInside S W)

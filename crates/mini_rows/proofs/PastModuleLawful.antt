@@ -12,7 +12,7 @@ use Rattle.mini_model.specs.Tree.{Tree, Trees, none, ◌▸◌, listed, shape_of
 use Rattle.mini_model.specs.Paths.{append}
 use Rattle.mini_model.specs.Rewriting.{here, done, more}
 use Rattle.mini_model.specs.Weight.{outline as weight_outline, weight}
-use Rattle.mini_accept.specs.WellShaped.{in_module, Slot, fits}
+use Rattle.mini_accept.specs.WellShaped.{Depth, in_module, a_statement, a_default_export, Slot, one, fits}
 use Rattle.mini_laws.specs.declared.names.Use.TheVariants.{Read}
 use Rattle.mini_laws.specs.Symbols.{declared_symbols, times, Distinct}
 use Rattle.mini_laws.specs.Value.{Variable, Declared, Global, VariableSet, nothing}
@@ -22,13 +22,13 @@ use Rattle.mini_laws.specs.Bodies.{Around, outermost, below, Body, bodies, bodie
 use Rattle.mini_laws.specs.Weights.{Lightens}
 use Rattle.mini_kept.specs.AlikeBodies.{BodiesKept}
 use Rattle.mini_kept.specs.Frames.{frames_in}
-use Rattle.mini_kept.specs.KeepsFrames.{KeepsModule}
+use Rattle.mini_kept.specs.KeepsFrames.{is_body_slot, IsShownAlike, NoPort, NoDeclaration, KeepsFunction, KeepsModule, KeepsHolder, KeepsPlaces}
 use Rattle.mini_kept.specs.KeepsLoosely.{KeepsLoosely}
 use Rattle.mini_kept.specs.KeepsNames.{is_rewritten_place}
 use Rattle.mini_kept.specs.KeepsShapes.{KeepsShapes, AskedAlike}
 use Rattle.mini_kept.specs.Lifted.{is_piece, KeepsRoot, KeepsNames, ProgramKeeps}
 use Rattle.mini_kept.specs.Loosely.{symbol, undeclared, ProgramIsKeptUnder}
-use Rattle.mini_kept.specs.Placed.{fits_place}
+use Rattle.mini_kept.specs.Placed.{fits_place, is_statement_list}
 use Rattle.mini_kept.specs.Rooted.{is_program, LawfulRooted}
 use Rattle.mini_kept.specs.ShownFrames.{KeyGivenUnder, gone_from}
 use Rattle.mini_kept.specs.Without.{BodySets, none_steady, BodiesUnder}
@@ -168,6 +168,9 @@ module _ (S : BodySets) (W : VariableSet) where
   shaped : (P : Tree → Tree → Type 0) → ((ds : List (List ℕ)) (a b : Trees) → P (program true ds a) (program true ds b)) → (n w : Tree) → ModuleBehind S W n w → P n w
   shaped P f n w r = subst (λ v. P v w) (sym r.shape) (subst (P (program true r.directives r.before)) (sym r.written) (f r.directives r.before r.after))
 
+  row_module : (n w : Tree) → ModuleBehind S W n w → KeepsModule n w
+  row_module n w r = both_told S W n w r KeepsModule (keeps_module S W r.directives r.before r.after r.there)
+
   module_names : KeepsNames (ModulesBehind S W)
   module_names = record {
     places = at_module (λ p n w. (is_rewritten_place p ≡ true) ⊎ KeepsRoot p n w) (λ n w r. inr (shaped (KeepsRoot Elsewhere) (λ ds a b. record { place = refl; shape = refl; names = refl; number = refl; counted = refl; second = refl }) n w r));
@@ -175,7 +178,16 @@ module _ (S : BodySets) (W : VariableSet) where
     keeps = at_module (λ p n w. (strict : Bool) (s : Slot) → fits_place p s ≡ true → fits strict s n ≡ true → KeepsLoosely p n w) (λ n w r strict s z e. row_keeps S W n w r);
   }
 
-  module_shapes : KeepsShapes (ModulesBehind S W)
+  pub module_places : KeepsPlaces (ModulesBehind S W)
+  module_places = record {
+    names = module_names;
+    slots = at_module (λ p n w. (strict : Bool) (s : Slot) → fits_place p s ≡ true → fits strict s n ≡ true → ((is_body_slot p s ≡ true) ⊎ IsShownAlike s n w) ⊎ KeepsHolder n w) (λ n w r strict s z e. inr (inr (row_module n w r)));
+    ports = at_module (λ p n w. (strict : Bool) (d : Depth) → fits strict (one (a_statement d)) n ≡ true → (m : Bool) → NoPort m n w ⊎ KeepsFunction n w) (λ n w r strict d e m. inl (shaped (NoPort m) (λ ds a b. (refl, refl)) n w r));
+    listed = λ p n w e r. absurd (at_module (λ p n w. is_statement_list p ≡ true → ⊥) (λ n w r e. cc e) p n w r e);
+    exported = at_module (λ p n w. (strict : Bool) → fits strict (one a_default_export) n ≡ true → NoDeclaration n w ⊎ KeepsFunction n w) (λ n w r strict e. inl (shaped NoDeclaration (λ ds a b. (refl, refl)) n w r));
+  }
+
+  pub module_shapes : KeepsShapes (ModulesBehind S W)
   module_shapes = record {
     fitting = at_module (λ p n w. (strict : Bool) (s : Slot) → fits_place p s ≡ true → fits strict s n ≡ true → fits strict s w ≡ true) (λ n w r strict s z e. row_fits S W n w r strict s e);
     asked = at_module AskedAlike (shaped (AskedAlike Elsewhere) (λ ds a b. record { absent = λ g. absurd (true≢false (sym g)); body = λ g. absurd (true≢false (sym g)); optional = λ g. absurd (true≢false (sym g)); number = λ g h. refl; spelled = λ s g. absurd (cc g); plain = refl }));

@@ -309,6 +309,26 @@ module _ (S : BodySets) (W : VariableSet) where
   some_dropped Elsewhere n w r = let (k, o) = dropped n w r in (k, (r, o))
   some_dropped p n w r = absurd r
 
+  -- it keeps places and shapes, whichever symbol is lost
+  pub static_places : KeepsPlaces (StaticsBehind S W)
+  static_places = record {
+    names = record {
+      places = λ p n w r. let (k, o) = some_dropped p n w r in (drop_names k).places p n w o;
+      pieces = λ p n w r. let (k, o) = some_dropped p n w r in (drop_names k).pieces p n w o;
+      keeps = λ p n w r. let (k, o) = some_dropped p n w r in (drop_names k).keeps p n w o;
+    };
+    slots = λ p n w r. let (k, o) = some_dropped p n w r in (drop_places k).slots p n w o;
+    ports = λ p n w r. let (k, o) = some_dropped p n w r in (drop_places k).ports p n w o;
+    listed = λ p n w e r. let (k, o) = some_dropped p n w r in (drop_places k).listed p n w e o;
+    exported = λ p n w r. let (k, o) = some_dropped p n w r in (drop_places k).exported p n w o;
+  }
+
+  pub static_shapes : KeepsShapes (StaticsBehind S W)
+  static_shapes = record {
+    fitting = λ p n w r. let (k, o) = some_dropped p n w r in (drop_shapes k).fitting p n w o;
+    asked = λ p n w r. let (k, o) = some_dropped p n w r in (drop_shapes k).asked p n w o;
+  }
+
   pub statics_lawful : (K : Shape → Bool) → LawfulRooted K W S (StaticsBehind S W)
   statics_lawful K = bodies_rooted (StaticsBehind S W) is_one K W S (λ t u s e. let (k, o) = step_of ℕ Drop (step_on some_dropped s) in program_kept k K t u o e)
 

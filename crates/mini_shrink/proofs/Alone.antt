@@ -13,7 +13,7 @@ use Rattle.mini_shrink.specs.Regular.{is_item, declares_alone, all_declare_alone
 -- ---- where binders and lists don't stand
 
 -- no list, and no binder but a declarator
-abbrev is_lone_shape : Shape → Bool
+abbrev pub is_lone_shape : Shape → Bool
 is_lone_shape h = is_item h false
 
 variable_none : (h : Shape) → is_lone_shape h ≡ false → variable_slots h ≡ None
@@ -120,7 +120,7 @@ lone_slot (one_or_absent c) = is_lone c
 lone_slot (many c) = is_lone c
 lone_slot s = false
 
-lone_none : (strict : Bool) (c : Class) → is_lone c ≡ true → (h : Shape) → is_lone_shape h ≡ false → slots_of strict c h ≡ None
+pub lone_none : (strict : Bool) (c : Class) → is_lone c ≡ true → (h : Shape) → is_lone_shape h ≡ false → slots_of strict c h ≡ None
 lone_none strict (a_statement d) k h e = statement_none strict d h e
 lone_none strict a_block k h e = block_none strict h e
 lone_none strict a_case k h e = case_none strict h e

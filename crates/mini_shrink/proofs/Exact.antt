@@ -46,7 +46,7 @@ module _ (R : Position → Tree → Tree → Type 0) (l : KeepsNames R) (shapes 
   initial_on s true false f g h = absurd (true≢false (sym h))
   initial_on s false k f g h = absurd (true≢false (sym h))
 
-  exactly_within : Within (told_of q b) (told_of v b) → Within (exactly_of q b) (exactly_of v b)
+  pub exactly_within : Within (told_of q b) (told_of v b) → Within (exactly_of q b) (exactly_of v b)
   exactly_within w = record { steady = steady; unshared = w.unshared; initial = initial; has_this = w.has_this }
     where
       steady : (y : Variable) → (exactly_of q b).steady y ≡ true → (exactly_of v b).steady y ≡ true

@@ -21,3 +21,12 @@ pub mod Spelled
 pub mod Debts
 pub mod Silence
 pub mod Provided
+pub mod Covering
+mod Unended
+mod Covered
+mod Parts
+mod Slotted
+mod Items
+pub mod SameForeign
+pub mod Homes
+mod Bodies

@@ -30,7 +30,7 @@ use Rattle.mini_shrink.specs.Told.{is_reads}
 use Rattle.mini_shrink.proofs.Finding.{any_both}
 use Rattle.mini_shrink.proofs.Paces.{same, both, all_both, AllAtMost}
 
-grouped : (p q r : Pace) → followed (followed p q) r ≡ followed p (followed q r)
+pub grouped : (p q r : Pace) → followed (followed p q) r ≡ followed p (followed q r)
 grouped Ends q r = refl
 grouped Silent q r = refl
 grouped Reads q r = refl
@@ -42,7 +42,7 @@ early_end Silent true = tt
 early_end Silent false = tt
 early_end Reads e = tt
 
-or_either : (a b : Bool) → (a || b) ≡ true → (a ≡ true) ⊎ (b ≡ true)
+pub or_either : (a b : Bool) → (a || b) ≡ true → (a ≡ true) ⊎ (b ≡ true)
 or_either true b e = inl refl
 or_either false b e = inr e
 
@@ -80,18 +80,18 @@ not_both true d e = true≢false (sym d)
 not_both false d e = true≢false (sym e)
 
 module _ (b s : ℕ) where
-  abbrev x : Name
+  abbrev pub x : Name
   x = by_symbol s
 
-  abbrev at_moment : Moment → Pace
+  abbrev pub at_moment : Moment → Pace
   at_moment m = if same_variable x m.name then (if m.ends then Ends else reads_if (not (is_elsewhere b m.around))) else Silent
 
   -- what comes first of the name
-  abbrev first_of : List Moment → Pace
+  abbrev pub first_of : List Moment → Pace
   first_of [] = Silent
   first_of (m ∷ ms) = followed (at_moment m) (first_of ms)
 
-  first_both : (ks ms : List Moment) → first_of (ks ++ ms) ≡ followed (first_of ks) (first_of ms)
+  pub first_both : (ks ms : List Moment) → first_of (ks ++ ms) ≡ followed (first_of ks) (first_of ms)
   first_both [] ms = refl
   first_both (k ∷ ks) ms = ap (followed (at_moment k)) (first_both ks ms) ∙ sym (grouped (at_moment k) (first_of ks) (first_of ms))
 
@@ -114,7 +114,7 @@ module _ (b s : ℕ) where
   none_of true false r o e = refl
   none_of false c r o e = refl
 
-  reads_first : (ms : List Mention) → first_of (reads_at ms) ≡ reads_if (list_any (λ m. same_variable x m.name && not m.binds && reads m.used && not (is_elsewhere b m.around)) ms)
+  pub reads_first : (ms : List Mention) → first_of (reads_at ms) ≡ reads_if (list_any (λ m. same_variable x m.name && not m.binds && reads m.used && not (is_elsewhere b m.around)) ms)
   reads_first [] = refl
   reads_first (m ∷ ms) = by m.binds (reads m.used) (reads_first ms)
     where
@@ -128,7 +128,7 @@ module _ (b s : ℕ) where
       by false false f = f ∙ ap (λ n. reads_if (n || rest ms)) (none_of (same_variable x m.name) true false (not (is_elsewhere b m.around)) refl)
       by true r f = f ∙ ap (λ n. reads_if (n || rest ms)) (none_of (same_variable x m.name) false r (not (is_elsewhere b m.around)) refl)
 
-  ends_first : (a : Around) (ys : List Name) → first_of (ends_at a ys) ≡ ends_if (is_among x ys)
+  pub ends_first : (a : Around) (ys : List Name) → first_of (ends_at a ys) ≡ ends_if (is_among x ys)
   ends_first a [] = refl
   ends_first a (y ∷ ys) = by (same_variable x y) (ends_first a ys)
     where
@@ -226,14 +226,14 @@ module _ (b s : ℕ) where
 
   -- ---- in the order of evaluation
 
-  abbrev firsts : List (List Moment) → List Pace
+  abbrev pub firsts : List (List Moment) → List Pace
   firsts [] = []
   firsts (l ∷ ls) = first_of l ∷ firsts ls
 
   before_less : (ks ms : List Moment) (p q : Pace) → AtMost (first_of ks) p → AtMost (first_of ms) q → AtMost (first_of (ks ++ ms)) (followed p q)
   before_less ks ms p q a c = subst (λ r. AtMost r (followed p q)) (sym (first_both ks ms)) (both (first_of ks) p (first_of ms) q a c)
 
-  moved : (ks ls ms : List Moment) → first_of ((ks ++ ls) ++ ms) ≡ first_of (ks ++ (ls ++ ms))
+  pub moved : (ks ls ms : List Moment) → first_of ((ks ++ ls) ++ ms) ≡ first_of (ks ++ (ls ++ ms))
   moved ks ls ms =
       first_both (ks ++ ls) ms ∙ ap (λ p. followed p (first_of ms)) (first_both ks ls) ∙ grouped (first_of ks) (first_of ls) (first_of ms)
       ∙ ap (followed (first_of ks)) (sym (first_both ls ms)) ∙ sym (first_both ks (ls ++ ms))
@@ -248,7 +248,7 @@ module _ (b s : ℕ) where
   joined_less (l ∷ ls) a ys [] z = absurd z
   joined_less (l ∷ ls) a ys (p ∷ ps) z = subst (λ r. AtMost r (followed p (all_followed ps))) (sym (moved l (joined ls) (ends_at a ys))) (before_less l (joined ls ++ ends_at a ys) p (all_followed ps) z.0 (joined_less ls a ys ps z.1))
 
-  joined_first : (ls : List (List Moment)) → first_of (joined ls) ≡ all_followed (firsts ls)
+  pub joined_first : (ls : List (List Moment)) → first_of (joined ls) ≡ all_followed (firsts ls)
   joined_first [] = refl
   joined_first (l ∷ ls) = first_both l (joined ls) ∙ ap (followed (first_of l)) (joined_first ls)
 
@@ -266,7 +266,7 @@ module _ (b s : ℕ) where
       subst (λ r. AtMost r (followed q (followed p (all_followed ps)))) (sym (moved (k ++ l) (joined ls) (ends_at a ys) ∙ moved k l (joined ls ++ ends_at a ys)))
       (before_less k (l ++ (joined ls ++ ends_at a ys)) q (followed p (all_followed ps)) z.1.0 (before_less l (joined ls ++ ends_at a ys) p (all_followed ps) z.0 (joined_less ls a ys ps z.1.1)))
 
-  abbrev is_catch : Shape → Bool
+  abbrev pub is_catch : Shape → Bool
   is_catch shape.CatchClause = true
   is_catch h = false
 
@@ -277,23 +277,23 @@ module _ (b s : ℕ) where
   turn_less h e ls a ys ps z = joined_less ls a ys ps z
 
   -- in a node in which names are declared one after another, names are bound by declarators alone
-  alone_below : (h : Shape) (o : Bool) (xs : List Name) (n : ℕ) (ts : Trees) → is_catch h ≡ false → ((hands_on h && o) || is_among x (listed_names h ts)) ≡ true → (o ≡ true → is_listed_alone (node h xs n ts) ≡ true) → items_of h ts ≡ true → all_declare_alone ts ≡ true
-  alone_below shape.Listed true xs n ts k e f i = f refl
-  alone_below shape.Listed false xs n ts k e f i = absurd (true≢false (sym e))
-  alone_below shape.SwitchCase o xs n ts k e f i = i
-  alone_below (shape.VariableDeclaration v) o xs n ts k e f i = i
-  alone_below shape.ExportNamedDeclaration o xs n ts k e f i = i
-  alone_below shape.ExportDefaultDeclaration o xs n ts k e f i = i
-  alone_below (shape.Program m ds) o xs n ts k e f i = i
-  alone_below shape.FunctionBody o xs n ts k e f i = i
-  alone_below shape.StaticBlock o xs n ts k e f i = i
-  alone_below shape.BlockStatement o xs n ts k e f i = i
-  alone_below shape.ForStatement o xs n ts k e f i = i
-  alone_below shape.ForInStatement o xs n ts k e f i = i
-  alone_below shape.ForOfStatement o xs n ts k e f i = i
-  alone_below shape.SwitchStatement o xs n ts k e f i = i
-  alone_below shape.CatchClause o xs n ts k e f i = absurd (true≢false k)
-  alone_below h o xs n ts k e f i = absurd (true≢false (sym e))
+  alone_below : (u : Use) (h : Shape) (o : Bool) (xs : List Name) (n : ℕ) (ts : Trees) → is_catch h ≡ false → ((hands_on h && o) || is_among x (listed_names u h ts)) ≡ true → (o ≡ true → is_listed_alone (node h xs n ts) ≡ true) → items_of h ts ≡ true → all_declare_alone ts ≡ true
+  alone_below u shape.Listed true xs n ts k e f i = f refl
+  alone_below u shape.Listed false xs n ts k e f i = absurd (true≢false (sym e))
+  alone_below u shape.SwitchCase o xs n ts k e f i = i
+  alone_below u (shape.VariableDeclaration v) o xs n ts k e f i = i
+  alone_below u shape.ExportNamedDeclaration o xs n ts k e f i = i
+  alone_below u shape.ExportDefaultDeclaration o xs n ts k e f i = i
+  alone_below u (shape.Program m ds) o xs n ts k e f i = i
+  alone_below u shape.FunctionBody o xs n ts k e f i = i
+  alone_below u shape.StaticBlock o xs n ts k e f i = i
+  alone_below u shape.BlockStatement o xs n ts k e f i = i
+  alone_below u shape.ForStatement o xs n ts k e f i = i
+  alone_below u shape.ForInStatement o xs n ts k e f i = i
+  alone_below u shape.ForOfStatement o xs n ts k e f i = i
+  alone_below u shape.SwitchStatement o xs n ts k e f i = i
+  alone_below u shape.CatchClause o xs n ts k e f i = absurd (true≢false k)
+  alone_below u h o xs n ts k e f i = absurd (true≢false (sym e))
 
   listed_alone : (t : Tree) → declares_alone t ≡ true → is_listed_alone t ≡ true
   unfolding declares_alone
@@ -347,7 +347,7 @@ module _ (b s : ℕ) where
         let cs = below o c h n in
         let sc = opened c.used h (t ▸ ts) in
         let regular = left (is_regular s t) (all_regular s ts) d in
-        let all_alone : o ≡ true → all_declare_alone (t ▸ ts) ≡ true = λ e. alone_below h c.ordered xs n (t ▸ ts) k e f i in
+        let all_alone : o ≡ true → all_declare_alone (t ▸ ts) ≡ true = λ e. alone_below c.used h c.ordered xs n (t ▸ ts) k e f i in
         let alone : o ≡ true → declares_alone t ≡ true = λ e. left (declares_alone t) (all_declare_alone ts) (all_alone e) in
         turn_less h k (moments_from (use_of h c.used) (around_child h c.around n) 0 (t ▸ ts)) c.around (ended_by h (t ▸ ts)) (paces (early b s) sc cs 0 env (t ▸ ts)) (
           closed ((early b s).ends (cs 0) t) (first_of (moments (cs 0).used (cs 0).around t)) (pace (early b s) (cs 0) (env ++ sc 0) t) (less (cs 0) (env ++ sc 0) t regular (λ e. listed_alone t (alone e))) (λ e. ends_shown o t regular alone e (cs 0).used (cs 0).around),

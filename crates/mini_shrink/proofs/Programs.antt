@@ -1,5 +1,5 @@
 -- Any number of steps in a program.
-use Rattle.std.specs.Prelude.{ℕ, ◌+◌, ◌≤◌, ◌≡◌, ◌⊎◌, refl, Bool, true, false, ◌&&◌, ◌||◌, [], Option, None}
+use Rattle.std.specs.Prelude.{ℕ, ◌+◌, ◌≤◌, ◌≡◌, ◌⊎◌, refl, Bool, true, false, ◌&&◌, ◌||◌, [], Option, None, if◌then◌else◌}
 use Rattle.std.proofs.Common.{ap, ◌∙◌, sym, subst, inl, inr, arith, true≢false}
 use Rattle.std.proofs.lemmas.Bool.{eq-eqb, eqb-true}
 use Rattle.mini_model.specs.declared.name.SymbolId.{SymbolId}
@@ -11,6 +11,9 @@ use Rattle.mini_model.specs.Tree.{Tree, Trees, none, ◌▸◌, shape_of, count}
 use Rattle.mini_model.specs.Position.{child_position}
 use Rattle.mini_model.specs.Rewriting.{Step, Reaches, done, more}
 use Rattle.mini_accept.specs.WellShaped.{one, a_program, IsWellShaped}
+use Rattle.mini_model.specs.declared.kind.VariableDeclarationKind.TheVariants.{Var, Let, Const}
+use Rattle.mini_laws.specs.Scopes.{is_alone}
+use Rattle.mini_laws.specs.declared.names.Use.{Use}
 use Rattle.mini_laws.specs.declared.names.Use.TheVariants.{Read}
 use Rattle.mini_laws.specs.DeclaredNames.{is_inner}
 use Rattle.mini_laws.specs.Scoped.{Scoped}
@@ -38,23 +41,26 @@ use Rattle.mini_shrink.proofs.Deeper.{names_look_up, mentions_look_up, seen_look
 
 -- ---- the order of reads and declarations
 
-listed_same : (h : Shape) (π : ℕ → Position) (ts us : Trees) → AllKeep π 0 ts us → listed_names h us ≡ listed_names h ts
-listed_same (shape.Program m ds) π none none k = refl
-listed_same h π none (u ▸ us) k = absurd k
-listed_same h π (t ▸ ts) none k = absurd k
-listed_same (shape.Program m ds) π (t ▸ ts) (u ▸ us) k = k.0.lexical
-listed_same shape.FunctionBody π (t ▸ ts) (u ▸ us) k = k.0.lexical
-listed_same shape.StaticBlock π (t ▸ ts) (u ▸ us) k = k.0.lexical
-listed_same shape.BlockStatement π (t ▸ ts) (u ▸ us) k = k.0.lexical
-listed_same shape.ForStatement π (t ▸ ts) (u ▸ us) k = k.0.lexical
-listed_same shape.ForInStatement π (t ▸ ts) (u ▸ us) k = k.0.lexical
-listed_same shape.ForOfStatement π (t ▸ ts) (u ▸ us) k = k.0.lexical
-listed_same shape.SwitchStatement π (a ▸ none) (b ▸ none) k = refl
-listed_same shape.SwitchStatement π (a ▸ none) (b ▸ (u ▸ us)) k = absurd k.1
-listed_same shape.SwitchStatement π (a ▸ (t ▸ ts)) (b ▸ none) k = absurd k.1
-listed_same shape.SwitchStatement π (a ▸ (t ▸ ts)) (b ▸ (u ▸ us)) k = k.1.0.lexical
-listed_same shape.CatchClause π (t ▸ ts) (u ▸ us) k = k.0.bound
-listed_same h π ts us k = refl
+listed_same : (v : Use) (h : Shape) (π : ℕ → Position) (ts us : Trees) → AllKeep π 0 ts us → listed_names v h us ≡ listed_names v h ts
+listed_same v (shape.Program m ds) π none none k = refl
+listed_same v h π none (u ▸ us) k = absurd k
+listed_same v h π (t ▸ ts) none k = absurd k
+listed_same v (shape.Program m ds) π (t ▸ ts) (u ▸ us) k = k.0.lexical
+listed_same v shape.FunctionBody π (t ▸ ts) (u ▸ us) k = k.0.lexical
+listed_same v shape.StaticBlock π (t ▸ ts) (u ▸ us) k = k.0.lexical
+listed_same v shape.BlockStatement π (t ▸ ts) (u ▸ us) k = k.0.lexical
+listed_same v shape.ForStatement π (t ▸ ts) (u ▸ us) k = k.0.lexical
+listed_same v shape.ForInStatement π (t ▸ ts) (u ▸ us) k = k.0.lexical
+listed_same v shape.ForOfStatement π (t ▸ ts) (u ▸ us) k = k.0.lexical
+listed_same v shape.SwitchStatement π (a ▸ none) (b ▸ none) k = refl
+listed_same v shape.SwitchStatement π (a ▸ none) (b ▸ (u ▸ us)) k = absurd k.1
+listed_same v shape.SwitchStatement π (a ▸ (t ▸ ts)) (b ▸ none) k = absurd k.1
+listed_same v shape.SwitchStatement π (a ▸ (t ▸ ts)) (b ▸ (u ▸ us)) k = k.1.0.lexical
+listed_same v shape.CatchClause π (t ▸ ts) (u ▸ us) k = k.0.bound
+listed_same v (shape.VariableDeclaration Var) π (t ▸ ts) (u ▸ us) k = refl
+listed_same v (shape.VariableDeclaration Let) π (t ▸ ts) (u ▸ us) k = ap (λ ys. if is_alone v then ys else []) k.0.bound
+listed_same v (shape.VariableDeclaration Const) π (t ▸ ts) (u ▸ us) k = ap (λ ys. if is_alone v then ys else []) k.0.bound
+listed_same v h π ts us k = refl
 
 pub looks_up : (f : Fact) (b s : ℕ) → LooksUp (question f b s)
 looks_up Written b s = mentions_look_up (is_write (by_symbol s))
@@ -77,7 +83,7 @@ module _ (R : Position → Tree → Tree → Type 0) where
   early_shrinks : (b s : ℕ) → OwnShrinks R (early b s)
   early_shrinks b s = record {
     before = λ p c env h xs n ts us z. itself _;
-    orders = λ p c h ts us z. ap (λ ys. (hands_on h && c.ordered) || is_among (by_symbol s) ys) (listed_same h (child_position h p (count ts)) ts us z.kept);
+    orders = λ p c h ts us z. ap (λ ys. (hands_on h && c.ordered) || is_among (by_symbol s) ys) (listed_same c.used h (child_position h p (count ts)) ts us z.kept);
     ends = λ c t u z. λ j. c.ordered && (is_among (by_symbol s) (z.lexical j) || is_among (by_symbol s) (z.bound j));
   }
 

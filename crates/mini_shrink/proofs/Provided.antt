@@ -110,13 +110,13 @@ in_body spells v params xs ys f s e =
 in_lexical : (spells : Spellings) (xs : List Name) → Spells (with_scope spells (lexical_scope xs)) false xs
 in_lexical spells xs = spelled_there spells (lexical_scope xs) false xs (λ s e. lexical_spelled s xs e)
 
-begun : (b : Bool) (first spells : Spellings) (v : Bool) (xs : List Name) → b ≡ false → Spells spells v xs → Spells (if b then first else spells) v xs
+pub begun : (b : Bool) (first spells : Spellings) (v : Bool) (xs : List Name) → b ≡ false → Spells spells v xs → Spells (if b then first else spells) v xs
 begun true first spells v xs e f = absurd (true≢false e)
 begun false first spells v xs e f = f
 
 -- ---- numbers
 
-zero_number : (c : Class) (h : Shape) (n : ℕ) → has_its_number c h n ≡ true → is_numbered c h ≡ false → n ≡ 0
+pub zero_number : (c : Class) (h : Shape) (n : ℕ) → has_its_number c h n ≡ true → is_numbered c h ≡ false → n ≡ 0
 zero_number c (shape.Program m ds) n e f = absurd (true≢false f)
 zero_number c h n e f = eqb-true n 0 (sym (ap (λ b. if b then not (nat_eq n 0) else nat_eq n 0) f) ∙ e)
 
@@ -166,7 +166,7 @@ module _ (d : Declared) (h : Shape) (scope : ℕ → List Binding) (uses : ℕ �
 
 -- ---- each kind of names
 
-abbrev ProvidedBy : Debt → Use → Spellings → Shape → ℕ → Trees → Type 0
+abbrev pub ProvidedBy : Debt → Use → Spellings → Shape → ℕ → Trees → Type 0
 ProvidedBy d u spells h n ts = Provided d h (opened u h ts) (use_of h u) (begins_body h n) (spelled_first u h n ts) 0 spells ts
 
 -- the scopes of a node and what begins in it
@@ -180,11 +180,11 @@ module _ (u : Use) (spells : Spellings) (h : Shape) (n : ℕ) (ts : Trees) where
   all_handed : (d : Declared) (v : Bool) → ((i : ℕ) (s : Spellings) (xs : List Name) → Spells s v xs → SpellsAs (of d) (use_of h u i) s xs) → ((i : ℕ) → begins_body h n (suc i) ≡ false) → Spells (if begins_body h n 0 then spelled_first u h n ts else spells) v (all_names d ts) → ProvidedBy (of d) u spells h n ts
   all_handed d v f e g = handed_on d h (opened u h ts) (use_of h u) (begins_body h n) (spelled_first u h n ts) v f e 0 spells ts g
 
-same_flag : (b : Bool) → is_same_flag b b ≡ true
+pub same_flag : (b : Bool) → is_same_flag b b ≡ true
 same_flag true = refl
 same_flag false = refl
 
-hoisting_by : (u : Use) → is_hoisting (hoisted_by u) ≡ true
+pub hoisting_by : (u : Use) → is_hoisting (hoisted_by u) ≡ true
 hoisting_by Write = refl
 hoisting_by u = refl
 
@@ -474,3 +474,9 @@ provided_bound c u spells (shape.Class false) xs n (id ▸ (a ▸ (b ▸ (again 
     let around = if begins_body h n 0 then spelled_first u h n us else spells in
     ((λ e. own_name true around id (λ f. absurd (true≢false f))), ((λ e. absurd (true≢false (sym e))), ((λ e. absurd (true≢false (sym e))), ((λ e. absent_binds (there u spells h n us 3 three) false again (class_parts c false us k.whole)), rest_unhandled u spells h n us (of declared.Bound) 4 (there u spells h n us 3 three) ts (λ j. refl)))))
 provided_bound c u spells h xs n ts k = rest_unhandled u spells h n ts (of declared.Bound) 0 spells ts (λ j. refl)
+
+pub provided : (d : Debt) (c : Class) (u : Use) (spells : Spellings) (h : Shape) (xs : List Name) (n : ℕ) (ts : Trees) → Standing c u spells h xs n ts → ProvidedBy d u spells h n ts
+provided (of declared.Bound) c u spells h xs n ts k = provided_bound c u spells h xs n ts k
+provided (of declared.Lexical) c u spells h xs n ts k = provided_lexical c u spells h xs n ts k
+provided (of declared.Hoisted) c u spells h xs n ts k = provided_hoisted c u spells h xs n ts k
+provided of_body c u spells h xs n ts k = provided_list c u spells h xs n ts k

@@ -37,7 +37,7 @@ deep_slot (many_and_rest c rest) = is_deep c && is_deep rest
 deep_slot (many_or_holes_and_rest c rest) = is_deep c && is_deep rest
 deep_slot (quasis g) = true
 
-abbrev deep_slots : List Slot → Bool
+abbrev pub deep_slots : List Slot → Bool
 deep_slots [] = true
 deep_slots (s ∷ ss) = deep_slot s && deep_slots ss
 
@@ -46,12 +46,12 @@ abbrev catch_slots : List Slot → Bool
 catch_slots (one_or_absent a_pattern ∷ ss) = lone_slots ss
 catch_slots ss = false
 
-abbrev ordered_slots : Shape → List Slot → Bool
+abbrev pub ordered_slots : Shape → List Slot → Bool
 ordered_slots shape.CatchClause ss = catch_slots ss
 ordered_slots h ss = not (declares_in_order h) || lone_slots ss
 
 -- what the slots of a shape are
-abbrev is_right : Shape → Option (List Slot) → Bool
+abbrev pub is_right : Shape → Option (List Slot) → Bool
 is_right h None = true
 is_right h (Some ss) = ordered_slots h ss && deep_slots ss
 
@@ -117,7 +117,7 @@ module_right in_module h = refl
 module_right in_body h = refl
 module_right nested h = refl
 
-statement_right : (strict : Bool) (d : Depth) (h : Shape) → is_right h (statement_slots strict d h) ≡ true
+pub statement_right : (strict : Bool) (d : Depth) (h : Shape) → is_right h (statement_slots strict d h) ≡ true
 statement_right strict d shape.EmptyStatement = refl
 statement_right strict d shape.DebuggerStatement = refl
 statement_right strict d shape.ExpressionStatement = refl
@@ -160,7 +160,7 @@ chosen_deep : (b : Bool) → is_deep (if b then a_method else an_expression) ≡
 chosen_deep true = refl
 chosen_deep false = refl
 
-slots_right : (strict : Bool) (c : Class) (h : Shape) → is_deep c ≡ true → is_right h (slots_of strict c h) ≡ true
+pub slots_right : (strict : Bool) (c : Class) (h : Shape) → is_deep c ≡ true → is_right h (slots_of strict c h) ≡ true
 slots_right strict a_program (shape.Program m ds) e = absurd (true≢false (sym e))
 slots_right strict (a_statement d) h e = statement_right strict d h
 slots_right strict a_block shape.BlockStatement e = refl

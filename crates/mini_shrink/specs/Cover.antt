@@ -86,14 +86,6 @@ unfoldable mutual
 abbrev pub ProgramsAreCovered : Type 0
 ProgramsAreCovered = (t : Tree) → IsWellShaped t → is_covered Read no_spellings t ≡ true
 
--- So a part of a program that declares no symbol, neither in a scope of its own nor for the scopes
--- around it, holds no binder of it. The branch of an `if` (a use alone) and a function's body have
--- lexical names that they don't hand on
-abbrev pub UndeclaredIsUnbound : Type 0
-UndeclaredIsUnbound =
-    (strict : Bool) (p : Slot) (u : Use) (env : Environment) (t : Tree) (s : ℕ) → fits strict p t ≡ true → is_alone u ≡ false → is_function_body t ≡ false → Scoped u env t
-    → times (symbol s) (declared_in u t) ≡ 0 → is_among (by_symbol s) (pattern_names t) ≡ false → ((d : Declared) → is_among (by_symbol s) (names_of d t) ≡ false) → Unbound s t
-
 -- ---- examples
 
 -- `function f(p) { { var x; } { let x; } let { e } = p; }`

@@ -21,15 +21,10 @@ use Rattle.mini_kept.specs.Loosely.{LawfulUnder}
 use Rattle.mini_kept.specs.Without.{BodySets, Within}
 use Rattle.mini_shrink.specs.Facts.{ReadsLess}
 use Rattle.mini_shrink.specs.Told.{is_steady}
-use Rattle.mini_shrink.specs.ToldOn.{of_symbols, asks_as}
+use Rattle.mini_shrink.specs.ToldOn.{told_by}
 
 abbrev pub exactly_of : Tree → BodySets
-exactly_of t b = record {
-  steady = of_symbols (is_steady t b);
-  unshared = of_symbols (λ s. not (is_shared t b (by_symbol s)));
-  initial = of_symbols (λ s. is_steady t b s && not (is_among (by_symbol s) (lexical_variables false t)));
-  has_this = not (list_any (asks_as b) (bodies_in t));
-}
+exactly_of t = told_by (is_steady t) t
 
 -- it isn't foreign to the body, and no node writes it
 pub record IsExactlySo (t : Tree) (b s : ℕ) : Type 0 where

@@ -1,18 +1,20 @@
 -- The questions of which Shared and Foreign are made, of a symbol and of a body with a number: each
 -- says what one node tells.
-use Rattle.std.specs.Prelude.{ℕ, suc, Bool, true, false, ◌&&◌, ◌||◌, not, List, [], ◌∷◌, ◌++◌, map}
+use Rattle.std.specs.Prelude.{ℕ, suc, Bool, true, false, ◌&&◌, ◌||◌, not, List, [], ◌∷◌, ◌++◌, map, if◌then◌else◌}
 use Rattle.std.specs.List.{list_any}
+use Rattle.mini_model.specs.declared.kind.VariableDeclarationKind.{VariableDeclarationKind}
 use Rattle.mini_model.specs.declared.kind.VariableDeclarationKind.TheVariants.{Var}
 use Rattle.mini_model.specs.declared.name.Name.{Name}
 use Rattle.mini_model.specs.declared.shape.Shape.{Shape}
 use Rattle.mini_model.specs.declared.shape.Shape.TheVariants as shape
 use Rattle.mini_model.specs.Tree.{Tree, Trees, node, none, ◌▸◌}
+use Rattle.mini_laws.specs.declared.names.Use.{Use}
 use Rattle.mini_laws.specs.declared.names.Use.TheVariants.{Read}
 use Rattle.mini_laws.specs.declared.names.Binding.{Binding}
 use Rattle.mini_laws.specs.declared.names.Declared.TheVariants as declared
 use Rattle.mini_laws.specs.DeclaredNames.{names_of}
 use Rattle.mini_laws.specs.References.{reads}
-use Rattle.mini_laws.specs.Scopes.{opened}
+use Rattle.mini_laws.specs.Scopes.{is_alone, opened}
 use Rattle.mini_laws.specs.Resolved.{Environment}
 use Rattle.mini_laws.specs.Strict.{is_strict_in}
 use Rattle.mini_laws.specs.ScopeList.{names_in, any_has_eval, by_symbol}
@@ -109,18 +111,25 @@ hands_on shape.ExportNamedDeclaration = true
 hands_on shape.ExportDefaultDeclaration = true
 hands_on h = false
 
+-- the lexical names of a declaration that stands alone, as the branch of an `if` (ESTree has
+-- `if (a) let x;`), which opens a scope of its own
+abbrev pub alone_names : Use → VariableDeclarationKind → Tree → List Name
+alone_names u Var t = []
+alone_names u k t = if is_alone u then names_of declared.Bound t else []
+
 -- the names that are declared one after another in a scope that a node opens
-abbrev pub listed_names : Shape → Trees → List Name
-listed_names (shape.Program is_module ds) (t ▸ ts) = names_of declared.Lexical t
-listed_names shape.FunctionBody (t ▸ ts) = names_of declared.Lexical t
-listed_names shape.StaticBlock (t ▸ ts) = names_of declared.Lexical t
-listed_names shape.BlockStatement (t ▸ ts) = names_of declared.Lexical t
-listed_names shape.ForStatement (t ▸ ts) = names_of declared.Lexical t
-listed_names shape.ForInStatement (t ▸ ts) = names_of declared.Lexical t
-listed_names shape.ForOfStatement (t ▸ ts) = names_of declared.Lexical t
-listed_names shape.SwitchStatement (a ▸ (t ▸ ts)) = names_of declared.Lexical t
-listed_names shape.CatchClause (t ▸ ts) = names_of declared.Bound t
-listed_names h ts = []
+abbrev pub listed_names : Use → Shape → Trees → List Name
+listed_names u (shape.Program is_module ds) (t ▸ ts) = names_of declared.Lexical t
+listed_names u shape.FunctionBody (t ▸ ts) = names_of declared.Lexical t
+listed_names u shape.StaticBlock (t ▸ ts) = names_of declared.Lexical t
+listed_names u shape.BlockStatement (t ▸ ts) = names_of declared.Lexical t
+listed_names u shape.ForStatement (t ▸ ts) = names_of declared.Lexical t
+listed_names u shape.ForInStatement (t ▸ ts) = names_of declared.Lexical t
+listed_names u shape.ForOfStatement (t ▸ ts) = names_of declared.Lexical t
+listed_names u shape.SwitchStatement (a ▸ (t ▸ ts)) = names_of declared.Lexical t
+listed_names u shape.CatchClause (t ▸ ts) = names_of declared.Bound t
+listed_names u (shape.VariableDeclaration k) (t ▸ ts) = alone_names u k t
+listed_names u h ts = []
 
 -- Whether a body reads a symbol before its declaration has ended (ECMA-262, "let and const
 -- Declarations": the temporal dead zone). An end is told in the scope that declares the name, after
@@ -128,6 +137,6 @@ listed_names h ts = []
 abbrev pub early : ℕ → ℕ → Question
 early b s = record {
   before = λ c env h xs n ts. reads_if (list_any (λ m. same_variable (by_symbol s) m.name && not m.binds && reads m.used && not (is_elsewhere b m.around)) (own_mentions c.used c.around h xs));
-  orders = λ c h ts. (hands_on h && c.ordered) || is_among (by_symbol s) (listed_names h ts);
+  orders = λ c h ts. (hands_on h && c.ordered) || is_among (by_symbol s) (listed_names c.used h ts);
   ends = λ c t. c.ordered && (is_among (by_symbol s) (names_of declared.Lexical t) || is_among (by_symbol s) (names_of declared.Bound t));
 }

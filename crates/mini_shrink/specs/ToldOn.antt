@@ -34,16 +34,20 @@ of_symbols p (Global s) = false
 abbrev pub asks_as : ℕ → Body → Bool
 asks_as n b = nat_eq b.number n && b.asks_this
 
--- of the body with a number: no answer changes what nothing writes and what isn't foreign to it by
--- what shrinks, no event shows what it doesn't share, and it begins with what of the former is
+-- What is told of the body with a number, by the symbols that are steady in each body: no answer
+-- changes those, no event shows what it doesn't share, and it begins with what of the former is
 -- nowhere lexical
-abbrev pub told_of : Tree → BodySets
-told_of t b = record {
-  steady = of_symbols (stays t b);
+abbrev pub told_by : (ℕ → ℕ → Bool) → Tree → BodySets
+told_by steady t b = record {
+  steady = of_symbols (steady b);
   unshared = of_symbols (λ s. not (is_shared t b (by_symbol s)));
-  initial = of_symbols (λ s. stays t b s && not (is_among (by_symbol s) (lexical_variables false t)));
+  initial = of_symbols (λ s. steady b s && not (is_among (by_symbol s) (lexical_variables false t)));
   has_this = not (list_any (asks_as b) (bodies_in t));
 }
+
+-- by what nothing writes and what isn't foreign to the body by what shrinks
+abbrev pub told_of : Tree → BodySets
+told_of t = told_by (stays t) t
 
 -- what is told is so, of each symbol: no answer changes it, and nothing writes it
 pub record IsSo (t : Tree) (b s : ℕ) : Type 0 where

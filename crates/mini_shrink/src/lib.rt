@@ -2,10 +2,12 @@
 //! function's contract is a law, and its body is empty.
 #![tactic(auto)]
 
+ghost use Rattle.mini_shrink.specs.Cover.{ProgramsAreCovered};
 ghost use Rattle.mini_shrink.specs.Exact.{ExactIsSo, ExactWithin};
 ghost use Rattle.mini_shrink.specs.Examples.{after_it};
 ghost use Rattle.mini_shrink.specs.Facts.{ReadsLessShrinks};
 ghost use Rattle.mini_shrink.specs.Regular.{EarlyByScopes, ForeignByScopes, ProgramsAreRegular};
+ghost use Rattle.mini_shrink.specs.SameForeign.{BoundOnce};
 ghost use Rattle.mini_shrink.specs.Told.{ToldShrinks};
 ghost use Rattle.mini_shrink.specs.ToldOn.{PlacesShow, ToldIsSo, ToldOn, ToldWithin};
 
@@ -29,6 +31,18 @@ pub fn told_shrinks<R: Rewrites>()
 /// Each program has the shape on which the order of reads and declarations rests.
 pub fn programs_are_regular()
     ensures { ProgramsAreRegular }
+{}
+
+/// Each binder of a program is spelled in a scope of its own body, or by the pattern in which it
+/// stands.
+pub fn programs_are_covered()
+    ensures { ProgramsAreCovered }
+{}
+
+/// A symbol that is bound in a body is bound in no other, but for symbols that are foreign to every
+/// body, as those that a pattern binds.
+pub fn symbols_are_bound_once()
+    ensures { BoundOnce }
 {}
 
 /// A body that reads a symbol early, by all moments of the program, does so by the ends that scopes

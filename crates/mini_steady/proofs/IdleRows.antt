@@ -1,5 +1,5 @@
 -- What goes that has no effect where a body has its `this` is what a row says, and where nothing does no row reads the node.
-use Rattle.std.proofs.Common.{◌≡◌, ℕ, zero, suc, ◌<◌, ◌≤◌, Bool, true, false, Option, Some, None, [], refl, sym, ap, subst, ◌∙◌, inl, inr, true≢false, arith}
+use Rattle.std.proofs.Common.{◌≡◌, ℕ, ◌⊎◌, zero, suc, ◌<◌, ◌≤◌, Bool, true, false, Option, Some, None, [], refl, sym, ap, subst, ◌∙◌, inl, inr, true≢false, arith}
 use Rattle.std.specs.Prelude.{◌+◌, ◌&&◌, ◌||◌, nat_eq, nat_le, is_some, unwrap_or, if◌then◌else◌}
 use Rattle.std.proofs.lemmas.Bool.{and_parts, false≢true, le-leb, leb-true, eqb-true}
 use Rattle.mini_model.specs.declared.place.Position.TheVariants.{Expr, Stmt}
@@ -9,19 +9,21 @@ use Rattle.mini_model.specs.declared.shape.Shape.TheVariants as shape
 use Rattle.mini_model.specs.Tree.{Tree, Trees, node, none, ◌▸◌, child_or_absent, children, count, empty_statement}
 use Rattle.mini_model.specs.Paths.{append}
 use Rattle.mini_kept.specs.Without.{Assured}
-use Rattle.mini_node.specs.Children.{first_children, part, rest_children, without}
+use Rattle.mini_node.specs.Children.{part}
 use Rattle.mini_node.specs.Kinds.{is_expression_statement, is_sequence, sequence}
 use Rattle.mini_node.specs.Made.{expression_statement_is, sequence_is}
-use Rattle.mini_node.specs.Walks.{from_first, next_child}
+use Rattle.mini_held.specs.Parts.{idle_before_last, left_after}
+use Rattle.mini_held.proofs.PartsGone.{count_with, found, parts_go}
 use Rattle.mini_rows.specs.Idle.{is_still, is_still_part, IdleRow, IdleStatement}
 use Rattle.mini_rows.specs.Lists.{for_loop}
 use Rattle.mini_rows.specs.Sequences.{takes_alone, stays_alone}
 use Rattle.mini_rows.specs.Steady.{SteadyRow}
-use Rattle.mini_steady.specs.Chains.{once}
-use Rattle.mini_steady.specs.Idle.{does_nothing, is_for, begins_still, turns_still, headless, turn_written, head_written, statement_written, written_in, still_before_last, is_left, loses_part, Loses, LosesIn}
+use Rattle.mini_steady.specs.Chains.{Several, once}
+use Rattle.mini_steady.specs.Idle.{does_nothing, is_for, begins_still, turns_still, headless, turn_written, head_written, statement_written, written_in, is_left, loses_part, Loses, LosesIn}
 use Rattle.mini_steady.specs.Members as members
 use Rattle.mini_steady.specs.Own.{AppliedHere}
 use Rattle.mini_steady.proofs.MemberRows.{members_are_rows}
+use Rattle.mini_steady.proofs.Owning.{several_over, several_then}
 
 -- ---- 22
 
@@ -100,71 +102,40 @@ both_true : (b c : Bool) → b ≡ true → c ≡ true → b && c ≡ true
 both_true true c e f = f
 both_true false c e f = e
 
-or_true : (b c : Bool) → c ≡ true → b || c ≡ true
-or_true true c e = refl
-or_true false c e = e
+-- a part goes, and others after it
+still_goes : (V : Assured) (s : Seat) → V.has_this ≡ true → (before : Trees) (a q : Tree) (qs : Trees) (v : Tree) → is_still a ≡ true → nat_le 2 (count (append before (q ▸ qs))) ≡ true → (sequence (append before (q ▸ qs)) ≡ v) ⊎ Several (IdleRow V s) (sequence (append before (q ▸ qs))) v → Several (IdleRow V s) (sequence (append before (a ▸ (q ▸ qs)))) v
+still_goes V s has before a q qs v e several others = go others
+  where
+    first : IdleRow V s (sequence (append before (a ▸ (q ▸ qs)))) (sequence (append before (q ▸ qs)))
+    first = inl (record { before = before; idle = a; next = q; after = qs; kept = has; still = e; several = several; shape = refl; written = refl })
 
-split : (ts : Trees) (i : ℕ) → i < count ts → ts ≡ append (first_children i ts) (rest_children i ts)
-split none i h = refl
-split (t ▸ ts) zero h = refl
-split (t ▸ ts) (suc i) h = ap (λ us. t ▸ us) (split ts i (omega (arith, h)))
+    go : (sequence (append before (q ▸ qs)) ≡ v) ⊎ Several (IdleRow V s) (sequence (append before (q ▸ qs))) v → Several (IdleRow V s) (sequence (append before (a ▸ (q ▸ qs)))) v
+    go (inl same) = once (sequence (append before (a ▸ (q ▸ qs)))) v (subst (IdleRow V s (sequence (append before (a ▸ (q ▸ qs))))) same first)
+    go (inr more) = several_then (IdleRow V s) (sequence (append before (a ▸ (q ▸ qs)))) (sequence (append before (q ▸ qs))) v (once (sequence (append before (a ▸ (q ▸ qs)))) (sequence (append before (q ▸ qs))) first) more
 
-without_is : (ts : Trees) (i : ℕ) → i < count ts → without ts i ≡ append (first_children i ts) (rest_children (suc i) ts)
-without_is none i h = absurd (omega (arith, h))
-without_is (t ▸ ts) zero h = sym (from_first ts)
-without_is (t ▸ ts) (suc i) h = ap (λ us. t ▸ us) (without_is ts i (omega (arith, h)))
-
-count_without : (ts : Trees) (i : ℕ) → i < count ts → suc (count (without ts i)) ≡ count ts
-count_without none i h = absurd (omega (arith, h))
-count_without (t ▸ ts) zero h = refl
-count_without (t ▸ ts) (suc i) h = ap suc (count_without ts i (omega (arith, h)))
-
-pub part_loses : (s : Seat) (t : Tree) (i : ℕ) → is_sequence t ≡ true → i + 1 < count (children (part t 0)) → is_still (child_or_absent (children (part t 0)) i) ≡ true → nat_le 3 (count (children (part t 0))) ≡ true → Loses s t (sequence (without (children (part t 0)) i)) true
-part_loses s t i is h e k V has =
-    let ts : Trees = children (part t 0) in
-    let here : i < count ts = omega (arith, h) in
-    let next : rest_children (suc i) ts ≡ child_or_absent ts (suc i) ▸ rest_children (suc (suc i)) ts = next_child ts (suc i) (omega (arith, h)) in
-    let kept : without ts i ≡ append (first_children i ts) (child_or_absent ts (suc i) ▸ rest_children (suc (suc i)) ts) = without_is ts i here ∙ ap (append (first_children i ts)) next in
-    let whole : ts ≡ append (first_children i ts) (child_or_absent ts i ▸ (child_or_absent ts (suc i) ▸ rest_children (suc (suc i)) ts)) = split ts i here ∙ ap (append (first_children i ts)) (next_child ts i here ∙ ap (λ us. child_or_absent ts i ▸ us) next) in
-    inl (record {
-      before = first_children i ts;
-      idle = child_or_absent ts i;
-      next = child_or_absent ts (suc i);
-      after = rest_children (suc (suc i)) ts;
-      kept = has;
-      still = e;
-      several = ap (λ us. nat_le 2 (count us)) (sym kept) ∙ le-leb 2 (count (without ts i)) (omega (arith, count_without ts i here, leb-true 3 (count ts) k));
-      shape = sequence_is t is ∙ ap sequence whole;
-      written = ap sequence kept;
-    })
+pub parts_lose : (s : Seat) (t : Tree) → is_sequence t ≡ true → idle_before_last is_still (children (part t 0)) ≡ true → nat_le 3 (count (children (part t 0))) ≡ true → Loses s t (sequence (left_after is_still 0 (children (part t 0)))) true
+parts_lose s t is e k V has =
+    subst (λ u. Several (IdleRow V s) u (sequence (left_after is_still 0 (children (part t 0))))) (sym (sequence_is t is))
+    (parts_go is_still (λ u v. (u ≡ v) ⊎ Several (IdleRow V s) u v) (Several (IdleRow V s)) (λ u. inl refl) (still_goes V s has) (λ u v m. inr m) (children (part t 0)) e k)
 
 pub last_loses : (s : Seat) (t : Tree) → is_sequence t ≡ true → is_left s (children (part t 0)) ≡ true → Loses s t (child_or_absent (children (part t 0)) 1) true
 last_loses s t is e V has = go (children (part t 0)) refl e
   where
-    go : (ts : Trees) → children (part t 0) ≡ ts → is_left s ts ≡ true → IdleRow V s t (child_or_absent (children (part t 0)) 1)
+    go : (ts : Trees) → children (part t 0) ≡ ts → is_left s ts ≡ true → Several (IdleRow V s) t (child_or_absent (children (part t 0)) 1)
     go (a ▸ (b ▸ none)) h e =
         let (seated, rest) = and_parts (takes_alone s) (is_still a && stays_alone s b) e in
         let (still, stays) = and_parts (is_still a) (stays_alone s b) rest in
-        inr (record { idle = a; last = b; kept = has; still = still; seated = seated; stays = stays; shape = sequence_is t is ∙ ap sequence h; written = ap (λ us. child_or_absent us 1) h })
+        once t (child_or_absent (children (part t 0)) 1) (inr (record { idle = a; last = b; kept = has; still = still; seated = seated; stays = stays; shape = sequence_is t is ∙ ap sequence h; written = ap (λ us. child_or_absent us 1) h }))
     go none h e = absurd (true≢false (sym e))
     go (a ▸ none) h e = absurd (true≢false (sym e))
     go (a ▸ (b ▸ (c ▸ ts))) h e =
         let two = eqb-true (count (a ▸ (b ▸ (c ▸ ts)))) 2 (and_parts (nat_eq (count (a ▸ (b ▸ (c ▸ ts)))) 2) (takes_alone s && (is_still a && stays_alone s b)) e).0 in absurd (omega (arith, two))
 
-found_still : (before : Trees) (a q : Tree) (qs : Trees) → is_still a ≡ true → still_before_last (append before (a ▸ (q ▸ qs))) ≡ true
-found_still none a q qs e = ap (λ b. b || still_before_last (q ▸ qs)) e
-found_still (u ▸ none) a q qs e = or_true (is_still u) (still_before_last (a ▸ (q ▸ qs))) (found_still none a q qs e)
-found_still (u ▸ (v ▸ vs)) a q qs e = or_true (is_still u) (still_before_last (v ▸ append vs (a ▸ (q ▸ qs)))) (found_still (v ▸ vs) a q qs e)
-
-count_with : (before : Trees) (a q : Tree) (qs : Trees) → count (append before (a ▸ (q ▸ qs))) ≡ suc (count (append before (q ▸ qs)))
-count_with none a q qs = refl
-count_with (u ▸ us) a q qs = ap suc (count_with us a q qs)
-
 loses_still : (s : Seat) (before : Trees) (a q : Tree) (qs : Trees) → is_still a ≡ true → nat_le 2 (count (append before (q ▸ qs))) ≡ true → loses_part s (sequence (append before (a ▸ (q ▸ qs)))) ≡ true
 loses_still s before a q qs e h =
     let ts : Trees = append before (a ▸ (q ▸ qs)) in
-    ap (λ b. if b then still_before_last ts else is_left s ts) (le-leb 3 (count ts) (omega (arith, count_with before a q qs, leb-true 2 (count (append before (q ▸ qs))) h)))
-    ∙ found_still before a q qs e
+    ap (λ b. if b then idle_before_last is_still ts else is_left s ts) (le-leb 3 (count ts) (omega (arith, count_with before a q qs, leb-true 2 (count (append before (q ▸ qs))) h)))
+    ∙ found is_still before a q qs e
 
 rests : (s : Seat) (t : Tree) → loses_part s t ≡ false → (V : Assured) (w : Tree) → IdleRow V s t w → ⊥
 rests s t l V w (inl r) = true≢false (sym (loses_still s r.before r.idle r.next r.after r.still r.several) ∙ sym (ap (loses_part s) r.shape) ∙ l)
@@ -175,14 +146,14 @@ rests s t l V w (inr r) =
 
 -- what is no sequence loses no part
 pub no_sequence : (s : Seat) (t : Tree) → is_sequence t ≡ false → Loses s t t false
-no_sequence s t e = (refl, rests s t (ap (λ b. b && (if nat_le 3 (count (children (part t 0))) then still_before_last (children (part t 0)) else is_left s (children (part t 0)))) e))
+no_sequence s t e = (refl, rests s t (ap (λ b. b && (if nat_le 3 (count (children (part t 0))) then idle_before_last is_still (children (part t 0)) else is_left s (children (part t 0)))) e))
 
-pub no_still : (s : Seat) (t : Tree) → is_sequence t ≡ true → nat_le 3 (count (children (part t 0))) ≡ true → still_before_last (children (part t 0)) ≡ false → Loses s t t false
+pub no_still : (s : Seat) (t : Tree) → is_sequence t ≡ true → nat_le 3 (count (children (part t 0))) ≡ true → idle_before_last is_still (children (part t 0)) ≡ false → Loses s t t false
 no_still s t is k e = (
   refl,
   rests s t
-      (ap (λ b. b && (if nat_le 3 (count (children (part t 0))) then still_before_last (children (part t 0)) else is_left s (children (part t 0)))) is
-      ∙ ap (λ b. if b then still_before_last (children (part t 0)) else is_left s (children (part t 0))) k
+      (ap (λ b. b && (if nat_le 3 (count (children (part t 0))) then idle_before_last is_still (children (part t 0)) else is_left s (children (part t 0)))) is
+      ∙ ap (λ b. if b then idle_before_last is_still (children (part t 0)) else is_left s (children (part t 0))) k
       ∙ e),
 )
 
@@ -190,8 +161,8 @@ pub not_left : (s : Seat) (t : Tree) → is_sequence t ≡ true → nat_le 3 (co
 not_left s t is k e = (
   refl,
   rests s t
-      (ap (λ b. b && (if nat_le 3 (count (children (part t 0))) then still_before_last (children (part t 0)) else is_left s (children (part t 0)))) is
-      ∙ ap (λ b. if b then still_before_last (children (part t 0)) else is_left s (children (part t 0))) k
+      (ap (λ b. b && (if nat_le 3 (count (children (part t 0))) then idle_before_last is_still (children (part t 0)) else is_left s (children (part t 0)))) is
+      ∙ ap (λ b. if b then idle_before_last is_still (children (part t 0)) else is_left s (children (part t 0))) k
       ∙ e),
 )
 
@@ -208,37 +179,6 @@ pub with_this : (V : Assured) (s : Seat) (t u : Tree) (b : Bool) → V.has_this 
 with_this V s t u true h l = l V h
 with_this V s t u false h l = (l.0, λ w r. l.1 V w r)
 
--- ---- a look for a part that has no effect
-
-pub still_stops : (ts : Trees) (i : ℕ) → i + 1 < count ts → is_still (child_or_absent ts i) ≡ true → still_before_last (rest_children i ts) ≡ still_before_last ts → true ≡ still_before_last ts
-still_stops ts i h e inv =
-    sym (ap (λ b. b || still_before_last (child_or_absent ts (suc i) ▸ rest_children (suc (suc i)) ts)) e)
-    ∙ sym (ap still_before_last (next_child ts i (omega (arith, h)) ∙ ap (λ us. child_or_absent ts i ▸ us) (next_child ts (suc i) (omega (arith, h)))))
-    ∙ inv
-
-pub still_goes_on : (ts : Trees) (i : ℕ) → i + 1 < count ts → is_still (child_or_absent ts i) ≡ false → still_before_last (rest_children i ts) ≡ still_before_last ts → still_before_last (rest_children (i + 1) ts) ≡ still_before_last ts
-still_goes_on ts i h e inv =
-    let next : i + 1 ≡ suc i = omega arith in
-    let second = next_child ts (suc i) (omega (arith, h)) in
-    ap (λ k. still_before_last (rest_children k ts)) next
-    ∙ ap still_before_last second
-    ∙ sym (ap (λ b. b || still_before_last (child_or_absent ts (suc i) ▸ rest_children (suc (suc i)) ts)) e)
-    ∙ sym (ap still_before_last (next_child ts i (omega (arith, h)) ∙ ap (λ us. child_or_absent ts i ▸ us) second))
-    ∙ inv
-
-pub still_ends : (ts : Trees) (i : ℕ) → count ts ≤ i + 1 → still_before_last (rest_children i ts) ≡ still_before_last ts → false ≡ still_before_last ts
-still_ends ts i h inv = sym (few (rest_children i ts) (at_most ts i h)) ∙ inv
-  where
-    few : (us : Trees) → count us ≤ 1 → still_before_last us ≡ false
-    few none k = refl
-    few (u ▸ none) k = refl
-    few (u ▸ (v ▸ vs)) k = absurd (omega (arith, k))
-
-    at_most : (ts : Trees) (i : ℕ) → count ts ≤ i + 1 → count (rest_children i ts) ≤ 1
-    at_most none i h = omega arith
-    at_most (t ▸ ts) zero h = omega (arith, h)
-    at_most (t ▸ ts) (suc i) h = at_most ts i (omega (arith, h))
-
 -- ---- at an expression in its seat
 
 pub member_applied : (V : Assured) (s : Seat) (t u : Tree) → u ≡ unwrap_or (members.written V s t) t → true ≡ is_some (members.written V s t) → AppliedHere (SteadyRow V) (Expr s) t u true
@@ -252,5 +192,5 @@ pub idle_applied : (V : Assured) (s : Seat) (t m u : Tree) → m ≡ unwrap_or (
 idle_applied V s t m u e f l = go (members.written V s t) refl f (subst (λ v. LosesIn V s v u true) e l)
   where
     go : (o : Option Tree) → members.written V s t ≡ o → false ≡ is_some o → LosesIn V s (unwrap_or o t) u true → AppliedHere (SteadyRow V) (Expr s) t u true
-    go None h f l = once t u (inr (inl l))
+    go None h f l = several_over (IdleRow V s) (SteadyRow V (Expr s)) (λ v. v) (λ v w r. inr (inl r)) t u l
     go (Some w) h f l = absurd (true≢false (sym f))

@@ -7,8 +7,10 @@ use Rattle.mini_model.specs.Tree.{Tree, Trees, node, none, ◌▸◌, absent, ch
 use Rattle.mini_kept.specs.Without.{Assured}
 use Rattle.mini_node.specs.Children.{is_bare, part, with_child}
 use Rattle.mini_node.specs.Kinds.{is_expression_statement, is_sequence}
+use Rattle.mini_held.specs.Parts.{idle_before_last}
 use Rattle.mini_rows.specs.Idle.{IdleRow, is_still, is_still_part}
 use Rattle.mini_rows.specs.Sequences.{takes_alone, stays_alone}
+use Rattle.mini_steady.specs.Chains.{Several}
 
 -- ---- 22
 
@@ -49,26 +51,21 @@ written_in V t = if V.has_this then statement_written t else None
 
 -- ---- 21
 
--- one of the parts has no effect, and is not the last
-abbrev pub still_before_last : Trees → Bool
-still_before_last none = false
-still_before_last (t ▸ none) = false
-still_before_last (t ▸ (u ▸ us)) = is_still t || still_before_last (u ▸ us)
-
 -- of two the last one may stand alone
 abbrev pub is_left : Seat → Trees → Bool
 is_left s ts = nat_eq (count ts) 2 && (takes_alone s && (is_still (child_or_absent ts 0) && stays_alone s (child_or_absent ts 1)))
 
--- a part of a sequence goes
+-- a part of a sequence goes, and is not the last, where there are three or more
 abbrev pub loses_part : Seat → Tree → Bool
-loses_part s t = is_sequence t && (if nat_le 3 (count (children (part t 0))) then still_before_last (children (part t 0)) else is_left s (children (part t 0)))
+loses_part s t = is_sequence t && (if nat_le 3 (count (children (part t 0))) then idle_before_last is_still (children (part t 0)) else is_left s (children (part t 0)))
 
--- in any body that has its `this` a row reads the one tree as the other; or in none a row reads it
+-- in any body that has its `this` rows lead from the one tree to the other; or in none a row reads
+-- it
 abbrev pub Loses : Seat → Tree → Tree → Bool → Type 0
-Loses s t u true = (V : Assured) → V.has_this ≡ true → IdleRow V s t u
+Loses s t u true = (V : Assured) → V.has_this ≡ true → Several (IdleRow V s) t u
 Loses s t u false = (u ≡ t) × ((V : Assured) (w : Tree) → IdleRow V s t w → ⊥)
 
 -- so in a body of which this is known
 abbrev pub LosesIn : Assured → Seat → Tree → Tree → Bool → Type 0
-LosesIn V s t u true = IdleRow V s t u
+LosesIn V s t u true = Several (IdleRow V s) t u
 LosesIn V s t u false = (u ≡ t) × ((w : Tree) → IdleRow V s t w → ⊥)

@@ -13,4 +13,3 @@ pub mod Parts
 pub mod Lighter
 pub mod Told
 pub mod Telling
-pub mod Stays

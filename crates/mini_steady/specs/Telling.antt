@@ -1,31 +1,30 @@
 -- The tables of a context tell what is known of bodies, of every symbol: of those for which they
--- have room by what they say, and of others nothing is said in the program. And what was told of
--- one program is told of the next that stays so.
+-- have room by what they say, and of others nothing is said in the program.
 use Rattle.std.specs.Prelude.{ℕ, zero, suc, ◌≡◌, ◌<◌, refl, nat_eq, nat_lt, Bool, true, false, not, ◌&&◌, ◌||◌, List, [], ◌∷◌, length}
 use Rattle.std.specs.List.{list_any}
 use Rattle.std.proofs.Common.{ap, ◌∙◌, sym, subst}
 use Rattle.std.proofs.Math.Dec.{eqb-suc-suc, eqb-zero-suc}
 use Rattle.std.proofs.lemmas.Bool.{eqb-true, eq-eqb, false≢true, lt-ltb, ltb-true}
+use Rattle.std.proofs.lemmas.List.Folds.{list_any-append}
 use Rattle.mini_model.specs.Tree.{Tree, Trees, node, none, ◌▸◌}
 use Rattle.mini_tree.specs.declared.options.CompressOptions.{CompressOptions}
 use Rattle.mini_laws.specs.Congruence.{NoneIn, Avoids, AllAvoid}
 use Rattle.mini_laws.specs.declared.names.Use.TheVariants.{Read}
 use Rattle.mini_laws.specs.Foreign.{all_writes, is_declared_in, is_foreign_always, is_write, lexical_variables, params_around, switched, is_read_early, moments}
 use Rattle.mini_laws.specs.Mentions.{Mention, is_among, is_elsewhere, outermost, program_mentions, same_variable}
-use Rattle.mini_laws.specs.Shared.{is_shared, is_shared_always}
+use Rattle.mini_laws.specs.Shared.{is_shared, is_shared_always, program_var_writes}
 use Rattle.mini_laws.specs.Substitution.{alone}
 use Rattle.mini_laws.specs.Value.{Declared, Global, Variable, choose, is_in, variable_eq, variables}
 use Rattle.mini_laws.specs.Writable.{mentions, any_mentions}
-use Rattle.mini_kept.specs.Without.{Within}
 use Rattle.mini_kept.proofs.Undeclared.{unshared, native}
 use Rattle.mini_context.specs.declared.context.TraverseCtx.{TraverseCtx}
 use Rattle.mini_context.specs.Facts.{Facts, Told}
 use Rattle.mini_context.specs.Known.{Knows}
-use Rattle.mini_context.specs.Steady.{is_initial, is_past, is_steady, is_unshared, StaysTold, TellsBodies, Renewed}
+use Rattle.mini_context.specs.Steady.{is_initial, is_past, is_steady, is_unshared, TellsBodies}
 use Rattle.mini_context.specs.Tables.{named}
 use Rattle.mini_context.proofs.Known.{told_length}
-use Rattle.mini_context.proofs.Stays.{bodies_told}
-use Rattle.mini_steady.specs.Told.{is_written, stays_as_it_is, of_symbols, told_by, told_in}
+use Rattle.mini_context.proofs.Foreigns.{bodies_told}
+use Rattle.mini_steady.specs.Told.{is_assigned, is_steady_in_body, of_symbols, told_by, told_in}
 
 -- ---- a symbol that a program doesn't mention
 
@@ -87,7 +86,7 @@ module _ (k : ℕ) where
     undeclared : (b : ℕ) → is_declared_in t b (named k) ≡ false
     undeclared b = nowhere (program_mentions t) (λ c. (or_parts_false (is_shared_always t (named k)) (list_any (λ m. same_variable (named k) m.name && is_elsewhere c m.around) (program_mentions t)) (alone_here c)).1) (λ m. m.binds) (λ m. not (is_elsewhere b m.around))
 
-    -- it is neither written nor lexical
+    -- it is neither written, by a reference or a `var`, nor lexical
     taken : (always shared written lexical declared switched early around : Bool) → declared ≡ false → (always || shared || (not declared && written) || ((lexical && (not declared || switched || early)) || around)) ≡ false → (written ≡ false) × (lexical ≡ false)
     taken true h w l d sw ea ar f g = absurd (false≢true (sym g))
     taken false true w l d sw ea ar f g = absurd (false≢true (sym g))
@@ -96,18 +95,21 @@ module _ (k : ℕ) where
     taken false false false true false sw ea ar f g = absurd (false≢true (sym g))
     taken false false false false false sw ea ar f g = (refl, refl)
 
-    nothing_said : (is_written t k ≡ false) × (is_among (named k) (lexical_variables false t) ≡ false)
+    nothing_said : (list_any (is_write (named k)) (all_writes t) ≡ false) × (is_among (named k) (lexical_variables false t) ≡ false)
     nothing_said =
-        taken (is_foreign_always t (named k)) (is_shared t 0 (named k) && list_any (λ m. is_write (named k) m && is_elsewhere 0 m.around) (all_writes t)) (is_written t k) (is_among (named k) (lexical_variables false t)) (is_declared_in t 0 (named k)) (is_among (named k) (switched t)) (is_read_early 0 (named k) (moments Read outermost t)) (is_among (named k) (params_around 0 t)) (undeclared 0) (native k t silent 0)
+        taken (is_foreign_always t (named k)) (is_shared t 0 (named k) && list_any (λ m. is_write (named k) m && is_elsewhere 0 m.around) (all_writes t)) (list_any (is_write (named k)) (all_writes t)) (is_among (named k) (lexical_variables false t)) (is_declared_in t 0 (named k)) (is_among (named k) (switched t)) (is_read_early 0 (named k) (moments Read outermost t)) (is_among (named k) (params_around 0 t)) (undeclared 0) (native k t silent 0)
+
+    unassigned : is_assigned t k ≡ false
+    unassigned = (or_parts_false (list_any (is_write (named k)) (program_var_writes t)) (is_assigned t k) (sym (list_any-append (is_write (named k)) (program_var_writes t) (program_mentions t)) ∙ nothing_said.0)).1
 
     -- so no answer changes it, and no event shows it
-    pub stays_there : (b : ℕ) → stays_as_it_is t b k ≡ true
-    stays_there b = (λ i. not (nothing_said.0 i) && not (native k t silent b i))
+    pub stays_there : (b : ℕ) → is_steady_in_body t b k ≡ true
+    stays_there b = (λ i. not (unassigned i) && not (native k t silent b i))
 
     pub unshared_there : (b : ℕ) → not (is_shared t b (named k)) ≡ true
     unshared_there b = ap not (alone_here b)
 
-    pub initial_there : (b : ℕ) → (stays_as_it_is t b k && not (is_among (named k) (lexical_variables false t))) ≡ true
+    pub initial_there : (b : ℕ) → (is_steady_in_body t b k && not (is_among (named k) (lexical_variables false t))) ≡ true
     initial_there b = (λ i. stays_there b i && not (nothing_said.1 i))
 
 -- ---- what is told of each symbol
@@ -144,56 +146,13 @@ module _ (f : Facts) (q : Tree) (n : ℕ) (w : Told f n q) where
 
   pub all_of : (b : ℕ) → told_by f b ≡ told_in q b
   all_of b =
-      let steady = by_symbol (λ s. is_steady f s b) (stays_as_it_is q b) (λ s. by_room n s (is_steady f s b) (stays_as_it_is q b s) (each.steady s b) (λ h. stays_there s q (silent_past s h) b)) in
+      let steady = by_symbol (λ s. is_steady f s b) (is_steady_in_body q b) (λ s. by_room n s (is_steady f s b) (is_steady_in_body q b s) (each.steady s b) (λ h. stays_there s q (silent_past s h) b)) in
       let shown = by_symbol (λ s. is_unshared f s b) (λ s. not (is_shared q b (named s))) (λ s. by_room n s (is_unshared f s b) (not (is_shared q b (named s))) (each.unshared s b) (λ h. unshared_there s q (silent_past s h) b)) in
-      let begun = by_symbol (λ s. is_initial f s b) (λ s. stays_as_it_is q b s && not (is_among (named s) (lexical_variables false q))) (λ s. by_room n s (is_initial f s b) (stays_as_it_is q b s && not (is_among (named s) (lexical_variables false q))) (each.initial s b) (λ h. initial_there s q (silent_past s h) b)) in
+      let begun = by_symbol (λ s. is_initial f s b) (λ s. is_steady_in_body q b s && not (is_among (named s) (lexical_variables false q))) (λ s. by_room n s (is_initial f s b) (is_steady_in_body q b s && not (is_among (named s) (lexical_variables false q))) (each.initial s b) (λ h. initial_there s q (silent_past s h) b)) in
       (λ i. record { steady = steady i; unshared = shown i; initial = begun i; has_this = each.has_this b i })
 
 pub tells_all : (f : Facts) (q : Tree) (n : ℕ) → Told f n q → told_by f ≡ told_in q
 tells_all f q n w = (λ i b. all_of f q n w b i)
-
--- ---- what stays told
-
-carried_on : (n s : ℕ) (was before after is : Bool) → (s < n → before ≡ was) → (s < n → before ≡ true → after ≡ true) → (s < n → after ≡ is) → (nat_lt s n ≡ false → is ≡ true) → was ≡ true → is ≡ true
-carried_on n s was before after is f g h k e = by (nat_lt s n) refl
-  where
-    by : (b : Bool) → nat_lt s n ≡ b → is ≡ true
-    by true r = let small = ltb-true s n r in sym (h small) ∙ g small (f small ∙ e)
-    by false r = k r
-
-module _ (f g : Facts) (q u : Tree) (n : ℕ) (v : Told f n q) (w : Told g n u) (stays : StaysTold f g n) where
-  was : TellsBodies f n q
-  was = bodies_told f n q v
-
-  now : TellsBodies g n u
-  now = bodies_told g n u w
-
-  gone : (s : ℕ) → nat_lt s n ≡ false → mentions u (Declared s) ≡ false
-  gone s h = unmentioned_by (mentions u (Declared s)) (λ e. false≢true (sym h ∙ lt-ltb s n (w.whole s e)))
-
-  kept_on : (b : ℕ) → Within (told_in q b) (told_in u b)
-  kept_on b = record { steady = steady; unshared = shown; initial = begun; has_this = λ e. sym (now.has_this b) ∙ stays.has_this b (was.has_this b ∙ e) }
-    where
-      steady : (x : Variable) → (told_in q b).steady x ≡ true → (told_in u b).steady x ≡ true
-      steady (Declared s) e = carried_on n s (stays_as_it_is q b s) (is_steady f s b) (is_steady g s b) (stays_as_it_is u b s) (was.steady s b) (stays.steady s b) (now.steady s b) (λ h. stays_there s u (gone s h) b) e
-      steady (Global s) e = absurd (false≢true e)
-
-      shown : (x : Variable) → (told_in q b).unshared x ≡ true → (told_in u b).unshared x ≡ true
-      shown (Declared s) e = carried_on n s (not (is_shared q b (named s))) (is_unshared f s b) (is_unshared g s b) (not (is_shared u b (named s))) (was.unshared s b) (stays.unshared s b) (now.unshared s b) (λ h. unshared_there s u (gone s h) b) e
-      shown (Global s) e = absurd (false≢true e)
-
-      begun : (x : Variable) → (told_in q b).initial x ≡ true → (told_in u b).initial x ≡ true
-      begun (Declared s) e = carried_on n s (stays_as_it_is q b s && not (is_among (named s) (lexical_variables false q))) (is_initial f s b) (is_initial g s b) (stays_as_it_is u b s && not (is_among (named s) (lexical_variables false u))) (was.initial s b) (stays.initial s b) (now.initial s b) (λ h. initial_there s u (gone s h) b) e
-      begun (Global s) e = absurd (false≢true e)
-
--- what a context told of the program that it knew it tells of the next, if a second look says that
--- it stays so
-pub told_stays : (c d : TraverseCtx) (o : CompressOptions) (q u : Tree) → Knows c o q → Renewed true c.scopes d.scopes u → (b : ℕ) → Within (told_in q b) (told_in u b)
-told_stays c d o q u k r =
-    let n = length k.told.reads in
-    let before = k.refreshed.told in
-    let same : length c.scopes.reads ≡ n = told_length c.scopes n q before in
-    kept_on c.scopes d.scopes q u n before (subst (λ m. Told d.scopes m u) same r.refreshed.told) (subst (λ m. StaysTold c.scopes d.scopes m) same (r.stays refl))
 
 -- a context tells of the program that it knows
 pub told_known : (c : TraverseCtx) (o : CompressOptions) (q : Tree) → Knows c o q → told_by c.scopes ≡ told_in q

@@ -4,7 +4,7 @@
 
 ghost use Rattle.std.specs.Prelude.{◌≡◌, ◌+◌, ◌<◌, ◌||◌, true, false, nat_le, is_some, unwrap_or, IfOk, IfSome};
 ghost use Rattle.mini_model.specs.Tree.{children, count, child_or_absent};
-ghost use Rattle.mini_node.specs.Children.{part, without};
+ghost use Rattle.mini_node.specs.Children.{part};
 ghost use Rattle.mini_node.specs.Kinds.{sequence as sequence_of, is_sequence as is_it_sequence};
 ghost use Rattle.mini_rows.specs.Idle.{is_still as is_it_still, is_still_part as is_it_still_part};
 ghost use Rattle.mini_steady.specs.Declarations.{known_of};
@@ -13,7 +13,7 @@ ghost use Rattle.mini_steady.specs.Idle.{Loses, LosesIn};
 
 use crate::code::BodyCode;
 use crate::steady::SteadyNames;
-use mini_held::{stays_alone, takes_alone};
+use mini_held::{IdleParts, drop_parts, stays_alone, takes_alone};
 use mini_model::{OutOfMemory, Seat, Shape};
 use mini_node::{
     Node, Nodes, discard, empty_statement, is_expression_statement, is_sequence, one, sequence,
@@ -89,44 +89,26 @@ fn empty_idle(alloc: Global, node: &mut Node) -> bool
     false
 }
 
-// The place of the first part that has no effect, but the last.
-fn still_at(nodes: &Nodes) -> Option<usize>
-    ensures found { IfSome result (λ at. at + 1 < count nodes.now) }
-    ensures read { IfSome result (λ at. is_it_still (child_or_absent nodes.now at) ≡ true) }
-    ensures any { is_some result ≡ row.still_before_last nodes.now }
-{
-    for at in 0..nodes.len().saturating_sub(1) {
-        if is_still(nodes.child(at)) {
-            return Some(at);
-        }
-    }
-    None
-}
+// What has no effect goes of a sequence.
+struct Still;
 
-fn without_part(alloc: Global, node: Node, at: usize) -> Result<Node, OutOfMemory>
-    requires { at < count (children (part node 0)) }
-    ensures { IfOk result (λ w. w ≡ sequence_of (without (children (part node 0)) at)) }
-{
-    let mut parts = one(node).into_children();
-    let idle = parts.remove(at);
-    discard(idle);
-    sequence(alloc, parts)
+impl IdleParts for Still {
+    ghost idle = { is_it_still };
+
+    fn is_idle(&self, node: &Node) -> bool {
+        is_still(node)
+    }
 }
 
 // `a(), b()` of `a(), this, b()`
-fn drop_part(alloc: Global, node: &mut Node, seat: Seat) -> Result<bool, OutOfMemory>
+fn drop_some(alloc: Global, node: &mut Node, seat: Seat) -> Result<bool, OutOfMemory>
     requires parts { count (children node.old) ≡ 1 }
     requires kind { is_it_sequence node.old ≡ true }
     requires several { nat_le 3 (count (children (part node.old 0))) ≡ true }
     ensures { IfOk result (λ changed. Loses seat node.old node.new changed) }
 {
-    match still_at(node.child(0).children()) {
-        Some(at) => {
-            *node = without_part(alloc, taken(alloc, node), at)?;
-            Ok(true)
-        }
-        None => Ok(false),
-    }
+    let changed = drop_parts(alloc, &Still, node)?;
+    Ok(changed)
 }
 
 // Whether of two parts the last one may stand alone.
@@ -161,20 +143,20 @@ fn leave_last(alloc: Global, node: &mut Node, seat: Seat) -> bool
     true
 }
 
-// A part goes that has no effect. The answer says whether one did.
+// Parts go that have no effect. The answer says whether one did.
 fn drop_idle(alloc: Global, node: &mut Node, seat: Seat) -> Result<bool, OutOfMemory>
     requires parts { count (children node.old) ≡ 1 }
     requires kind { is_it_sequence node.old ≡ true }
     ensures { IfOk result (λ changed. Loses seat node.old node.new changed) }
 {
     if node.child(0).children().len() >= 3 {
-        drop_part(alloc, node, seat)
+        drop_some(alloc, node, seat)
     } else {
         Ok(leave_last(alloc, node, seat))
     }
 }
 
-// A part of an expression goes that has no effect. The answer says whether one did.
+// Parts of an expression go that have no effect. The answer says whether one did.
 fn drop_from(alloc: Global, node: &mut Node, seat: Seat) -> Result<bool, OutOfMemory>
     ensures { IfOk result (λ changed. Loses seat node.old node.new changed) }
 {
@@ -184,7 +166,7 @@ fn drop_from(alloc: Global, node: &mut Node, seat: Seat) -> Result<bool, OutOfMe
     drop_idle(alloc, node, seat)
 }
 
-/// A part of a sequence goes that has no effect, where the body has its `this`: `a(), this, b()`
+/// The parts of a sequence go that have no effect, where the body has its `this`: `a(), this, b()`
 /// becomes `a(), b()`, and `this, a()` and `(this, a)()` `a()`. The answer says whether one did;
 /// the only error is that memory runs out, and then the expression is fit only to be dropped.
 pub fn drop_idle_parts<S: SteadyNames>(

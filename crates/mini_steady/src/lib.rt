@@ -28,7 +28,7 @@ pub use bindings::{any_bind, are_bound_twice, binds, is_any_bound};
 pub use code::{BodyCode, code_of, is_initialised};
 pub use functions::minimize_in_function;
 pub use idle::{drop_idle_parts, drop_idle_statement};
-pub use laws::{members_are_rows, told_stays};
+pub use laws::members_are_rows;
 pub use leaving::is_this;
 pub use lets::is_let_in;
 pub use members::{SteadyMembers, minimize_members};

@@ -59,6 +59,7 @@ module _ (G : Tree → Position → Tree → Tree → Type 0) (D : Tree → Posi
         at_once = λ z one. m.0 ∙ s.unchanged (omega (arith, one, count));
         ended = λ z. subst (λ w. Everywhere (D w) Elsewhere w) (sym m.0) m.1;
         stopped = λ z. absurd (cc z);
+        last = λ z. absurd (cc z);
       }
 
   pub stopped_passes : (t u v : Tree) (n bound : ℕ) (b : Bool) → IsLighter (G u) → SoFar t u n → n ≤ max bound 1 → max bound 1 ≤ n → Walked (G u) (D u) Elsewhere u v b → b ≡ true → MakesPasses G D t v bound n false
@@ -73,4 +74,5 @@ module _ (G : Tree → Position → Tree → Tree → Type 0) (D : Tree → Posi
         at_once = λ z. absurd (cc z);
         ended = λ z. absurd (cc z);
         stopped = λ z. (omega (arith, k, h), omega (arith, so, less, count));
+        last = λ z. (u, (s.before, s.reached), omega (arith, so, count), less);
       }

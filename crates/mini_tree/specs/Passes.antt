@@ -1,6 +1,6 @@
 -- What passes of a rule over a program come to. What a pass may make is over the program as that
 -- pass began: G says what, and D where nothing is left.
-use Rattle.std.specs.Prelude.{◌≡◌, ℕ, zero, suc, ◌+◌, ◌≤◌, max, Bool, true, false}
+use Rattle.std.specs.Prelude.{◌≡◌, ℕ, zero, suc, ◌+◌, ◌<◌, ◌≤◌, max, Bool, true, false}
 use Rattle.mini_model.specs.Tree.{Tree}
 use Rattle.mini_model.specs.declared.place.Position.{Position}
 use Rattle.mini_model.specs.declared.place.Position.TheVariants.{Elsewhere}
@@ -23,3 +23,5 @@ pub record MakesPasses (G : Tree → Position → Tree → Tree → Type 0) (D :
   -- by what is to be known of the last tree itself
   pub ended : settled ≡ true → Everywhere (D u) Elsewhere u
   pub stopped : settled ≡ false → (passes ≡ max bound 1) × (weight Elsewhere u + passes ≤ weight Elsewhere t)
+  -- the last pass, too, made a program lighter, to which the others led
+  pub last : settled ≡ false → (w : Tree) × ((n : ℕ) × PassesReach G n t w) × (weight Elsewhere w + passes ≤ weight Elsewhere t + 1) × (weight Elsewhere u < weight Elsewhere w)

@@ -8,15 +8,15 @@
 
 ghost use Rattle.std.specs.Prelude.{◌≡◌, ◌+◌, ◌<◌, ◌==◌, ◌&&◌, true, false, nat_le, is_some, IfOk, IfSome};
 ghost use Rattle.mini_model.specs.Tree.{children, count, child_or_absent, shape_of};
-ghost use Rattle.mini_node.specs.Children.{part, without};
+ghost use Rattle.mini_node.specs.Children.{part};
 ghost use Rattle.mini_node.specs.Kinds.{sequence as sequence_of, is_sequence as is_it_sequence, is_sequence_shape, unary_operator as unary_operator_of};
 ghost use Rattle.mini_terms.specs.Parts.{is_number as is_it_number};
 ghost use Rattle.mini_rows.specs.Sequences.{is_bare_at as is_it_bare_at};
 ghost use Rattle.mini_tree.specs.Rule.{Applied};
-ghost use Rattle.mini_fold.specs.FoldSequences.{has_several as has_it_several, is_several as is_it_several, converts as converts_by, is_minus as is_it_minus, is_yield as is_it_yield, is_operation as is_it_operation, takes_last_of, gives_parts as it_gives_parts, reaches_sequence as reaches_it_sequence, ends_bare as end_they_bare, leaves_bare as leaves_it_bare, has_room as has_it_room, is_lifted as is_it_lifted, last_of, but_last, parts_before, left_of, lifted, any_of, spread_at, is_nested as is_it_nested, is_idle as is_it_idle, idle_before_last, is_left as is_it_left, Gives, Rests};
+ghost use Rattle.mini_fold.specs.FoldSequences.{has_several as has_it_several, is_several as is_it_several, converts as converts_by, is_minus as is_it_minus, is_yield as is_it_yield, is_operation as is_it_operation, takes_last_of, gives_parts as it_gives_parts, reaches_sequence as reaches_it_sequence, ends_bare as end_they_bare, leaves_bare as leaves_it_bare, has_room as has_it_room, is_lifted as is_it_lifted, last_of, but_last, parts_before, left_of, lifted, any_of, spread_at, is_nested as is_it_nested, is_idle as is_it_idle, is_left as is_it_left, Gives, Rests};
 ghost use Rattle.mini_fold.specs.Lighter.{sequences_lighter};
 
-use mini_held::{stays_alone, takes_alone};
+use mini_held::{IdleParts, drop_parts, stays_alone, takes_alone};
 use mini_model::{OutOfMemory, Position, Seat, Shape, UnaryOperator};
 use mini_node::{
     Node, Nodes, absent, binary_operator, discard, is_conditional, is_negation, is_sequence,
@@ -298,32 +298,19 @@ fn is_idle(node: &Node) -> bool
     has_no_effect(node) && leaves_nothing(node) && weighs(node)
 }
 
-// The place of the first such part but the last.
-fn idle_at(nodes: &Nodes) -> Option<usize>
-    ensures found { IfSome result (λ at. at + 1 < count nodes.now) }
-    ensures read { IfSome result (λ at. is_it_idle (child_or_absent nodes.now at) ≡ true) }
-    ensures any { is_some result ≡ idle_before_last nodes.now }
-{
-    for at in 0..nodes.len().saturating_sub(1) {
-        if is_idle(nodes.child(at)) {
-            return Some(at);
-        }
-    }
-    None
-}
+// What has no effect goes of a sequence.
+struct Idle;
 
-fn without_part(alloc: Global, node: Node, at: usize) -> Result<Node, OutOfMemory>
-    requires { at < count (children (part node 0)) }
-    ensures { IfOk result (λ w. w ≡ sequence_of (without (children (part node 0)) at)) }
-{
-    let mut parts = one(node).into_children();
-    let idle = parts.remove(at);
-    discard(idle);
-    sequence(alloc, parts)
+impl IdleParts for Idle {
+    ghost idle = { is_it_idle };
+
+    fn is_idle(&self, node: &Node) -> bool {
+        is_idle(node)
+    }
 }
 
 // `a(), b()` of `a(), 1, b()`
-fn drop_part(alloc: Global, node: &mut Node, seat: Seat) -> Result<bool, OutOfMemory>
+fn drop_some(alloc: Global, node: &mut Node, seat: Seat) -> Result<bool, OutOfMemory>
     requires parts { count (children node.old) ≡ 1 }
     requires kind { is_it_sequence node.old ≡ true }
     requires several { nat_le 3 (count (children (part node.old 0))) ≡ true }
@@ -331,13 +318,8 @@ fn drop_part(alloc: Global, node: &mut Node, seat: Seat) -> Result<bool, OutOfMe
     requires nested { is_it_nested node.old ≡ false }
     ensures { IfOk result (λ changed. Applied Gives Rests (Position.Expr seat) node.old node.new changed) }
 {
-    match idle_at(node.child(0).children()) {
-        Some(at) => {
-            *node = without_part(alloc, taken(alloc, node), at)?;
-            Ok(true)
-        }
-        None => Ok(false),
-    }
+    let changed = drop_parts(alloc, &Idle, node)?;
+    Ok(changed)
 }
 
 // Whether of two parts the last one may stand alone.
@@ -374,7 +356,7 @@ fn leave_last(alloc: Global, node: &mut Node, seat: Seat) -> bool
     true
 }
 
-// A part that has no effect goes. The answer says whether one did.
+// Parts that have no effect go. The answer says whether one did.
 fn drop_idle(alloc: Global, node: &mut Node, seat: Seat) -> Result<bool, OutOfMemory>
     requires parts { count (children node.old) ≡ 1 }
     requires kind { is_it_sequence node.old ≡ true }
@@ -383,7 +365,7 @@ fn drop_idle(alloc: Global, node: &mut Node, seat: Seat) -> Result<bool, OutOfMe
     ensures { IfOk result (λ changed. Applied Gives Rests (Position.Expr seat) node.old node.new changed) }
 {
     if node.child(0).children().len() >= 3 {
-        drop_part(alloc, node, seat)
+        drop_some(alloc, node, seat)
     } else {
         Ok(leave_last(alloc, node, seat))
     }

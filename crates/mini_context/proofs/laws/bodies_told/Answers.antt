@@ -1,4 +1,4 @@
-use Rattle.mini_context.proofs.Stays.{bodies_told}
+use Rattle.mini_context.proofs.Foreigns.{bodies_told}
 use Rattle.mini_context.proofs.laws.bodies_told.Goals as goal
 
 pub returns : goal.returns

@@ -1,4 +1,4 @@
-use Rattle.mini_context.proofs.Stays.{steady_told}
+use Rattle.mini_context.proofs.Foreigns.{steady_told}
 use Rattle.mini_context.proofs.laws.steady_tells.Goals as goal
 
 pub returns : goal.returns
