@@ -119,7 +119,7 @@ module _ (b s : ℕ) (c : Setting) (env : Environment) where
       by false true e f h g = later (ends_after (q.ends (of_items true (inside true)) t) (pace q (of_items true (inside true)) env t)) (items true ts) (h f)
       by false false e f h g = absurd (true≢false (sym g))
 
-  abbrev pub ends_inside : Bool → Trees → Bool
+  abbrev ends_inside : Bool → Trees → Bool
   ends_inside o ts = q.ends (inside o) (listed ts)
 
   -- the declarators of a declaration in a list
@@ -133,7 +133,7 @@ module _ (b s : ℕ) (c : Setting) (env : Environment) where
     unalone Let e ts = ap (λ u. is_among (by_symbol s) (alone_names u Let (listed ts))) r
     unalone Const e ts = ap (λ u. is_among (by_symbol s) (alone_names u Const (listed ts))) r
 
-    pub says : (k : VariableDeclarationKind) → is_lexical k ≡ true → (o : Bool) (ts : Trees) → pace q (of_items o c) env (declaration k ts) ≡ followed (ends_after (ends_inside o ts) (items o ts)) Silent
+    says : (k : VariableDeclarationKind) → is_lexical k ≡ true → (o : Bool) (ts : Trees) → pace q (of_items o c) env (declaration k ts) ≡ followed (ends_after (ends_inside o ts) (items o ts)) Silent
     unfolding pace
     says Var e o ts = absurd (true≢false (sym e))
     says Let e true ts = λ j. followed (ends_after (ends_inside true ts) ((opens Let true ts ∙ listed_is q (early_passes b s) (inside true) env ts) j)) Silent

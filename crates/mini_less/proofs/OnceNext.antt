@@ -188,19 +188,6 @@ module _ (sp : List ℕ) (k : ℕ) (first : Trees) (init id value : Tree) (last 
             let new = ap is_reads (joins.declarator_anywhere b s c env o id put) ∙ again (puts_local C (calm_local b s k' env) x init value once value_calm init_calm) in
             same _ _ (calm_ends (q.ends around M) (at M) new ∙ sym (calm_ends (q.ends around N) (at N) f))
 
-    items_less : AtMost (items es) (items ds)
-    items_less =
-        subst (λ z. AtMost z (items ds)) (sym items_es) (subst (AtMost (followed (items first) (followed (ends_after (q.ends around M) (at M)) (items last)))) (sym items_ds)
-        (both (items first) (items first) _ _ (itself (items first)) (next_order (at dx) (ends_after (q.ends around N) (at N)) (ends_after (q.ends around M) (at M)) (items last) next_less)))
-
-    no_lexical : all_names declared.Lexical es ≡ all_names declared.Lexical ds
-    unfolding names_of
-    no_lexical = all_both declared.Lexical first (M ▸ last) ∙ sym (all_both declared.Lexical first (dx ▸ (N ▸ last)))
-
-    same_ends : joins.ends_inside b s c env o es ≡ joins.ends_inside b s c env o ds
-    unfolding names_of
-    same_ends j = o && (is_among (by_symbol s) (no_lexical j) || same_declared j)
-
     module _ (K : VariableDeclarationKind) (lexical : is_lexical K ≡ true) where
       lexical_next : AtMost (says (wrote K)) (says (read K))
       lexical_next =
@@ -208,15 +195,9 @@ module _ (sp : List ℕ) (k : ℕ) (first : Trees) (init id value : Tree) (last 
           let r : says (read K) ≡ followed (ends_after e (items ds)) Silent = λ j. followed (joins.one_says b s c env u K lexical o ds j) Silent in
           let w : says (wrote K) ≡ followed (ends_after e (items es)) Silent = (λ j. followed (joins.one_says b s c env u K lexical o es j) Silent) ∙ (λ j. followed (ends_after (o && same_declared j) (items es)) Silent) in
           subst (λ z. AtMost z (says (read K))) (sym w) (subst (AtMost (followed (ends_after e (items es)) Silent)) (sym r)
-          (both (ends_after e (items es)) (ends_after e (items ds)) Silent Silent (ended e (items es) (items ds) items_less) tt))
-
-      -- as it stands
-      pub alone_next : AtMost (pace q (of_items o c) env (declaration K es)) (pace q (of_items o c) env (declaration K ds))
-      alone_next =
-          let e = joins.ends_inside b s c env o ds in
-          let w = joins.says b s c env u K lexical o es ∙ (λ j. followed (ends_after (same_ends j) (items es)) Silent) in
-          subst (λ z. AtMost z (pace q (of_items o c) env (declaration K ds))) (sym w) (subst (AtMost (followed (ends_after e (items es)) Silent)) (sym (joins.says b s c env u K lexical o ds))
-          (both (ends_after e (items es)) (ends_after e (items ds)) Silent Silent (ended e (items es) (items ds) items_less) tt))
+          (both (ends_after e (items es)) (ends_after e (items ds)) Silent Silent (ended e (items es) (items ds)
+          (subst (λ z. AtMost z (items ds)) (sym items_es) (subst (AtMost (followed (items first) (followed (ends_after (q.ends around M) (at M)) (items last)))) (sym items_ds)
+          (both (items first) (items first) _ _ (itself (items first)) (next_order (at dx) (ends_after (q.ends around N) (at N)) (ends_after (q.ends around M) (at M)) (items last) next_less))))) tt))
 
   -- ---- each fact
 
