@@ -95,3 +95,4 @@ pub mod InsideLess
 pub mod NextHeads
 pub mod PastBlocksLess
 pub mod InsideUnused
+pub mod SteadyLess

@@ -20,3 +20,4 @@ pub mod SwitchRows
 pub mod TellsLists
 pub mod Past
 pub mod Inside
+pub mod Steady

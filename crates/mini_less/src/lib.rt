@@ -17,6 +17,7 @@ ghost use Rattle.mini_less.specs.Own.{SteadyReadsLess, LexicalReadsLess, PastBlo
 ghost use Rattle.mini_less.specs.ListFamilies.{HeadRowsLess, EnterRowsLess, ListsReadLess};
 ghost use Rattle.mini_less.specs.Inside.{InsideReadsLess};
 ghost use Rattle.mini_less.specs.Past.{PastReadLess, PastInsideReadsLess};
+ghost use Rattle.mini_less.specs.Steady.{SteadyRewritesReadLess};
 ghost use Rattle.mini_less.specs.Rebuilt.{ListsAskLess, StatementsAskLess};
 
 use mini_laws::Rewrites;
@@ -253,4 +254,9 @@ pub fn past_inside_reads_less()
 /// read once: 71, 72.
 pub fn inside_reads_less()
     ensures { InsideReadsLess }
+{}
+
+/// All rows that rest on what is known of the bodies of a program.
+pub fn steady_rewrites_read_less()
+    ensures { SteadyRewritesReadLess }
 {}
