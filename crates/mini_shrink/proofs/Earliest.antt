@@ -44,22 +44,22 @@ module _ (b s : ℕ) where
 
   -- ---- how often the scopes of a node declare it, and its children
 
-  abbrev by_scopes : (ℕ → List Binding) → ℕ → Trees → ℕ
+  abbrev pub by_scopes : (ℕ → List Binding) → ℕ → Trees → ℕ
   by_scopes sc i none = 0
   by_scopes sc i (t ▸ ts) = times (symbol s) (symbols_in (sc i)) + by_scopes sc (suc i) ts
 
-  abbrev by_children : (ℕ → Use) → ℕ → Trees → ℕ
+  abbrev pub by_children : (ℕ → Use) → ℕ → Trees → ℕ
   by_children us i none = 0
   by_children us i (t ▸ ts) = times (symbol s) (declared_in (us i) t) + by_children us (suc i) ts
 
-  counted : (sc : ℕ → List Binding) (us : ℕ → Use) (i : ℕ) (ts : Trees) → times (symbol s) (declared_from sc us i ts) ≡ by_scopes sc i ts + by_children us i ts
+  pub counted : (sc : ℕ → List Binding) (us : ℕ → Use) (i : ℕ) (ts : Trees) → times (symbol s) (declared_from sc us i ts) ≡ by_scopes sc i ts + by_children us i ts
   unfolding declared_in
   counted sc us i none = refl
   counted sc us i (t ▸ ts) = omega (arith, times_three (symbol s) (symbols_in (sc i)) (declared_in (us i) t) (declared_from sc us (suc i) ts), counted sc us (suc i) ts)
 
   -- ---- children behind the first
 
-  append_empty : {A : Type 0} (ys zs : List A) → ys ++ zs ≡ [] → (ys ≡ []) × (zs ≡ [])
+  pub append_empty : {A : Type 0} (ys zs : List A) → ys ++ zs ≡ [] → (ys ≡ []) × (zs ≡ [])
   append_empty [] zs e = (refl, e)
   append_empty (y ∷ ys) zs e = absurd (cc e)
 
@@ -143,7 +143,7 @@ module _ (b s : ℕ) where
         by (inr g) = inr (g, silent_entries b s sc cs (suc i) (env ++ sc i) ts u)
 
     -- no scope of these children declares it
-    choose : (q : Path) (d : Bool) → AllOuter s q sc (λ j. (cs j).used) i env (t ▸ ts) → by_scopes sc i (t ▸ ts) ≡ 0 → is_among x (all_lexical_variables d (t ▸ ts)) ≡ true
+    pub choose : (q : Path) (d : Bool) → AllOuter s q sc (λ j. (cs j).used) i env (t ▸ ts) → by_scopes sc i (t ▸ ts) ≡ 0 → is_among x (all_lexical_variables d (t ▸ ts)) ≡ true
         → (Outer s (q ++ i ∷ []) d (cs i).used (env ++ sc i) t → is_reads (pace (early b s) (cs i) (env ++ sc i) t) ≡ true → is_reads (first_of b s (moments (cs i).used (cs i).around t)) ≡ true)
         → (AllOuter s q sc (λ j. (cs j).used) (suc i) (env ++ sc i) ts → by_scopes sc (suc i) ts ≡ 0 → is_among x (all_lexical_variables d ts) ≡ true → Brings b s sc cs (suc i) (env ++ sc i) ts)
         → Brings b s sc cs i env (t ▸ ts)
@@ -163,7 +163,7 @@ module _ (b s : ℕ) where
         by (suc n) e = let u = silent_rest q sc us i env t ts a free n e in before u (here (outer_first q sc us i env t ts a free d (lexical_first d t ts u l)))
 
   -- one of their scopes does
-  inside_each : (W : Type 0) (q : Path) (d : Bool) (sc : ℕ → List Binding) (cs : ℕ → Setting) (i : ℕ) (env : Environment) (ts : Trees) → AllOuter s q sc (λ j. (cs j).used) i env ts → by_scopes sc i ts ≡ 1 → by_children (λ j. (cs j).used) i ts ≡ 0
+  pub inside_each : (W : Type 0) (q : Path) (d : Bool) (sc : ℕ → List Binding) (cs : ℕ → Setting) (i : ℕ) (env : Environment) (ts : Trees) → AllOuter s q sc (λ j. (cs j).used) i env ts → by_scopes sc i ts ≡ 1 → by_children (λ j. (cs j).used) i ts ≡ 0
       → (W → is_among x (all_lexical_variables d ts) ≡ true) → Handles b s W q d sc cs i env ts → Brings b s sc cs i env ts
   inside_each W q d sc cs i env none a e f l h = absurd (omega (arith, e))
   inside_each W q d sc cs i env (t ▸ ts) a e f l h = by (times (symbol s) (symbols_in (sc i))) refl (λ z g k. inside_each W q d sc cs (suc i) (env ++ sc i) ts z g (omega (arith, f)) k h.1)
@@ -179,7 +179,7 @@ module _ (b s : ℕ) where
 
   -- ---- the node around them
 
-  reads_over : (p m : Pace) → AtMost p m → is_reads p ≡ true → is_reads m ≡ true
+  pub reads_over : (p m : Pace) → AtMost p m → is_reads p ≡ true → is_reads m ≡ true
   reads_over Ends m a e = absurd (true≢false (sym e))
   reads_over Silent m a e = absurd (true≢false (sym e))
   reads_over Reads Ends a e = absurd a
@@ -201,11 +201,11 @@ module _ (b s : ℕ) where
   own_names u env shape.BindingIdentifier xs n ts a e = names_other s u env xs a.0 e
   own_names u env h xs n ts a e = tt
 
-  own_none : (c : Setting) (env : Environment) (h : Shape) (xs : List Name) (n : ℕ) (ts : Trees) → Scoped c.used env (node h xs n ts) → times (symbol s) (symbols_in env) ≡ 0 → (early b s).before c env h xs n ts ≡ Silent
+  pub own_none : (c : Setting) (env : Environment) (h : Shape) (xs : List Name) (n : ℕ) (ts : Trees) → Scoped c.used env (node h xs n ts) → times (symbol s) (symbols_in env) ≡ 0 → (early b s).before c env h xs n ts ≡ Silent
   own_none c env h xs n ts a e = ap reads_if (own_asked b s c.used c.around h xs (own_names c.used env h xs n ts a e))
 
   -- where its end comes last, or it has none
-  concluded : (c : Setting) (env : Environment) (h : Shape) (xs : List Name) (n : ℕ) (ts : Trees) → (is_catch b s h ≡ true → is_among x (ended_by h ts) ≡ false) → Scoped c.used env (node h xs n ts) → times (symbol s) (symbols_in env) ≡ 0
+  pub concluded : (c : Setting) (env : Environment) (h : Shape) (xs : List Name) (n : ℕ) (ts : Trees) → (is_catch b s h ≡ true → is_among x (ended_by h ts) ≡ false) → Scoped c.used env (node h xs n ts) → times (symbol s) (symbols_in env) ≡ 0
       → Brings b s (opened c.used h ts) (below ((early b s).orders c h ts) c h n) 0 env ts → is_reads (pace (early b s) c env (node h xs n ts)) ≡ true → is_reads (first_of b s (moments c.used c.around (node h xs n ts))) ≡ true
   unfolding pace moments
   concluded c env h xs n ts k a z (inl g) e = absurd (silent_before ((early b s).before c env h xs n ts) (in_turn h (paces (early b s) (opened c.used h ts) (below ((early b s).orders c h ts) c h n) 0 env ts)) (own_none c env h xs n ts a z) (unread_turn h _ g) e)

@@ -100,7 +100,7 @@ module _ (b s : ℕ) where
   unscoped_last W q d sc cs o i env none = tt
   unscoped_last W q d sc cs o i env (t ▸ ts) = (λ a e w. absurd (no_scope s (sc (suc (suc i))) (o i) e), unscoped_last W q d sc cs o (suc i) (env ++ sc (suc (suc i))) ts)
 
-  hoisted_node : (u : Use) (env : Environment) (t : Tree) → Scoped u env t → times (symbol s) (symbols_in env) ≡ 0 → Other s (names_of declared.Hoisted t)
+  pub hoisted_node : (u : Use) (env : Environment) (t : Tree) → Scoped u env t → times (symbol s) (symbols_in env) ≡ 0 → Other s (names_of declared.Hoisted t)
   hoisted_node u env t a e = names_other s Hoisted env (names_of declared.Hoisted t) (hoisted_scoped u env t a) e
 
   or_second : (a c : Bool) → c ≡ true → (a || c) ≡ true
@@ -118,7 +118,7 @@ module _ (b s : ℕ) where
 
   -- ---- blocks and switches
 
-  block_handles : (strict : Bool) (p : Slot) (q : Path) (d : Bool) (c : Setting) (env : Environment) (xs : List Name) (n : ℕ) (ts : Trees) → fits strict p (node shape.BlockStatement xs n ts) ≡ true → Scoped c.used env (node shape.BlockStatement xs n ts) → times (symbol s) (symbols_in env) ≡ 0
+  pub block_handles : (strict : Bool) (p : Slot) (q : Path) (d : Bool) (c : Setting) (env : Environment) (xs : List Name) (n : ℕ) (ts : Trees) → fits strict p (node shape.BlockStatement xs n ts) ≡ true → Scoped c.used env (node shape.BlockStatement xs n ts) → times (symbol s) (symbols_in env) ≡ 0
       → Handles ⊥ q d (opened c.used shape.BlockStatement ts) (below ((early b s).orders c shape.BlockStatement ts) c shape.BlockStatement n) 0 env ts
   unfolding scopes_by names_of
   block_handles strict p q d c env xs n none f a z = tt
@@ -131,7 +131,7 @@ module _ (b s : ℕ) where
       (λ y e k. lone_entries strict w.slots w.ordered q d sc cs (λ j. lexical_among s (names_of declared.Lexical t) e) (λ j. refl) 0 env t ts w.filled y e (other_first b s (names_of declared.Hoisted t) (all_names declared.Hoisted ts) hoisted) (other_rest b s (names_of declared.Hoisted t) (all_names declared.Hoisted ts) hoisted),
         unscoped_later ⊥ q d sc cs (λ j. refl) 0 (env ++ sc 0) ts)
 
-  switch_handles : (strict : Bool) (p : Slot) (q : Path) (d : Bool) (c : Setting) (env : Environment) (xs : List Name) (n : ℕ) (ts : Trees) → fits strict p (node shape.SwitchStatement xs n ts) ≡ true → Scoped c.used env (node shape.SwitchStatement xs n ts) → times (symbol s) (symbols_in env) ≡ 0
+  pub switch_handles : (strict : Bool) (p : Slot) (q : Path) (d : Bool) (c : Setting) (env : Environment) (xs : List Name) (n : ℕ) (ts : Trees) → fits strict p (node shape.SwitchStatement xs n ts) ≡ true → Scoped c.used env (node shape.SwitchStatement xs n ts) → times (symbol s) (symbols_in env) ≡ 0
       → Handles ⊥ q d (opened c.used shape.SwitchStatement ts) (below ((early b s).orders c shape.SwitchStatement ts) c shape.SwitchStatement n) 0 env ts
   unfolding scopes_by names_of
   switch_handles strict p q d c env xs n none f a z = tt
@@ -158,7 +158,7 @@ module _ (b s : ℕ) where
   alone_entry strict c env t f e a h =
       child_still b s c env t (part_unbound s strict (one (a_statement nested)) c.used env t f refl (λ z. refl) (no_function_body strict (one (a_statement nested)) t refl f) a (nothing_other s (names_of declared.Bound t) (owes strict (one (a_statement nested)) (of declared.Bound) t f refl refl)) (λ z. absurd (true≢false (sym e ∙ z))) h)
 
-  for_handles : (strict : Bool) (q : Path) (d : Bool) (c : Setting) (env : Environment) (xs : List Name) (n : ℕ) (ts : Trees) → ForParts strict ts → Scoped c.used env (node shape.ForStatement xs n ts) → times (symbol s) (symbols_in env) ≡ 0
+  pub for_handles : (strict : Bool) (q : Path) (d : Bool) (c : Setting) (env : Environment) (xs : List Name) (n : ℕ) (ts : Trees) → ForParts strict ts → Scoped c.used env (node shape.ForStatement xs n ts) → times (symbol s) (symbols_in env) ≡ 0
       → Handles ⊥ q d (opened c.used shape.ForStatement ts) (below ((early b s).orders c shape.ForStatement ts) c shape.ForStatement n) 0 env ts
   unfolding scopes_by names_of pace moments
   for_handles strict q d c env xs n (t ▸ (u ▸ (v ▸ (w ▸ none)))) f a z =
@@ -183,7 +183,7 @@ module _ (b s : ℕ) where
         unscoped_later ⊥ q d sc cs (λ j. refl) 0 (env ++ sc 0) (u ▸ (v ▸ (w ▸ none))))
   for_handles strict q d c env xs n ts f a z = absurd f
 
-  for_in_handles : (strict : Bool) (q : Path) (d : Bool) (c : Setting) (env : Environment) (xs : List Name) (n : ℕ) (ts : Trees) → EachParts strict ts → Scoped c.used env (node shape.ForInStatement xs n ts) → times (symbol s) (symbols_in env) ≡ 0
+  pub for_in_handles : (strict : Bool) (q : Path) (d : Bool) (c : Setting) (env : Environment) (xs : List Name) (n : ℕ) (ts : Trees) → EachParts strict ts → Scoped c.used env (node shape.ForInStatement xs n ts) → times (symbol s) (symbols_in env) ≡ 0
       → Handles ⊥ q d (opened c.used shape.ForInStatement ts) (below ((early b s).orders c shape.ForInStatement ts) c shape.ForInStatement n) 0 env ts
   unfolding scopes_by names_of pace moments
   for_in_handles strict q d c env xs n (t ▸ (u ▸ (w ▸ none))) f a z =
@@ -205,7 +205,7 @@ module _ (b s : ℕ) where
         unscoped_later ⊥ q d sc cs (λ j. refl) 0 (env ++ sc 0) (u ▸ (w ▸ none)))
   for_in_handles strict q d c env xs n ts f a z = absurd f
 
-  for_of_handles : (strict : Bool) (q : Path) (d : Bool) (c : Setting) (env : Environment) (xs : List Name) (n : ℕ) (ts : Trees) → EachParts strict ts → Scoped c.used env (node shape.ForOfStatement xs n ts) → times (symbol s) (symbols_in env) ≡ 0
+  pub for_of_handles : (strict : Bool) (q : Path) (d : Bool) (c : Setting) (env : Environment) (xs : List Name) (n : ℕ) (ts : Trees) → EachParts strict ts → Scoped c.used env (node shape.ForOfStatement xs n ts) → times (symbol s) (symbols_in env) ≡ 0
       → Handles ⊥ q d (opened c.used shape.ForOfStatement ts) (below ((early b s).orders c shape.ForOfStatement ts) c shape.ForOfStatement n) 0 env ts
   unfolding scopes_by names_of pace moments
   for_of_handles strict q d c env xs n (t ▸ (u ▸ (w ▸ none))) f a z =
@@ -241,7 +241,7 @@ module _ (b s : ℕ) where
   unfolding scopes_by
   alone_among u t g e = ap (λ a. is_among x (if a then names_of declared.Bound t else [])) g ∙ lexical_among s (names_of declared.Bound t) (sym (ap (λ a. times (symbol s) (symbols_in (at_or_empty (scopes_by (if a then opening.Bound else opening.Nothing) (t ▸ none)) 0))) g) ∙ e)
 
-  let_handles : (strict : Bool) (q : Path) (d : Bool) (c : Setting) (env : Environment) (n : ℕ) (ts : Trees) → OnlyPart strict (many a_declarator) ts → Handles ⊥ q d (opened c.used (shape.VariableDeclaration Let) ts) (below ((early b s).orders c (shape.VariableDeclaration Let) ts) c (shape.VariableDeclaration Let) n) 0 env ts
+  pub let_handles : (strict : Bool) (q : Path) (d : Bool) (c : Setting) (env : Environment) (n : ℕ) (ts : Trees) → OnlyPart strict (many a_declarator) ts → Handles ⊥ q d (opened c.used (shape.VariableDeclaration Let) ts) (below ((early b s).orders c (shape.VariableDeclaration Let) ts) c (shape.VariableDeclaration Let) n) 0 env ts
   unfolding pace moments
   let_handles strict q d c env n (t ▸ none) f =
       let h : Shape = shape.VariableDeclaration Let in
@@ -250,7 +250,7 @@ module _ (b s : ℕ) where
       (λ y e k. inr (item b s strict (many a_declarator) refl (cs 0) (env ++ sc 0) t f (or_second c.ordered _ (alone_among c.used t (alone_or c.used (t ▸ none) e) e)) refl (inner_first s q sc (λ j. (cs j).used) 0 env t none y e) (nothing_other s (names_of declared.Hoisted t) (owes strict (many a_declarator) (of declared.Hoisted) t f refl refl)), tt), tt)
   let_handles strict q d c env n ts f = absurd f
 
-  const_handles : (strict : Bool) (q : Path) (d : Bool) (c : Setting) (env : Environment) (n : ℕ) (ts : Trees) → OnlyPart strict (many a_declarator) ts → Handles ⊥ q d (opened c.used (shape.VariableDeclaration Const) ts) (below ((early b s).orders c (shape.VariableDeclaration Const) ts) c (shape.VariableDeclaration Const) n) 0 env ts
+  pub const_handles : (strict : Bool) (q : Path) (d : Bool) (c : Setting) (env : Environment) (n : ℕ) (ts : Trees) → OnlyPart strict (many a_declarator) ts → Handles ⊥ q d (opened c.used (shape.VariableDeclaration Const) ts) (below ((early b s).orders c (shape.VariableDeclaration Const) ts) c (shape.VariableDeclaration Const) n) 0 env ts
   unfolding pace moments
   const_handles strict q d c env n (t ▸ none) f =
       let h : Shape = shape.VariableDeclaration Const in
@@ -269,7 +269,7 @@ module _ (b s : ℕ) where
       or_nothing true e = refl
       or_nothing false e = e
 
-  program_handles : (strict : Bool) (q : Path) (c : Setting) (env : Environment) (m : Bool) (ds : List (List ℕ)) (n : ℕ) (ts : Trees) → BodyPart strict ts → clashing [] (scope_declarations (shape.Program m ds) q ts) ≡ []
+  pub program_handles : (strict : Bool) (q : Path) (c : Setting) (env : Environment) (m : Bool) (ds : List (List ℕ)) (n : ℕ) (ts : Trees) → BodyPart strict ts → clashing [] (scope_declarations (shape.Program m ds) q ts) ≡ []
       → Handles (Unit {0}) q (not m) (opened c.used (shape.Program m ds) ts) (below ((early b s).orders c (shape.Program m ds) ts) c (shape.Program m ds) n) 0 env ts
   unfolding scopes_by pace moments scope_declarations
   program_handles strict q c env m ds n (t ▸ none) f z =
@@ -281,7 +281,7 @@ module _ (b s : ℕ) where
           inr (item b s strict (many (a_statement f.depth)) refl (cs 0) (env ++ sc 0) t f.fit w.lexical refl inner (w.hoisted (q ++ 0 ∷ []) [] z), tt), tt)
   program_handles strict q c env m ds n ts f z = absurd f
 
-  static_handles : (strict : Bool) (q : Path) (c : Setting) (env : Environment) (n : ℕ) (ts : Trees) → BodyPart strict ts → clashing [] (scope_declarations shape.StaticBlock q ts) ≡ []
+  pub static_handles : (strict : Bool) (q : Path) (c : Setting) (env : Environment) (n : ℕ) (ts : Trees) → BodyPart strict ts → clashing [] (scope_declarations shape.StaticBlock q ts) ≡ []
       → Handles (Unit {0}) q true (opened c.used shape.StaticBlock ts) (below ((early b s).orders c shape.StaticBlock ts) c shape.StaticBlock n) 0 env ts
   unfolding scopes_by pace moments scope_declarations
   static_handles strict q c env n (t ▸ none) f z =
