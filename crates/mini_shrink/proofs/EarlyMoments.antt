@@ -22,7 +22,7 @@ use Rattle.mini_laws.specs.Scopes.{use_of, is_alone, opened, scopes_by}
 use Rattle.mini_laws.specs.ScopeList.{by_symbol}
 use Rattle.mini_laws.specs.Symbols.{symbols_in, declared as declared_in, declared_from, times}
 use Rattle.mini_kept.specs.Loosely.{symbol}
-use Rattle.mini_kept.proofs.Bools.{left, right}
+use Rattle.mini_kept.proofs.Bools.{left, right, or_second}
 use Rattle.mini_kept.proofs.Expressions.{refused_here}
 use Rattle.mini_kept.proofs.Hoisting.{bound_scoped}
 use Rattle.mini_kept.proofs.Unbound.{Other, both}
@@ -33,7 +33,7 @@ use Rattle.mini_shrink.specs.SameForeign.{DeclaresOnce, EarlyByMoments}
 use Rattle.mini_shrink.specs.Told.{is_reads}
 use Rattle.mini_shrink.proofs.Alone.{lone_slots}
 use Rattle.mini_shrink.proofs.Covered.{Unpatterned, names_other, none_among}
-use Rattle.mini_shrink.proofs.Earliest.{by_scopes, by_children, counted, append_empty, choose, inside_each, reads_over, concluded, own_none}
+use Rattle.mini_shrink.proofs.Around.{by_scopes, by_children, counted, append_empty, choose, inside_each, reads_over, concluded, own_none}
 use Rattle.mini_shrink.proofs.Finding.{any_both}
 use Rattle.mini_shrink.proofs.Inside.{lexical_among, no_scope, Brings, Handles, unscoped, hoisted_node, block_handles, switch_handles, for_handles, for_in_handles, for_of_handles, let_handles, const_handles, program_handles, static_handles}
 use Rattle.mini_shrink.proofs.Items.{AllSound, sound_first, sound_rest, Settled, Entry, these_items, other_first, other_rest, unbound_settled, settled_still, settled_entry, name_settled, quiet_unbound, parent_no_body, members_no_body}
@@ -87,7 +87,7 @@ module _ (b s : ℕ) where
   first_bound_other : (ts : Trees) → Other s (all_names declared.Bound ts) → Other s (first_names ts)
   unfolding names_of
   first_bound_other none o = tt
-  first_bound_other (t ▸ ts) o = other_first b s (names_of declared.Bound t) (all_names declared.Bound ts) o
+  first_bound_other (t ▸ ts) o = other_first s (names_of declared.Bound t) (all_names declared.Bound ts) o
 
   own_lexical_other : (d : Bool) (h : Shape) (ts : Trees) → Other s (all_names declared.Bound ts) → Other s (own_lexical d h ts)
   unfolding names_of
@@ -103,10 +103,10 @@ module _ (b s : ℕ) where
   own_lexical_other d (shape.Class k) (t ▸ (u ▸ none)) o = tt
   own_lexical_other d (shape.Class k) (t ▸ (u ▸ (v ▸ none))) o = tt
   own_lexical_other d (shape.Class k) (t ▸ (u ▸ (v ▸ (w ▸ ts)))) o =
-      let second = other_rest b s (names_of declared.Bound t) _ o in
-      let third = other_rest b s (names_of declared.Bound u) _ second in
-      let last = other_rest b s (names_of declared.Bound v) _ third in
-      both s (names_of declared.Bound t) (names_of declared.Bound w) (other_first b s (names_of declared.Bound t) _ o) (other_first b s (names_of declared.Bound w) (all_names declared.Bound ts) last)
+      let second = other_rest s (names_of declared.Bound t) _ o in
+      let third = other_rest s (names_of declared.Bound u) _ second in
+      let last = other_rest s (names_of declared.Bound v) _ third in
+      both s (names_of declared.Bound t) (names_of declared.Bound w) (other_first s (names_of declared.Bound t) _ o) (other_first s (names_of declared.Bound w) (all_names declared.Bound ts) last)
   own_lexical_other d shape.CatchClause ts o = first_bound_other ts o
   own_lexical_other d shape.ImportDeclaration ts o = o
   own_lexical_other d h ts o = tt
@@ -152,10 +152,6 @@ module _ (b s : ℕ) where
   param_settled strict (node shape.ArrayPattern xs n ts) e p m = absurd (true≢false (sym m ∙ p.0))
   param_settled strict (node h xs n ts) e p m = absurd (refused_here strict (one_or_absent a_pattern) h xs n ts refl e)
 
-  or_second : (a c : Bool) → c ≡ true → (a || c) ≡ true
-  or_second true c e = refl
-  or_second false c e = e
-
   no_later : (sc : ℕ → List Binding) → ((j : ℕ) → sc (suc j) ≡ []) → (i : ℕ) (ts : Trees) → by_scopes b s sc (suc i) ts ≡ 0
   no_later sc o i none = refl
   no_later sc o i (t ▸ ts) = omega (arith, ap (λ r. times (symbol s) (symbols_in r)) (o i), no_later sc o (suc i) ts)
@@ -175,7 +171,7 @@ module _ (b s : ℕ) where
       let p = pace (early b s) (cs 0) (env ++ sc 0) t in
       (subst (λ z. AtMost (ends_after z p) (followed m (ends_if (is_among x (names_of declared.Bound t))))) (sym (ordered_ends t bound))
         (subst (λ z. AtMost (ends_after true p) (followed m (ends_if z))) (sym bound) (end_after b s p m (settled_still b s (cs 0) (env ++ sc 0) t (param_settled strict t (left (fits strict (one_or_absent a_pattern) t) (fill strict (these ss) ts) f) inner.unpatterned bound)))),
-        these_items b s strict ss l sc cs (λ j. bound) (λ j. refl) 1 (env ++ sc 0) ts (right (fits strict (one_or_absent a_pattern) t) (fill strict (these ss) ts) f) (inner_rest s q sc (use_of h c.used) 0 env t ts a e) (other_rest b s (names_of declared.Hoisted t) (all_names declared.Hoisted ts) o))
+        these_items b s strict ss l sc cs (λ j. bound) (λ j. refl) 1 (env ++ sc 0) ts (right (fits strict (one_or_absent a_pattern) t) (fill strict (these ss) ts) f) (inner_rest s q sc (use_of h c.used) 0 env t ts a e) (other_rest s (names_of declared.Hoisted t) (all_names declared.Hoisted ts) o))
     where
       ordered_ends : (t : Tree) → is_among x (names_of declared.Bound t) ≡ true → (is_among x (names_of declared.Bound t) && (is_among x (names_of declared.Lexical t) || is_among x (names_of declared.Bound t))) ≡ true
       ordered_ends t g = ap (λ z. z && (is_among x (names_of declared.Lexical t) || is_among x (names_of declared.Bound t))) g ∙ or_second (is_among x (names_of declared.Lexical t)) (is_among x (names_of declared.Bound t)) g

@@ -24,7 +24,7 @@ use Rattle.mini_laws.specs.Scopes.{use_of, is_alone, lexical_scope, body_scope, 
 use Rattle.mini_laws.specs.ScopeList.{names_in, by_symbol}
 use Rattle.mini_laws.specs.Symbols.{symbols_in, times}
 use Rattle.mini_kept.specs.Loosely.{symbol}
-use Rattle.mini_kept.proofs.Bools.{left, right}
+use Rattle.mini_kept.proofs.Bools.{left, right, or_second}
 use Rattle.mini_kept.proofs.Hoisting.{hoisted_scoped}
 use Rattle.mini_kept.proofs.Unbound.{Other, both}
 use Rattle.mini_shrink.specs.Pace.{Pace, AtMost, Setting, below, pace, paces}
@@ -103,10 +103,6 @@ module _ (b s : ℕ) where
   pub hoisted_node : (u : Use) (env : Environment) (t : Tree) → Scoped u env t → times (symbol s) (symbols_in env) ≡ 0 → Other s (names_of declared.Hoisted t)
   hoisted_node u env t a e = names_other s Hoisted env (names_of declared.Hoisted t) (hoisted_scoped u env t a) e
 
-  or_second : (a c : Bool) → c ≡ true → (a || c) ≡ true
-  or_second true c e = refl
-  or_second false c e = e
-
   -- items from a child on whose scope declares it
   lone_entries : (strict : Bool) (ss : List Slot) → lone_slots ss ≡ true → (q : Path) (d : Bool) (sc : ℕ → List Binding) (cs : ℕ → Setting) → ((j : ℕ) → (cs j).ordered ≡ true) → ((j : ℕ) → is_alone (cs j).used ≡ false) → (i : ℕ) (env : Environment) (t : Tree) (ts : Trees) → fill strict (these ss) (t ▸ ts) ≡ true
       → AllOuter s q sc (λ j. (cs j).used) i env (t ▸ ts) → times (symbol s) (symbols_in (sc i)) ≡ 1 → Other s (names_of declared.Hoisted t) → Other s (all_names declared.Hoisted ts) → Brings sc cs i env (t ▸ ts)
@@ -128,7 +124,7 @@ module _ (b s : ℕ) where
       let sc = opened c.used h (t ▸ ts) in
       let w = usual_filled strict p h xs n (t ▸ ts) refl refl f in
       let hoisted = hoisted_node c.used env (node h xs n (t ▸ ts)) a z in
-      (λ y e k. lone_entries strict w.slots w.ordered q d sc cs (λ j. lexical_among s (names_of declared.Lexical t) e) (λ j. refl) 0 env t ts w.filled y e (other_first b s (names_of declared.Hoisted t) (all_names declared.Hoisted ts) hoisted) (other_rest b s (names_of declared.Hoisted t) (all_names declared.Hoisted ts) hoisted),
+      (λ y e k. lone_entries strict w.slots w.ordered q d sc cs (λ j. lexical_among s (names_of declared.Lexical t) e) (λ j. refl) 0 env t ts w.filled y e (other_first s (names_of declared.Hoisted t) (all_names declared.Hoisted ts) hoisted) (other_rest s (names_of declared.Hoisted t) (all_names declared.Hoisted ts) hoisted),
         unscoped_later ⊥ q d sc cs (λ j. refl) 0 (env ++ sc 0) ts)
 
   pub switch_handles : (strict : Bool) (p : Slot) (q : Path) (d : Bool) (c : Setting) (env : Environment) (xs : List Name) (n : ℕ) (ts : Trees) → fits strict p (node shape.SwitchStatement xs n ts) ≡ true → Scoped c.used env (node shape.SwitchStatement xs n ts) → times (symbol s) (symbols_in env) ≡ 0
@@ -142,7 +138,7 @@ module _ (b s : ℕ) where
       let cs = below ((early b s).orders c h all) c h n in
       let sc = opened c.used h all in
       let w = usual_filled strict p h xs n all refl refl f in
-      let hoisted = other_rest b s (names_of declared.Hoisted t) (names_of declared.Hoisted u ++ all_names declared.Hoisted ts) (hoisted_node c.used env (node h xs n all) a z) in
+      let hoisted = other_rest s (names_of declared.Hoisted t) (names_of declared.Hoisted u ++ all_names declared.Hoisted ts) (hoisted_node c.used env (node h xs n all) a z) in
       (λ y e k. absurd (no_scope s [] refl e),
         (λ y e k. from w.slots w.ordered w.filled cs sc hoisted (λ j. lexical_among s (names_of declared.Lexical u) e) y e (λ j. refl),
           unscoped_last ⊥ q d sc cs (λ j. refl) 0 ((env ++ sc 0) ++ sc 1) ts))
@@ -150,7 +146,7 @@ module _ (b s : ℕ) where
       from : (ss : List Slot) → lone_slots ss ≡ true → fill strict (these ss) (t ▸ (u ▸ ts)) ≡ true → (cs : ℕ → Setting) (sc : ℕ → List Binding) → Other s (names_of declared.Hoisted u ++ all_names declared.Hoisted ts) → ((j : ℕ) → (cs j).ordered ≡ true)
           → AllOuter s q sc (λ j. (cs j).used) 1 (env ++ sc 0) (u ▸ ts) → times (symbol s) (symbols_in (sc 1)) ≡ 1 → ((j : ℕ) → is_alone (cs j).used ≡ false) → Brings sc cs 1 (env ++ sc 0) (u ▸ ts)
       from [] l g cs sc h o y e n = absurd (true≢false (sym g))
-      from (r ∷ ss) l g cs sc h o y e n = lone_entries strict ss (right (lone_slot r) (lone_slots ss) l) q d sc cs o n 1 (env ++ sc 0) u ts (right (fits strict r t) (fill strict (these ss) (u ▸ ts)) g) y e (other_first b s (names_of declared.Hoisted u) (all_names declared.Hoisted ts) h) (other_rest b s (names_of declared.Hoisted u) (all_names declared.Hoisted ts) h)
+      from (r ∷ ss) l g cs sc h o y e n = lone_entries strict ss (right (lone_slot r) (lone_slots ss) l) q d sc cs o n 1 (env ++ sc 0) u ts (right (fits strict r t) (fill strict (these ss) (u ▸ ts)) g) y e (other_first s (names_of declared.Hoisted u) (all_names declared.Hoisted ts) h) (other_rest s (names_of declared.Hoisted u) (all_names declared.Hoisted ts) h)
 
   -- ---- loops
 
@@ -168,18 +164,18 @@ module _ (b s : ℕ) where
       let sc = opened c.used h ts in
       let us = use_of h c.used in
       let o1 = hoisted_node c.used env (node h xs n ts) a z in
-      let o2 = other_rest b s (names_of declared.Hoisted t) (names_of declared.Hoisted u ++ (names_of declared.Hoisted v ++ (names_of declared.Hoisted w ++ []))) o1 in
-      let o3 = other_rest b s (names_of declared.Hoisted u) (names_of declared.Hoisted v ++ (names_of declared.Hoisted w ++ [])) o2 in
-      let o4 = other_rest b s (names_of declared.Hoisted v) (names_of declared.Hoisted w ++ []) o3 in
+      let o2 = other_rest s (names_of declared.Hoisted t) (names_of declared.Hoisted u ++ (names_of declared.Hoisted v ++ (names_of declared.Hoisted w ++ []))) o1 in
+      let o3 = other_rest s (names_of declared.Hoisted u) (names_of declared.Hoisted v ++ (names_of declared.Hoisted w ++ [])) o2 in
+      let o4 = other_rest s (names_of declared.Hoisted v) (names_of declared.Hoisted w ++ []) o3 in
       (λ y e k. let o = lexical_among s (names_of declared.Lexical t) e in
           let r1 = inner_rest s q sc us 0 env t (u ▸ (v ▸ (w ▸ none))) y e in
           let e1 : Environment = env ++ sc 0 in
           let r2 = sound_rest s sc us 1 e1 u (v ▸ (w ▸ none)) r1 in
           let r3 = sound_rest s sc us 2 (e1 ++ []) v (w ▸ none) r2 in
-          inr (item b s strict f.0.slot f.0.lone (cs 0) e1 t f.0.fit o refl (inner_first s q sc us 0 env t (u ▸ (v ▸ (w ▸ none))) y e) (other_first b s (names_of declared.Hoisted t) _ o1),
-            (item b s strict f.1.0.slot f.1.0.lone (cs 1) (e1 ++ []) u f.1.0.fit o refl (sound_first s sc us 1 e1 u (v ▸ (w ▸ none)) r1) (other_first b s (names_of declared.Hoisted u) _ o2),
-              (item b s strict f.1.1.0.slot f.1.1.0.lone (cs 2) ((e1 ++ []) ++ []) v f.1.1.0.fit o refl (sound_first s sc us 2 (e1 ++ []) v (w ▸ none) r2) (other_first b s (names_of declared.Hoisted v) _ o3),
-                (alone_entry strict (cs 3) (((e1 ++ []) ++ []) ++ []) w f.1.1.1 refl (sound_first s sc us 3 ((e1 ++ []) ++ []) w none r3) (other_first b s (names_of declared.Hoisted w) [] o4), tt)))),
+          inr (item b s strict f.0.slot f.0.lone (cs 0) e1 t f.0.fit o refl (inner_first s q sc us 0 env t (u ▸ (v ▸ (w ▸ none))) y e) (other_first s (names_of declared.Hoisted t) _ o1),
+            (item b s strict f.1.0.slot f.1.0.lone (cs 1) (e1 ++ []) u f.1.0.fit o refl (sound_first s sc us 1 e1 u (v ▸ (w ▸ none)) r1) (other_first s (names_of declared.Hoisted u) _ o2),
+              (item b s strict f.1.1.0.slot f.1.1.0.lone (cs 2) ((e1 ++ []) ++ []) v f.1.1.0.fit o refl (sound_first s sc us 2 (e1 ++ []) v (w ▸ none) r2) (other_first s (names_of declared.Hoisted v) _ o3),
+                (alone_entry strict (cs 3) (((e1 ++ []) ++ []) ++ []) w f.1.1.1 refl (sound_first s sc us 3 ((e1 ++ []) ++ []) w none r3) (other_first s (names_of declared.Hoisted w) [] o4), tt)))),
         unscoped_later ⊥ q d sc cs (λ j. refl) 0 (env ++ sc 0) (u ▸ (v ▸ (w ▸ none))))
   for_handles strict q d c env xs n ts f a z = absurd f
 
@@ -193,15 +189,15 @@ module _ (b s : ℕ) where
       let sc = opened c.used h ts in
       let us = use_of h c.used in
       let o1 = hoisted_node c.used env (node h xs n ts) a z in
-      let o2 = other_rest b s (names_of declared.Hoisted t) (names_of declared.Hoisted u ++ (names_of declared.Hoisted w ++ [])) o1 in
-      let o3 = other_rest b s (names_of declared.Hoisted u) (names_of declared.Hoisted w ++ []) o2 in
+      let o2 = other_rest s (names_of declared.Hoisted t) (names_of declared.Hoisted u ++ (names_of declared.Hoisted w ++ [])) o1 in
+      let o3 = other_rest s (names_of declared.Hoisted u) (names_of declared.Hoisted w ++ []) o2 in
       (λ y e k. let o = lexical_among s (names_of declared.Lexical t) e in
           let r1 = inner_rest s q sc us 0 env t (u ▸ (w ▸ none)) y e in
           let e1 : Environment = env ++ sc 0 in
           let r2 = sound_rest s sc us 1 e1 u (w ▸ none) r1 in
-          inr (item b s strict f.0.slot f.0.lone (cs 0) e1 t f.0.fit o refl (inner_first s q sc us 0 env t (u ▸ (w ▸ none)) y e) (other_first b s (names_of declared.Hoisted t) _ o1),
-            (item b s strict f.1.0.slot f.1.0.lone (cs 1) (e1 ++ []) u f.1.0.fit o refl (sound_first s sc us 1 e1 u (w ▸ none) r1) (other_first b s (names_of declared.Hoisted u) _ o2),
-              (alone_entry strict (cs 2) ((e1 ++ []) ++ []) w f.1.1 refl (sound_first s sc us 2 (e1 ++ []) w none r2) (other_first b s (names_of declared.Hoisted w) [] o3), tt))),
+          inr (item b s strict f.0.slot f.0.lone (cs 0) e1 t f.0.fit o refl (inner_first s q sc us 0 env t (u ▸ (w ▸ none)) y e) (other_first s (names_of declared.Hoisted t) _ o1),
+            (item b s strict f.1.0.slot f.1.0.lone (cs 1) (e1 ++ []) u f.1.0.fit o refl (sound_first s sc us 1 e1 u (w ▸ none) r1) (other_first s (names_of declared.Hoisted u) _ o2),
+              (alone_entry strict (cs 2) ((e1 ++ []) ++ []) w f.1.1 refl (sound_first s sc us 2 (e1 ++ []) w none r2) (other_first s (names_of declared.Hoisted w) [] o3), tt))),
         unscoped_later ⊥ q d sc cs (λ j. refl) 0 (env ++ sc 0) (u ▸ (w ▸ none)))
   for_in_handles strict q d c env xs n ts f a z = absurd f
 
@@ -215,15 +211,15 @@ module _ (b s : ℕ) where
       let sc = opened c.used h ts in
       let us = use_of h c.used in
       let o1 = hoisted_node c.used env (node h xs n ts) a z in
-      let o2 = other_rest b s (names_of declared.Hoisted t) (names_of declared.Hoisted u ++ (names_of declared.Hoisted w ++ [])) o1 in
-      let o3 = other_rest b s (names_of declared.Hoisted u) (names_of declared.Hoisted w ++ []) o2 in
+      let o2 = other_rest s (names_of declared.Hoisted t) (names_of declared.Hoisted u ++ (names_of declared.Hoisted w ++ [])) o1 in
+      let o3 = other_rest s (names_of declared.Hoisted u) (names_of declared.Hoisted w ++ []) o2 in
       (λ y e k. let o = lexical_among s (names_of declared.Lexical t) e in
           let r1 = inner_rest s q sc us 0 env t (u ▸ (w ▸ none)) y e in
           let e1 : Environment = env ++ sc 0 in
           let r2 = sound_rest s sc us 1 e1 u (w ▸ none) r1 in
-          inr (item b s strict f.0.slot f.0.lone (cs 0) e1 t f.0.fit o refl (inner_first s q sc us 0 env t (u ▸ (w ▸ none)) y e) (other_first b s (names_of declared.Hoisted t) _ o1),
-            (item b s strict f.1.0.slot f.1.0.lone (cs 1) (e1 ++ []) u f.1.0.fit o refl (sound_first s sc us 1 e1 u (w ▸ none) r1) (other_first b s (names_of declared.Hoisted u) _ o2),
-              (alone_entry strict (cs 2) ((e1 ++ []) ++ []) w f.1.1 refl (sound_first s sc us 2 (e1 ++ []) w none r2) (other_first b s (names_of declared.Hoisted w) [] o3), tt))),
+          inr (item b s strict f.0.slot f.0.lone (cs 0) e1 t f.0.fit o refl (inner_first s q sc us 0 env t (u ▸ (w ▸ none)) y e) (other_first s (names_of declared.Hoisted t) _ o1),
+            (item b s strict f.1.0.slot f.1.0.lone (cs 1) (e1 ++ []) u f.1.0.fit o refl (sound_first s sc us 1 e1 u (w ▸ none) r1) (other_first s (names_of declared.Hoisted u) _ o2),
+              (alone_entry strict (cs 2) ((e1 ++ []) ++ []) w f.1.1 refl (sound_first s sc us 2 (e1 ++ []) w none r2) (other_first s (names_of declared.Hoisted w) [] o3), tt))),
         unscoped_later ⊥ q d sc cs (λ j. refl) 0 (env ++ sc 0) (u ▸ (w ▸ none)))
   for_of_handles strict q d c env xs n ts f a z = absurd f
 

@@ -88,6 +88,14 @@ scope_free k sc us i env t ts a = (omega (arith, times_three None (symbols_in (s
 pub nothing_other : (k : ℕ) (ys : List Name) → ys ≡ [] → Other k ys
 nothing_other k ys e = subst (Other k) (sym e) tt
 
+pub other_first : (k : ℕ) (ys zs : List Name) → Other k (ys ++ zs) → Other k ys
+other_first k [] zs o = tt
+other_first k (y ∷ ys) zs o = (o.0, other_first k ys zs o.1)
+
+pub other_rest : (k : ℕ) (ys zs : List Name) → Other k (ys ++ zs) → Other k zs
+other_rest k [] zs o = o
+other_rest k (y ∷ ys) zs o = other_rest k ys zs o.1
+
 module _ (b s : ℕ) where
   abbrev x : Name
   x = by_symbol s
@@ -305,14 +313,6 @@ module _ (b s : ℕ) where
       (name_settled (is_strict_in strict (shape.Function true g ds)) id z.0, (unbound_settled params under.0, (unbound_settled body under.1.0, tt)))
   function_settled strict p u m l env g ds xs n ts f a z = absurd z
 
-  pub other_first : (ys zs : List Name) → Other s (ys ++ zs) → Other s ys
-  other_first [] zs o = tt
-  other_first (y ∷ ys) zs o = (o.0, other_first ys zs o.1)
-
-  pub other_rest : (ys zs : List Name) → Other s (ys ++ zs) → Other s zs
-  other_rest [] zs o = o
-  other_rest (y ∷ ys) zs o = other_rest ys zs o.1
-
   not_both : (d : Bool) → not d ≡ true → d ≡ true → ⊥
   not_both true e f = true≢false (sym e)
   not_both false e f = true≢false (sym f)
@@ -393,8 +393,8 @@ module _ (b s : ℕ) where
         → AllSound s sc (λ j. (cs j).used) i env ts → Other s (all_names declared.Hoisted ts) → Entries sc cs i env ts
     each_items strict k l sc cs o e i env none f a h = tt
     each_items strict k l sc cs o e i env (t ▸ ts) f a h =
-        (item strict (one k) l (cs i) (env ++ sc i) t (left (fits strict (one k) t) (fill strict (each (one k)) ts) f) (o i) (e i) (sound_first s sc (λ j. (cs j).used) i env t ts a) (other_first (names_of declared.Hoisted t) (all_names declared.Hoisted ts) h),
-          each_items strict k l sc cs o e (suc i) (env ++ sc i) ts (right (fits strict (one k) t) (fill strict (each (one k)) ts) f) (sound_rest s sc (λ j. (cs j).used) i env t ts a) (other_rest (names_of declared.Hoisted t) (all_names declared.Hoisted ts) h))
+        (item strict (one k) l (cs i) (env ++ sc i) t (left (fits strict (one k) t) (fill strict (each (one k)) ts) f) (o i) (e i) (sound_first s sc (λ j. (cs j).used) i env t ts a) (other_first s (names_of declared.Hoisted t) (all_names declared.Hoisted ts) h),
+          each_items strict k l sc cs o e (suc i) (env ++ sc i) ts (right (fits strict (one k) t) (fill strict (each (one k)) ts) f) (sound_rest s sc (λ j. (cs j).used) i env t ts a) (other_rest s (names_of declared.Hoisted t) (all_names declared.Hoisted ts) h))
 
     pub these_items : (strict : Bool) (ss : List Slot) → lone_slots ss ≡ true → (sc : ℕ → List Binding) (cs : ℕ → Setting) → ((i : ℕ) → (cs i).ordered ≡ true) → ((i : ℕ) → is_alone (cs i).used ≡ false) → (i : ℕ) (env : Environment) (ts : Trees) → fill strict (these ss) ts ≡ true
         → AllSound s sc (λ j. (cs j).used) i env ts → Other s (all_names declared.Hoisted ts) → Entries sc cs i env ts
@@ -402,5 +402,5 @@ module _ (b s : ℕ) where
     these_items strict [] l sc cs o e i env (t ▸ ts) f a h = absurd (true≢false (sym f))
     these_items strict (p ∷ ss) l sc cs o e i env none f a h = tt
     these_items strict (p ∷ ss) l sc cs o e i env (t ▸ ts) f a h =
-        (item strict p (left (lone_slot p) (lone_slots ss) l) (cs i) (env ++ sc i) t (left (fits strict p t) (fill strict (these ss) ts) f) (o i) (e i) (sound_first s sc (λ j. (cs j).used) i env t ts a) (other_first (names_of declared.Hoisted t) (all_names declared.Hoisted ts) h),
-          these_items strict ss (right (lone_slot p) (lone_slots ss) l) sc cs o e (suc i) (env ++ sc i) ts (right (fits strict p t) (fill strict (these ss) ts) f) (sound_rest s sc (λ j. (cs j).used) i env t ts a) (other_rest (names_of declared.Hoisted t) (all_names declared.Hoisted ts) h))
+        (item strict p (left (lone_slot p) (lone_slots ss) l) (cs i) (env ++ sc i) t (left (fits strict p t) (fill strict (these ss) ts) f) (o i) (e i) (sound_first s sc (λ j. (cs j).used) i env t ts a) (other_first s (names_of declared.Hoisted t) (all_names declared.Hoisted ts) h),
+          these_items strict ss (right (lone_slot p) (lone_slots ss) l) sc cs o e (suc i) (env ++ sc i) ts (right (fits strict p t) (fill strict (these ss) ts) f) (sound_rest s sc (λ j. (cs j).used) i env t ts a) (other_rest s (names_of declared.Hoisted t) (all_names declared.Hoisted ts) h))

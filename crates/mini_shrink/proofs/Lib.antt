@@ -33,5 +33,5 @@ pub mod Homes
 mod Bodies
 mod Outside
 mod Inside
-mod Earliest
+mod Around
 mod EarlyMoments
