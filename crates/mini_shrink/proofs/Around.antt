@@ -1,42 +1,37 @@
 -- Around the scope that declares a symbol: of a node's children one holds it, or a scope of the node
 -- itself is it.
-use Rattle.std.specs.Prelude.{ℕ, zero, suc, ◌+◌, ◌≤◌, ◌≡◌, ◌⊎◌, refl, Bool, true, false, not, ◌&&◌, ◌||◌, List, [], ◌∷◌, ◌++◌, None}
-use Rattle.std.proofs.Common.{ap, ◌∙◌, sym, subst, arith, inl, inr, true≢false}
-use Rattle.mini_model.specs.declared.kind.VariableDeclarationKind.TheVariants.{Var, Let, Const}
+use Rattle.std.specs.Prelude.{ℕ, zero, suc, ◌+◌, ◌≡◌, ◌⊎◌, refl, Bool, true, false, ◌||◌, List, [], ◌∷◌, ◌++◌, None}
+use Rattle.std.proofs.Common.{ap, ◌∙◌, sym, arith, inl, inr, true≢false}
 use Rattle.mini_model.specs.declared.name.Name.{Name}
 use Rattle.mini_model.specs.declared.shape.Shape.{Shape}
 use Rattle.mini_model.specs.declared.shape.Shape.TheVariants as shape
 use Rattle.mini_model.specs.Tree.{Tree, Trees, node, none, ◌▸◌}
-use Rattle.mini_accept.specs.WellShaped.{Tagging, a_pattern, a_binding, Slot, one, one_or_absent, Filling, refused, these, each, each_or_last, pieces, filling, class_of, slots_of, is_whole, is_strict_in, is_last, is_quasi, are_quasis, fits, fill}
 use Rattle.mini_laws.specs.declared.names.Use.{Use}
 use Rattle.mini_laws.specs.declared.names.Use.TheVariants.{Read}
 use Rattle.mini_laws.specs.declared.names.Binding.{Binding}
-use Rattle.mini_laws.specs.declared.names.Declared.TheVariants as declared
-use Rattle.mini_laws.specs.DeclaredNames.{names_of, first_names, all_names}
-use Rattle.mini_laws.specs.Early.{Path, clashing, scope_declarations, early_names, all_early_names}
-use Rattle.mini_laws.specs.Foreign.{Moment, reads_at, ends_at, ended_by, in_order, moments, moments_from, is_body_by, own_lexical, lexical_variables, all_lexical_variables}
+use Rattle.mini_laws.specs.Early.{Path, early_names, all_early_names}
+use Rattle.mini_laws.specs.Foreign.{Moment, reads_at, ends_at, ended_by, in_order, moments, moments_from, lexical_variables, all_lexical_variables}
 use Rattle.mini_laws.specs.Mentions.{own_mentions, around_child, same_variable, is_among}
 use Rattle.mini_laws.specs.Resolved.{Environment}
-use Rattle.mini_laws.specs.Scoped.{NamesScoped, Scoped, AllScoped}
-use Rattle.mini_laws.specs.Scopes.{use_of, opened, scopes_by}
+use Rattle.mini_laws.specs.Scoped.{Scoped}
+use Rattle.mini_laws.specs.Scopes.{use_of, opened}
 use Rattle.mini_laws.specs.ScopeList.{by_symbol}
 use Rattle.mini_laws.specs.Symbols.{symbols_in, declared as declared_in, declared_from, times}
 use Rattle.mini_laws.proofs.Changes.{times_three}
 use Rattle.mini_kept.specs.Loosely.{symbol}
 use Rattle.mini_kept.proofs.Bools.{left, right}
-use Rattle.mini_kept.proofs.Hoisting.{bound_scoped}
-use Rattle.mini_kept.proofs.Unbound.{Other, both}
-use Rattle.mini_shrink.specs.Pace.{Pace, Ends, Silent, Reads, AtMost, followed, kept_in, reads_if, ends_if, ends_after, all_followed, in_turn, Setting, below, pace, paces}
+use Rattle.mini_kept.proofs.Unbound.{Other}
+use Rattle.mini_shrink.specs.Pace.{Pace, Ends, Silent, Reads, AtMost, followed, reads_if, ends_if, ends_after, in_turn, Setting, below, pace, paces}
 use Rattle.mini_shrink.specs.Questions.{early}
-use Rattle.mini_shrink.specs.Regular.{items_of, imports_no, is_regular, all_regular}
+use Rattle.mini_shrink.specs.Regular.{is_regular, all_regular}
 use Rattle.mini_shrink.specs.Told.{is_reads}
-use Rattle.mini_shrink.proofs.Covered.{Unpatterned, names_other, none_among}
+use Rattle.mini_shrink.proofs.Covered.{names_other}
 use Rattle.mini_shrink.proofs.Finding.{any_both}
-use Rattle.mini_shrink.proofs.Items.{Entry, Entries, Settled, settled_still}
+use Rattle.mini_shrink.proofs.Items.{Entry}
 use Rattle.mini_shrink.proofs.Moments.{grouped, first_of, first_both, reads_first, firsts, is_catch}
-use Rattle.mini_shrink.proofs.Outside.{mentioned_at, own_asked, times_joined, Unmentioned, AllUnmentioned, unmentioned, all_unmentioned, none_lexical, all_none_lexical, NoReads, unread_turn, silent_entry, silent_unread, silent_entries, silent_reads, Outer, AllOuter, Result}
+use Rattle.mini_shrink.proofs.Outside.{mentioned_at, own_asked, times_joined, Unmentioned, AllUnmentioned, unmentioned, all_unmentioned, none_lexical, all_none_lexical, unread_turn, silent_entry, silent_unread, silent_entries, silent_reads, Outer, AllOuter}
 use Rattle.mini_shrink.proofs.Inside.{Brings, Handles}
-use Rattle.mini_shrink.proofs.Paces.{AllAtMost, both as follow_both, turned, same}
+use Rattle.mini_shrink.proofs.Paces.{both as follow_both, turned, same}
 use Rattle.mini_shrink.proofs.Unended.{turn_ends, turn_unended, other_among}
 
 module _ (b s : ℕ) where

@@ -1,13 +1,13 @@
 -- In a program in which each name is declared once, what a body reads early by the ends that scopes
 -- tell it reads early by all moments.
-use Rattle.std.specs.Prelude.{ℕ, zero, suc, ◌+◌, ◌≤◌, ◌≡◌, ◌⊎◌, refl, Bool, true, false, not, ◌&&◌, ◌||◌, List, [], ◌∷◌, ◌++◌, None, Some, if◌then◌else◌}
+use Rattle.std.specs.Prelude.{ℕ, zero, suc, ◌≡◌, ◌⊎◌, refl, Bool, true, false, not, ◌&&◌, ◌||◌, List, [], ◌∷◌, ◌++◌, None, if◌then◌else◌}
 use Rattle.std.proofs.Common.{ap, ◌∙◌, sym, subst, arith, inl, inr, true≢false}
 use Rattle.mini_model.specs.declared.kind.VariableDeclarationKind.TheVariants.{Var, Let, Const}
 use Rattle.mini_model.specs.declared.name.Name.{Name}
 use Rattle.mini_model.specs.declared.shape.Shape.{Shape}
 use Rattle.mini_model.specs.declared.shape.Shape.TheVariants as shape
 use Rattle.mini_model.specs.Tree.{Tree, Trees, node, none, ◌▸◌}
-use Rattle.mini_accept.specs.WellShaped.{Tagging, a_program, a_pattern, a_binding, a_class_body, an_expression, an_inner, Slot, one, one_or_absent, Filling, refused, these, each, each_or_last, pieces, filling, class_of, slots_of, is_whole, is_strict_in, is_last, is_quasi, are_quasis, fits, fill}
+use Rattle.mini_accept.specs.WellShaped.{Tagging, a_program, a_pattern, a_class_body, an_expression, an_inner, Slot, one, one_or_absent, Filling, refused, these, each, each_or_last, pieces, filling, class_of, slots_of, is_whole, is_strict_in, is_last, is_quasi, are_quasis, fits, fill}
 use Rattle.mini_laws.specs.declared.names.Use.{Use}
 use Rattle.mini_laws.specs.declared.names.Use.TheVariants.{Read}
 use Rattle.mini_laws.specs.declared.names.Binding.{Binding}
@@ -17,33 +17,32 @@ use Rattle.mini_laws.specs.Early.{Path, clashing, scope_declarations, early_name
 use Rattle.mini_laws.specs.Foreign.{imported_names, is_foreign_always, Moment, reads_at, ends_at, ended_by, in_order, moments, moments_from, is_body_by, own_lexical, lexical_variables, all_lexical_variables, is_read_early}
 use Rattle.mini_laws.specs.Mentions.{own_mentions, around_child, same_variable, is_among, is_elsewhere, outermost}
 use Rattle.mini_laws.specs.Resolved.{Environment}
-use Rattle.mini_laws.specs.Scoped.{NamesScoped, Scoped, AllScoped}
-use Rattle.mini_laws.specs.Scopes.{use_of, is_alone, opened, scopes_by}
+use Rattle.mini_laws.specs.Scoped.{Scoped, AllScoped}
+use Rattle.mini_laws.specs.Scopes.{use_of, opened, scopes_by}
 use Rattle.mini_laws.specs.ScopeList.{by_symbol}
-use Rattle.mini_laws.specs.Symbols.{symbols_in, declared as declared_in, declared_from, times}
+use Rattle.mini_laws.specs.Symbols.{symbols_in, declared as declared_in, times}
 use Rattle.mini_kept.specs.Loosely.{symbol}
 use Rattle.mini_kept.proofs.Bools.{left, right, or_second}
 use Rattle.mini_kept.proofs.Expressions.{refused_here}
 use Rattle.mini_kept.proofs.Hoisting.{bound_scoped}
 use Rattle.mini_kept.proofs.Unbound.{Other, both}
-use Rattle.mini_shrink.specs.Pace.{Pace, Ends, Silent, Reads, AtMost, followed, reads_if, ends_if, ends_after, all_followed, in_turn, Setting, below, pace, paces}
+use Rattle.mini_shrink.specs.Pace.{Ends, Silent, AtMost, followed, reads_if, ends_if, ends_after, all_followed, Setting, below, pace, paces}
 use Rattle.mini_shrink.specs.Questions.{at_program, early}
 use Rattle.mini_shrink.specs.Regular.{items_of, imports_no, is_regular, all_regular}
 use Rattle.mini_shrink.specs.SameForeign.{DeclaresOnce, EarlyByMoments}
 use Rattle.mini_shrink.specs.Told.{is_reads}
-use Rattle.mini_shrink.proofs.Alone.{lone_slots}
-use Rattle.mini_shrink.proofs.Covered.{Unpatterned, names_other, none_among}
-use Rattle.mini_shrink.proofs.Around.{by_scopes, by_children, counted, append_empty, choose, inside_each, reads_over, concluded, own_none}
+use Rattle.mini_shrink.proofs.Covered.{Unpatterned, names_other}
+use Rattle.mini_shrink.proofs.Around.{by_scopes, by_children, counted, append_empty, choose, inside_each, reads_over, concluded}
 use Rattle.mini_shrink.proofs.Finding.{any_both}
 use Rattle.mini_shrink.proofs.Inside.{lexical_among, no_scope, Brings, Handles, unscoped, hoisted_node, block_handles, switch_handles, for_handles, for_in_handles, for_of_handles, let_handles, const_handles, program_handles, static_handles}
-use Rattle.mini_shrink.proofs.Items.{AllSound, sound_first, sound_rest, Settled, Entry, these_items, other_first, other_rest, unbound_settled, settled_still, settled_entry, name_settled, quiet_unbound, parent_no_body, members_no_body}
-use Rattle.mini_shrink.proofs.Moments.{grouped, first_of, first_both, reads_first, firsts, is_catch}
-use Rattle.mini_shrink.proofs.Outside.{times_joined, Outer, AllOuter, inner_first, inner_rest, Result}
+use Rattle.mini_shrink.proofs.Items.{sound_first, sound_rest, Settled, these_items, other_first, other_rest, unbound_settled, settled_still, settled_entry, name_settled, quiet_unbound, parent_no_body, members_no_body}
+use Rattle.mini_shrink.proofs.Moments.{first_of, first_both, reads_first, firsts, is_catch}
+use Rattle.mini_shrink.proofs.Outside.{times_joined, Outer, AllOuter, inner_first, inner_rest}
 use Rattle.mini_shrink.proofs.Paces.{AllAtMost, both as follow_both, all_both, same}
 use Rattle.mini_shrink.proofs.SameForeign.{unpatterned, unimported}
 use Rattle.mini_shrink.proofs.Homes.{unpatterned as all_unpatterned}
-use Rattle.mini_shrink.proofs.Regulars.{programs_are_regular, catch_slots, ordered_slots}
-use Rattle.mini_shrink.proofs.Slotted.{filled, Filled, usual_filled, ClassParts, class_there, class_parts, variable_there, variable_parts, program_there, block_there, body_part, for_there, for_parts, for_in_there, for_of_there, each_parts}
+use Rattle.mini_shrink.proofs.Regulars.{programs_are_regular, catch_slots}
+use Rattle.mini_shrink.proofs.Slotted.{filled, usual_filled, ClassParts, class_there, class_parts, variable_there, variable_parts, program_there, block_there, body_part, for_there, for_parts, for_in_there, for_of_there, each_parts}
 use Rattle.mini_shrink.proofs.Unended.{catch_ends, end_after, other_among}
 
 module _ (b s : ℕ) where
@@ -61,18 +60,31 @@ module _ (b s : ℕ) where
       let sc = opened c.used h ts in
       let us = use_of h c.used in
       let e1 : Environment = env ++ sc 0 in
-      let e2 : Environment = e1 ++ sc 1 in
-      (λ y e l. let r1 = inner_rest s q sc us 0 env t (u ▸ (v ▸ (w ▸ none))) y e in
-          let r2 = sound_rest s sc us 1 e1 u (v ▸ (w ▸ none)) r1 in
-          inr (settled_entry b s (cs 0) e1 t refl (name_settled b s strict t f.0),
-            (settled_entry b s (cs 1) e2 u refl (unbound_settled b s u (quiet_unbound b s strict (one_or_absent (an_inner an_expression)) Read e2 u f.1.0 refl refl (parent_no_body b s strict u f.1.0) (sound_first s sc us 1 e1 u (v ▸ (w ▸ none)) r1) refl refl refl)),
-              (settled_entry b s (cs 2) (e2 ++ []) v refl (unbound_settled b s v (quiet_unbound b s strict (one a_class_body) Read (e2 ++ []) v f.1.1.0 refl refl (members_no_body b s strict v f.1.1.0) (sound_first s sc us 2 e2 v (w ▸ none) r2) refl refl refl)),
-                (settled_entry b s (cs 3) ((e2 ++ []) ++ []) w refl (name_settled b s strict w f.1.1.1), tt)))),
-        (λ y e l. let r2 = inner_rest s q sc us 1 e1 u (v ▸ (w ▸ none)) y e in
-            inr (settled_entry b s (cs 1) e2 u refl (unbound_settled b s u (quiet_unbound b s strict (one_or_absent (an_inner an_expression)) Read e2 u f.1.0 refl refl (parent_no_body b s strict u f.1.0) (inner_first s q sc us 1 e1 u (v ▸ (w ▸ none)) y e) refl refl refl)),
-              (settled_entry b s (cs 2) (e2 ++ []) v refl (unbound_settled b s v (quiet_unbound b s strict (one a_class_body) Read (e2 ++ []) v f.1.1.0 refl refl (members_no_body b s strict v f.1.1.0) (sound_first s sc us 2 e2 v (w ▸ none) r2) refl refl refl)),
-                (settled_entry b s (cs 3) ((e2 ++ []) ++ []) w refl (name_settled b s strict w f.1.1.1), tt))),
-          ((λ y e l. absurd (no_scope s [] refl e)), ((λ y e l. absurd (no_scope s [] refl e)), tt))))
+      let e2 : Environment = e1 ++ sc 1 in (
+        λ y e l. let r1 = inner_rest s q sc us 0 env t (u ▸ (v ▸ (w ▸ none))) y e in
+            let r2 = sound_rest s sc us 1 e1 u (v ▸ (w ▸ none)) r1 in
+            inr (
+              settled_entry b s (cs 0) e1 t refl (name_settled b s strict t f.0),
+              (
+                settled_entry b s (cs 1) e2 u refl (unbound_settled b s u (quiet_unbound b s strict (one_or_absent (an_inner an_expression)) Read e2 u f.1.0 refl refl (parent_no_body b s strict u f.1.0) (sound_first s sc us 1 e1 u (v ▸ (w ▸ none)) r1) refl refl refl)),
+                (
+                  settled_entry b s (cs 2) (e2 ++ []) v refl (unbound_settled b s v (quiet_unbound b s strict (one a_class_body) Read (e2 ++ []) v f.1.1.0 refl refl (members_no_body b s strict v f.1.1.0) (sound_first s sc us 2 e2 v (w ▸ none) r2) refl refl refl)),
+                  (settled_entry b s (cs 3) ((e2 ++ []) ++ []) w refl (name_settled b s strict w f.1.1.1), tt),
+                ),
+              ),
+            ),
+        (
+          λ y e l. let r2 = inner_rest s q sc us 1 e1 u (v ▸ (w ▸ none)) y e in
+              inr (
+                settled_entry b s (cs 1) e2 u refl (unbound_settled b s u (quiet_unbound b s strict (one_or_absent (an_inner an_expression)) Read e2 u f.1.0 refl refl (parent_no_body b s strict u f.1.0) (inner_first s q sc us 1 e1 u (v ▸ (w ▸ none)) y e) refl refl refl)),
+                (
+                  settled_entry b s (cs 2) (e2 ++ []) v refl (unbound_settled b s v (quiet_unbound b s strict (one a_class_body) Read (e2 ++ []) v f.1.1.0 refl refl (members_no_body b s strict v f.1.1.0) (sound_first s sc us 2 e2 v (w ▸ none) r2) refl refl refl)),
+                  (settled_entry b s (cs 3) ((e2 ++ []) ++ []) w refl (name_settled b s strict w f.1.1.1), tt),
+                ),
+              ),
+          ((λ y e l. absurd (no_scope s [] refl e)), ((λ y e l. absurd (no_scope s [] refl e)), tt)),
+        ),
+      )
   class_handles strict q d c env k n ts f = absurd f
 
   -- ---- names that no scope of a node declares
@@ -168,10 +180,11 @@ module _ (b s : ℕ) where
       let bound = lexical_among s (names_of declared.Bound t) e in
       let inner = inner_first s q sc (use_of h c.used) 0 env t ts a e in
       let m = first_of b s (moments Read (around_child h c.around n 0) t) in
-      let p = pace (early b s) (cs 0) (env ++ sc 0) t in
-      (subst (λ z. AtMost (ends_after z p) (followed m (ends_if (is_among x (names_of declared.Bound t))))) (sym (ordered_ends t bound))
-        (subst (λ z. AtMost (ends_after true p) (followed m (ends_if z))) (sym bound) (end_after b s p m (settled_still b s (cs 0) (env ++ sc 0) t (param_settled strict t (left (fits strict (one_or_absent a_pattern) t) (fill strict (these ss) ts) f) inner.unpatterned bound)))),
-        these_items b s strict ss l sc cs (λ j. bound) (λ j. refl) 1 (env ++ sc 0) ts (right (fits strict (one_or_absent a_pattern) t) (fill strict (these ss) ts) f) (inner_rest s q sc (use_of h c.used) 0 env t ts a e) (other_rest s (names_of declared.Hoisted t) (all_names declared.Hoisted ts) o))
+      let p = pace (early b s) (cs 0) (env ++ sc 0) t in (
+        subst (λ z. AtMost (ends_after z p) (followed m (ends_if (is_among x (names_of declared.Bound t))))) (sym (ordered_ends t bound))
+            (subst (λ z. AtMost (ends_after true p) (followed m (ends_if z))) (sym bound) (end_after b s p m (settled_still b s (cs 0) (env ++ sc 0) t (param_settled strict t (left (fits strict (one_or_absent a_pattern) t) (fill strict (these ss) ts) f) inner.unpatterned bound)))),
+        these_items b s strict ss l sc cs (λ j. bound) (λ j. refl) 1 (env ++ sc 0) ts (right (fits strict (one_or_absent a_pattern) t) (fill strict (these ss) ts) f) (inner_rest s q sc (use_of h c.used) 0 env t ts a e) (other_rest s (names_of declared.Hoisted t) (all_names declared.Hoisted ts) o),
+      )
     where
       ordered_ends : (t : Tree) → is_among x (names_of declared.Bound t) ≡ true → (is_among x (names_of declared.Bound t) && (is_among x (names_of declared.Lexical t) || is_among x (names_of declared.Bound t))) ≡ true
       ordered_ends t g = ap (λ z. z && (is_among x (names_of declared.Lexical t) || is_among x (names_of declared.Bound t))) g ∙ or_second (is_among x (names_of declared.Lexical t)) (is_among x (names_of declared.Bound t)) g
@@ -194,8 +207,8 @@ module _ (b s : ℕ) where
       let first = followed (first_of b s m) (ends_if (is_among x (names_of declared.Bound t))) in
       let reads = reads_at (own_mentions c.used c.around h xs) in
       let both_told = reads_over b s (followed ((early b s).before c env h xs n (t ▸ ts)) (all_followed ps)) (followed (first_of b s reads) (followed first (all_followed (firsts b s ls))))
-          (follow_both ((early b s).before c env h xs n (t ▸ ts)) (first_of b s reads) (all_followed ps) (followed first (all_followed (firsts b s ls))) (same ((early b s).before c env h xs n (t ▸ ts)) (first_of b s reads) (sym (reads_first b s (own_mentions c.used c.around h xs))))
-          (all_both ps (first ∷ firsts b s ls) (catch_entries strict q c env n t ts w.slots w.ordered w.filled k (hoisted_node b s c.used env (node h xs n (t ▸ ts)) a z) declares))) r in
+      (follow_both ((early b s).before c env h xs n (t ▸ ts)) (first_of b s reads) (all_followed ps) (followed first (all_followed (firsts b s ls))) (same ((early b s).before c env h xs n (t ▸ ts)) (first_of b s reads) (sym (reads_first b s (own_mentions c.used c.around h xs))))
+      (all_both ps (first ∷ firsts b s ls) (catch_entries strict q c env n t ts w.slots w.ordered w.filled k (hoisted_node b s c.used env (node h xs n (t ▸ ts)) a z) declares))) r in
       ap is_reads (first_both b s reads (in_order h (m ∷ ls) (ends_at c.around (names_of declared.Bound t))) ∙ ap (followed (first_of b s reads)) (catch_ends b s m ls c.around (names_of declared.Bound t))) ∙ both_told
 
   -- ---- each shape
