@@ -1,5 +1,5 @@
--- Around the scope that declares a symbol: of a node's children one holds it, or a scope of the node
--- itself is it.
+-- Around the scope that declares a symbol: one child of a node holds it, or it is a scope of the
+-- node itself.
 use Rattle.std.specs.Prelude.{ℕ, zero, suc, ◌+◌, ◌≡◌, ◌⊎◌, refl, Bool, true, false, ◌||◌, List, [], ◌∷◌, ◌++◌, None}
 use Rattle.std.proofs.Common.{ap, ◌∙◌, sym, arith, inl, inr, true≢false}
 use Rattle.mini_model.specs.declared.name.Name.{Name}

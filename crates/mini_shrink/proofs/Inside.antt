@@ -1,5 +1,5 @@
--- What the node tells whose scope declares a symbol: its list ends the declaration where its moments
--- do, or nothing in it does.
+-- What a node tells of a symbol that a scope of its own declares: its list ends the declaration
+-- where its moments do, or nothing in it does.
 use Rattle.std.specs.Prelude.{ℕ, suc, ◌≡◌, refl, Bool, true, false, not, ◌||◌, List, [], ◌∷◌, ◌++◌, map, if◌then◌else◌}
 use Rattle.std.proofs.Common.{ap, ◌∙◌, sym, arith, inr, true≢false}
 use Rattle.mini_model.specs.declared.kind.VariableDeclarationKind.TheVariants.{Let, Const}

@@ -1,5 +1,5 @@
--- The children of functions, classes, declarators and of what declares names in a list, by the slots
--- of each.
+-- The children of functions, classes, declarators and of what declares names in a list, by the
+-- slots of each.
 use Rattle.std.specs.Prelude.{ℕ, ◌≡◌, refl, Bool, true, false, List, [], ◌∷◌, Option, Some, None}
 use Rattle.std.proofs.Common.{ap, ◌∙◌, sym, true≢false}
 use Rattle.mini_model.specs.declared.kind.VariableDeclarationKind.{VariableDeclarationKind}
