@@ -34,6 +34,7 @@ use Rattle.mini_shrink.specs.Told.{is_reads}
 use Rattle.mini_shrink.proofs.Covered.{Unpatterned, names_other}
 use Rattle.mini_shrink.proofs.Around.{by_scopes, by_children, counted, append_empty, choose, inside_each, reads_over, concluded}
 use Rattle.mini_shrink.proofs.Finding.{any_both}
+use Rattle.mini_shrink.proofs.Functions.{functions, arrows}
 use Rattle.mini_shrink.proofs.Inside.{lexical_among, no_scope, Brings, Handles, unscoped, hoisted_node, block_handles, switch_handles, for_handles, for_in_handles, for_of_handles, let_handles, const_handles, program_handles, static_handles}
 use Rattle.mini_shrink.proofs.Items.{sound_first, sound_rest, Settled, these_items, other_first, other_rest, unbound_settled, settled_still, settled_entry, name_settled, quiet_unbound, parent_no_body, members_no_body}
 use Rattle.mini_shrink.proofs.Moments.{first_of, first_both, reads_first, firsts, is_catch}
@@ -213,134 +214,124 @@ module _ (b s : ℕ) where
 
   -- ---- each shape
 
-  -- what functions and arrows do
-  abbrev FunctionHandles : Type 0
-  FunctionHandles = (strict : Bool) (p : Slot) (q : Path) (c : Setting) (env : Environment) (e g : Bool) (ds : List (List ℕ)) (xs : List Name) (n : ℕ) (ts : Trees) → fits strict p (node (shape.Function e g ds) xs n ts) ≡ true → clashing [] (scope_declarations (shape.Function e g ds) q ts) ≡ []
-      → Handles b s (times (symbol s) (symbols_in (opened c.used (shape.Function e g ds) ts 0)) ≡ 0) q false (opened c.used (shape.Function e g ds) ts) (below ((early b s).orders c (shape.Function e g ds) ts) c (shape.Function e g ds) n) 0 env ts
+  handles : (strict : Bool) (p : Slot) (q : Path) (d : Bool) (c : Setting) (env : Environment) (h : Shape) (xs : List Name) (n : ℕ) (ts : Trees) → is_catch b s h ≡ false → fits strict p (node h xs n ts) ≡ true → Scoped c.used env (node h xs n ts) → times (symbol s) (symbols_in env) ≡ 0 → clashing [] (scope_declarations h q ts) ≡ []
+      → Handles b s (Wants c.used h ts) q (is_body_by h d) (opened c.used h ts) (below ((early b s).orders c h ts) c h n) 0 env ts
+  unfolding scopes_by
+  handles strict p q d c env (shape.Program m ds) xs n ts k f a z g = program_handles b s (is_strict_in strict (shape.Program m ds)) q c env m ds n ts (body_part (is_strict_in strict (shape.Program m ds)) (slots_of strict (class_of p) (shape.Program m ds)) ts (program_there strict (class_of p) m ds) (filled strict p (shape.Program m ds) xs n ts refl f)) g
+  handles strict p q d c env shape.StaticBlock xs n ts k f a z g = static_handles b s strict q c env n ts (body_part strict (slots_of strict (class_of p) shape.StaticBlock) ts (block_there strict (class_of p)) (filled strict p shape.StaticBlock xs n ts refl f)) g
+  handles strict p q d c env shape.BlockStatement xs n ts k f a z g = block_handles b s strict p q false c env xs n ts f a z
+  handles strict p q d c env shape.SwitchStatement xs n ts k f a z g = switch_handles b s strict p q false c env xs n ts f a z
+  handles strict p q d c env shape.ForStatement xs n ts k f a z g = for_handles b s strict q false c env xs n ts (for_parts strict (slots_of strict (class_of p) shape.ForStatement) ts (for_there strict (class_of p)) (filled strict p shape.ForStatement xs n ts refl f)) a z
+  handles strict p q d c env shape.ForInStatement xs n ts k f a z g = for_in_handles b s strict q false c env xs n ts (each_parts strict (slots_of strict (class_of p) shape.ForInStatement) ts (for_in_there strict (class_of p)) (filled strict p shape.ForInStatement xs n ts refl f)) a z
+  handles strict p q d c env shape.ForOfStatement xs n ts k f a z g = for_of_handles b s strict q false c env xs n ts (each_parts strict (slots_of strict (class_of p) shape.ForOfStatement) ts (for_of_there strict (class_of p)) (filled strict p shape.ForOfStatement xs n ts refl f)) a z
+  handles strict p q d c env (shape.Function e y ds) xs n ts k f a z g = functions b s strict p q c env e y ds xs n ts f g
+  handles strict p q d c env (shape.ArrowFunctionExpression ds) xs n ts k f a z g = arrows b s strict p q c env ds xs n ts f g
+  handles strict p q d c env (shape.Class e) xs n ts k f a z g = class_handles true q false c env e n ts (class_parts true (slots_of strict (class_of p) (shape.Class e)) ts (class_there strict (class_of p) e) (filled strict p (shape.Class e) xs n ts refl f))
+  handles strict p q d c env (shape.VariableDeclaration Var) xs n ts k f a z g = unscoped b s ⊥ q false (opened c.used (shape.VariableDeclaration Var) ts) (below ((early b s).orders c (shape.VariableDeclaration Var) ts) c (shape.VariableDeclaration Var) n) (λ j. refl) 0 env ts
+  handles strict p q d c env (shape.VariableDeclaration Let) xs n ts k f a z g = let_handles b s strict q false c env n ts (variable_parts strict (slots_of strict (class_of p) (shape.VariableDeclaration Let)) ts (variable_there strict (class_of p) Let) (filled strict p (shape.VariableDeclaration Let) xs n ts refl f))
+  handles strict p q d c env (shape.VariableDeclaration Const) xs n ts k f a z g = const_handles b s strict q false c env n ts (variable_parts strict (slots_of strict (class_of p) (shape.VariableDeclaration Const)) ts (variable_there strict (class_of p) Const) (filled strict p (shape.VariableDeclaration Const) xs n ts refl f))
+  handles strict p q d c env shape.CatchClause xs n ts k f a z g = absurd (true≢false k)
+  handles strict p q d c env h xs n ts k f a z g = unscoped b s ⊥ q (is_body_by h d) (opened c.used h ts) (below ((early b s).orders c h ts) c h n) (λ j. refl) 0 env ts
 
-  abbrev ArrowHandles : Type 0
-  ArrowHandles = (strict : Bool) (p : Slot) (q : Path) (c : Setting) (env : Environment) (ds : List (List ℕ)) (xs : List Name) (n : ℕ) (ts : Trees) → fits strict p (node (shape.ArrowFunctionExpression ds) xs n ts) ≡ true → clashing [] (scope_declarations (shape.ArrowFunctionExpression ds) q ts) ≡ []
-      → Handles b s (Unit {0}) q false (opened c.used (shape.ArrowFunctionExpression ds) ts) (below ((early b s).orders c (shape.ArrowFunctionExpression ds) ts) c (shape.ArrowFunctionExpression ds) n) 0 env ts
+  -- ---- the walk
 
-  module _ (functions : FunctionHandles) (arrows : ArrowHandles) where
-    handles : (strict : Bool) (p : Slot) (q : Path) (d : Bool) (c : Setting) (env : Environment) (h : Shape) (xs : List Name) (n : ℕ) (ts : Trees) → is_catch b s h ≡ false → fits strict p (node h xs n ts) ≡ true → Scoped c.used env (node h xs n ts) → times (symbol s) (symbols_in env) ≡ 0 → clashing [] (scope_declarations h q ts) ≡ []
-        → Handles b s (Wants c.used h ts) q (is_body_by h d) (opened c.used h ts) (below ((early b s).orders c h ts) c h n) 0 env ts
-    unfolding scopes_by
-    handles strict p q d c env (shape.Program m ds) xs n ts k f a z g = program_handles b s (is_strict_in strict (shape.Program m ds)) q c env m ds n ts (body_part (is_strict_in strict (shape.Program m ds)) (slots_of strict (class_of p) (shape.Program m ds)) ts (program_there strict (class_of p) m ds) (filled strict p (shape.Program m ds) xs n ts refl f)) g
-    handles strict p q d c env shape.StaticBlock xs n ts k f a z g = static_handles b s strict q c env n ts (body_part strict (slots_of strict (class_of p) shape.StaticBlock) ts (block_there strict (class_of p)) (filled strict p shape.StaticBlock xs n ts refl f)) g
-    handles strict p q d c env shape.BlockStatement xs n ts k f a z g = block_handles b s strict p q false c env xs n ts f a z
-    handles strict p q d c env shape.SwitchStatement xs n ts k f a z g = switch_handles b s strict p q false c env xs n ts f a z
-    handles strict p q d c env shape.ForStatement xs n ts k f a z g = for_handles b s strict q false c env xs n ts (for_parts strict (slots_of strict (class_of p) shape.ForStatement) ts (for_there strict (class_of p)) (filled strict p shape.ForStatement xs n ts refl f)) a z
-    handles strict p q d c env shape.ForInStatement xs n ts k f a z g = for_in_handles b s strict q false c env xs n ts (each_parts strict (slots_of strict (class_of p) shape.ForInStatement) ts (for_in_there strict (class_of p)) (filled strict p shape.ForInStatement xs n ts refl f)) a z
-    handles strict p q d c env shape.ForOfStatement xs n ts k f a z g = for_of_handles b s strict q false c env xs n ts (each_parts strict (slots_of strict (class_of p) shape.ForOfStatement) ts (for_of_there strict (class_of p)) (filled strict p shape.ForOfStatement xs n ts refl f)) a z
-    handles strict p q d c env (shape.Function e y ds) xs n ts k f a z g = functions strict p q c env e y ds xs n ts f g
-    handles strict p q d c env (shape.ArrowFunctionExpression ds) xs n ts k f a z g = arrows strict p q c env ds xs n ts f g
-    handles strict p q d c env (shape.Class e) xs n ts k f a z g = class_handles true q false c env e n ts (class_parts true (slots_of strict (class_of p) (shape.Class e)) ts (class_there strict (class_of p) e) (filled strict p (shape.Class e) xs n ts refl f))
-    handles strict p q d c env (shape.VariableDeclaration Var) xs n ts k f a z g = unscoped b s ⊥ q false (opened c.used (shape.VariableDeclaration Var) ts) (below ((early b s).orders c (shape.VariableDeclaration Var) ts) c (shape.VariableDeclaration Var) n) (λ j. refl) 0 env ts
-    handles strict p q d c env (shape.VariableDeclaration Let) xs n ts k f a z g = let_handles b s strict q false c env n ts (variable_parts strict (slots_of strict (class_of p) (shape.VariableDeclaration Let)) ts (variable_there strict (class_of p) Let) (filled strict p (shape.VariableDeclaration Let) xs n ts refl f))
-    handles strict p q d c env (shape.VariableDeclaration Const) xs n ts k f a z g = const_handles b s strict q false c env n ts (variable_parts strict (slots_of strict (class_of p) (shape.VariableDeclaration Const)) ts (variable_there strict (class_of p) Const) (filled strict p (shape.VariableDeclaration Const) xs n ts refl f))
-    handles strict p q d c env shape.CatchClause xs n ts k f a z g = absurd (true≢false k)
-    handles strict p q d c env h xs n ts k f a z g = unscoped b s ⊥ q (is_body_by h d) (opened c.used h ts) (below ((early b s).orders c h ts) c h n) (λ j. refl) 0 env ts
+  kids : (q : Path) (d : Bool) (c : Setting) (env : Environment) (h : Shape) (xs : List Name) (n : ℕ) (ts : Trees) → Outer s q d c.used env (node h xs n ts) → AllOuter s q (opened c.used h ts) (use_of h c.used) 0 env ts
+  unfolding Scoped declared_in is_regular early_names
+  kids q d c env h xs n ts o =
+      record {
+        scoped = o.scoped.1;
+        free = o.free;
+        all = o.all;
+        once = o.once;
+        unpatterned = o.unpatterned.1;
+        regular = right (items_of h ts && imports_no s h ts) (all_regular s ts) o.regular;
+        names = (append_empty b s (clashing [] (scope_declarations h q ts)) (all_early_names q 0 ts) o.names).1;
+      }
 
-    -- ---- the walk
+  once_here : (q : Path) (d : Bool) (c : Setting) (env : Environment) (h : Shape) (xs : List Name) (n : ℕ) (ts : Trees) → Outer s q d c.used env (node h xs n ts) → clashing [] (scope_declarations h q ts) ≡ []
+  unfolding early_names
+  once_here q d c env h xs n ts o = (append_empty b s (clashing [] (scope_declarations h q ts)) (all_early_names q 0 ts) o.names).0
 
-    kids : (q : Path) (d : Bool) (c : Setting) (env : Environment) (h : Shape) (xs : List Name) (n : ℕ) (ts : Trees) → Outer s q d c.used env (node h xs n ts) → AllOuter s q (opened c.used h ts) (use_of h c.used) 0 env ts
-    unfolding Scoped declared_in is_regular early_names
-    kids q d c env h xs n ts o =
-        record {
-          scoped = o.scoped.1;
-          free = o.free;
-          all = o.all;
-          once = o.once;
-          unpatterned = o.unpatterned.1;
-          regular = right (items_of h ts && imports_no s h ts) (all_regular s ts) o.regular;
-          names = (append_empty b s (clashing [] (scope_declarations h q ts)) (all_early_names q 0 ts) o.names).1;
-        }
+  scoped_children : (u : Use) (env : Environment) (h : Shape) (xs : List Name) (n : ℕ) (ts : Trees) → Scoped u env (node h xs n ts) → AllScoped (opened u h ts) (use_of h u) 0 env ts
+  unfolding Scoped
+  scoped_children u env h xs n ts a = a.1
 
-    once_here : (q : Path) (d : Bool) (c : Setting) (env : Environment) (h : Shape) (xs : List Name) (n : ℕ) (ts : Trees) → Outer s q d c.used env (node h xs n ts) → clashing [] (scope_declarations h q ts) ≡ []
-    unfolding early_names
-    once_here q d c env h xs n ts o = (append_empty b s (clashing [] (scope_declarations h q ts)) (all_early_names q 0 ts) o.names).0
+  ended_bound : (h : Shape) (ts : Trees) → is_catch b s h ≡ true → Other s (all_names declared.Bound ts) → is_among x (ended_by h ts) ≡ false
+  ended_bound shape.CatchClause ts k o = other_among s (first_names ts) (first_bound_other ts o)
+  ended_bound h ts k o = absurd (cc k)
 
-    scoped_children : (u : Use) (env : Environment) (h : Shape) (xs : List Name) (n : ℕ) (ts : Trees) → Scoped u env (node h xs n ts) → AllScoped (opened u h ts) (use_of h u) 0 env ts
-    unfolding Scoped
-    scoped_children u env h xs n ts a = a.1
+  -- at a node: whether a scope of its own declares it
+  at_node : (strict : Bool) (p : Slot) (q : Path) (d : Bool) (c : Setting) (env : Environment) (h : Shape) (xs : List Name) (n : ℕ) (ts : Trees) → fits strict p (node h xs n ts) ≡ true → Outer s q d c.used env (node h xs n ts)
+      → (AllOuter s q (opened c.used h ts) (use_of h c.used) 0 env ts → by_scopes b s (opened c.used h ts) 0 ts ≡ 0 → is_among x (all_lexical_variables (is_body_by h d) ts) ≡ true → Brings b s (opened c.used h ts) (below ((early b s).orders c h ts) c h n) 0 env ts)
+      → is_reads (pace (early b s) c env (node h xs n ts)) ≡ true → is_reads (first_of b s (moments c.used c.around (node h xs n ts))) ≡ true
+  at_node strict p q d c env h xs n ts f o outside e = by (by_scopes b s sc 0 ts) refl
+    where
+      sc : ℕ → List Binding
+      sc = opened c.used h ts
 
-    ended_bound : (h : Shape) (ts : Trees) → is_catch b s h ≡ true → Other s (all_names declared.Bound ts) → is_among x (ended_by h ts) ≡ false
-    ended_bound shape.CatchClause ts k o = other_among s (first_names ts) (first_bound_other ts o)
-    ended_bound h ts k o = absurd (cc k)
+      all : AllOuter s q (opened c.used h ts) (use_of h c.used) 0 env ts
+      all = kids q d c env h xs n ts o
 
-    -- at a node: whether a scope of its own declares it
-    at_node : (strict : Bool) (p : Slot) (q : Path) (d : Bool) (c : Setting) (env : Environment) (h : Shape) (xs : List Name) (n : ℕ) (ts : Trees) → fits strict p (node h xs n ts) ≡ true → Outer s q d c.used env (node h xs n ts)
-        → (AllOuter s q (opened c.used h ts) (use_of h c.used) 0 env ts → by_scopes b s (opened c.used h ts) 0 ts ≡ 0 → is_among x (all_lexical_variables (is_body_by h d) ts) ≡ true → Brings b s (opened c.used h ts) (below ((early b s).orders c h ts) c h n) 0 env ts)
-        → is_reads (pace (early b s) c env (node h xs n ts)) ≡ true → is_reads (first_of b s (moments c.used c.around (node h xs n ts))) ≡ true
-    at_node strict p q d c env h xs n ts f o outside e = by (by_scopes b s sc 0 ts) refl
-      where
-        sc : ℕ → List Binding
-        sc = opened c.used h ts
+      none_below : (m : ℕ) → by_scopes b s sc 0 ts ≡ suc m → (by_scopes b s sc 0 ts ≡ 1) × (by_children b s (use_of h c.used) 0 ts ≡ 0)
+      none_below m g = (omega (arith, all.once, counted b s sc (use_of h c.used) 0 ts, g), omega (arith, all.once, counted b s sc (use_of h c.used) 0 ts, g))
 
-        all : AllOuter s q (opened c.used h ts) (use_of h c.used) 0 env ts
-        all = kids q d c env h xs n ts o
+      inside : (m : ℕ) → by_scopes b s sc 0 ts ≡ suc m → (k : Bool) → is_catch b s h ≡ k → is_reads (first_of b s (moments c.used c.around (node h xs n ts))) ≡ true
+      inside m g true k = caught h f o all (none_below m g).0 e k
+        where
+          caught : (h : Shape) → fits strict p (node h xs n ts) ≡ true → Outer s q d c.used env (node h xs n ts) → AllOuter s q (opened c.used h ts) (use_of h c.used) 0 env ts → by_scopes b s (opened c.used h ts) 0 ts ≡ 1
+              → is_reads (pace (early b s) c env (node h xs n ts)) ≡ true → is_catch b s h ≡ true → is_reads (first_of b s (moments c.used c.around (node h xs n ts))) ≡ true
+          caught shape.CatchClause f o a g e k = catch_inside strict p q c env xs n ts f o.scoped o.free a g e
+          caught h f o a g e k = absurd (cc k)
+      inside m g false k =
+          let (single, below_none) = none_below m g in
+          concluded b s c env h xs n ts (λ r. absurd (true≢false (sym r ∙ k))) o.scoped o.free
+          (inside_each b s (Wants c.used h ts) q (is_body_by h d) sc (below ((early b s).orders c h ts) c h n) 0 env ts all single below_none (wanted d c.used env h xs n ts o.scoped o.free o.lexical) (handles strict p q d c env h xs n ts k f o.scoped o.free (once_here q d c env h xs n ts o))) e
 
-        none_below : (m : ℕ) → by_scopes b s sc 0 ts ≡ suc m → (by_scopes b s sc 0 ts ≡ 1) × (by_children b s (use_of h c.used) 0 ts ≡ 0)
-        none_below m g = (omega (arith, all.once, counted b s sc (use_of h c.used) 0 ts, g), omega (arith, all.once, counted b s sc (use_of h c.used) 0 ts, g))
+      by : (m : ℕ) → by_scopes b s sc 0 ts ≡ m → is_reads (first_of b s (moments c.used c.around (node h xs n ts))) ≡ true
+      by zero g =
+          let bound = all_bound_other sc (use_of h c.used) 0 env ts (scoped_children c.used env h xs n ts o.scoped) o.free g in
+          concluded b s c env h xs n ts (λ k. ended_bound h ts k bound) o.scoped o.free (outside all g (lexical_below d h xs n ts (own_lexical_other d h ts bound) o.lexical)) e
+      by (suc m) g = inside m g (is_catch b s h) refl
 
-        inside : (m : ℕ) → by_scopes b s sc 0 ts ≡ suc m → (k : Bool) → is_catch b s h ≡ k → is_reads (first_of b s (moments c.used c.around (node h xs n ts))) ≡ true
-        inside m g true k = caught h f o all (none_below m g).0 e k
-          where
-            caught : (h : Shape) → fits strict p (node h xs n ts) ≡ true → Outer s q d c.used env (node h xs n ts) → AllOuter s q (opened c.used h ts) (use_of h c.used) 0 env ts → by_scopes b s (opened c.used h ts) 0 ts ≡ 1
-                → is_reads (pace (early b s) c env (node h xs n ts)) ≡ true → is_catch b s h ≡ true → is_reads (first_of b s (moments c.used c.around (node h xs n ts))) ≡ true
-            caught shape.CatchClause f o a g e k = catch_inside strict p q c env xs n ts f o.scoped o.free a g e
-            caught h f o a g e k = absurd (cc k)
-        inside m g false k =
-            let (single, below_none) = none_below m g in
-            concluded b s c env h xs n ts (λ r. absurd (true≢false (sym r ∙ k))) o.scoped o.free
-            (inside_each b s (Wants c.used h ts) q (is_body_by h d) sc (below ((early b s).orders c h ts) c h n) 0 env ts all single below_none (wanted d c.used env h xs n ts o.scoped o.free o.lexical) (handles strict p q d c env h xs n ts k f o.scoped o.free (once_here q d c env h xs n ts o))) e
+  quasi_lexical : (g : Tagging) (last : Bool) (d : Bool) (t : Tree) → is_quasi g last t ≡ true → Other s (lexical_variables d t)
+  unfolding lexical_variables names_of
+  quasi_lexical g last d (node h [] n none) e = both s (own_lexical d h none) [] (own_lexical_other d h none tt) tt
+  quasi_lexical g last d t e = absurd (true≢false (sym e))
 
-        by : (m : ℕ) → by_scopes b s sc 0 ts ≡ m → is_reads (first_of b s (moments c.used c.around (node h xs n ts))) ≡ true
-        by zero g =
-            let bound = all_bound_other sc (use_of h c.used) 0 env ts (scoped_children c.used env h xs n ts o.scoped) o.free g in
-            concluded b s c env h xs n ts (λ k. ended_bound h ts k bound) o.scoped o.free (outside all g (lexical_below d h xs n ts (own_lexical_other d h ts bound) o.lexical)) e
-        by (suc m) g = inside m g (is_catch b s h) refl
+  quasis_lexical : (g : Tagging) (d : Bool) (ts : Trees) → are_quasis g ts ≡ true → Other s (all_lexical_variables d ts)
+  unfolding lexical_variables
+  quasis_lexical g d none e = tt
+  quasis_lexical g d (t ▸ none) e = both s (lexical_variables d t) [] (quasi_lexical g true d t e) tt
+  quasis_lexical g d (t ▸ (u ▸ ts)) e = both s (lexical_variables d t) (all_lexical_variables d (u ▸ ts)) (quasi_lexical g false d t (left (is_quasi g false t) (are_quasis g (u ▸ ts)) e)) (quasis_lexical g d (u ▸ ts) (right (is_quasi g false t) (are_quasis g (u ▸ ts)) e))
 
-    quasi_lexical : (g : Tagging) (last : Bool) (d : Bool) (t : Tree) → is_quasi g last t ≡ true → Other s (lexical_variables d t)
-    unfolding lexical_variables names_of
-    quasi_lexical g last d (node h [] n none) e = both s (own_lexical d h none) [] (own_lexical_other d h none tt) tt
-    quasi_lexical g last d t e = absurd (true≢false (sym e))
+  of_either : (a l c : Bool) {C : Type 0} → (a ≡ true → C) → (c ≡ true → C) → (a || (l && c)) ≡ true → C
+  of_either true l c f g e = f refl
+  of_either false true c f g e = g e
+  of_either false false c f g e = absurd (true≢false (sym e))
 
-    quasis_lexical : (g : Tagging) (d : Bool) (ts : Trees) → are_quasis g ts ≡ true → Other s (all_lexical_variables d ts)
-    unfolding lexical_variables
-    quasis_lexical g d none e = tt
-    quasis_lexical g d (t ▸ none) e = both s (lexical_variables d t) [] (quasi_lexical g true d t e) tt
-    quasis_lexical g d (t ▸ (u ▸ ts)) e = both s (lexical_variables d t) (all_lexical_variables d (u ▸ ts)) (quasi_lexical g false d t (left (is_quasi g false t) (are_quasis g (u ▸ ts)) e)) (quasis_lexical g d (u ▸ ts) (right (is_quasi g false t) (are_quasis g (u ▸ ts)) e))
+  mutual
+    unfolding pace moments
 
-    of_either : (a l c : Bool) {C : Type 0} → (a ≡ true → C) → (c ≡ true → C) → (a || (l && c)) ≡ true → C
-    of_either true l c f g e = f refl
-    of_either false true c f g e = g e
-    of_either false false c f g e = absurd (true≢false (sym e))
+    around : (strict : Bool) (p : Slot) (q : Path) (d : Bool) (c : Setting) (env : Environment) (t : Tree) → fits strict p t ≡ true → Outer s q d c.used env t → is_reads (pace (early b s) c env t) ≡ true → is_reads (first_of b s (moments c.used c.around t)) ≡ true
+    around strict p q d c env (node h xs n ts) f o e =
+        at_node strict p q d c env h xs n ts f o
+        (λ a z l. around_each (is_strict_in strict h) (filling strict p h) q (is_body_by h d) (opened c.used h ts) (below ((early b s).orders c h ts) c h n) 0 env ts (right (is_whole (class_of p) h xs n ts) (fill (is_strict_in strict h) (filling strict p h) ts) f) a z l) e
 
-    mutual
-      unfolding pace moments
-
-      around : (strict : Bool) (p : Slot) (q : Path) (d : Bool) (c : Setting) (env : Environment) (t : Tree) → fits strict p t ≡ true → Outer s q d c.used env t → is_reads (pace (early b s) c env t) ≡ true → is_reads (first_of b s (moments c.used c.around t)) ≡ true
-      around strict p q d c env (node h xs n ts) f o e =
-          at_node strict p q d c env h xs n ts f o
-          (λ a z l. around_each (is_strict_in strict h) (filling strict p h) q (is_body_by h d) (opened c.used h ts) (below ((early b s).orders c h ts) c h n) 0 env ts (right (is_whole (class_of p) h xs n ts) (fill (is_strict_in strict h) (filling strict p h) ts) f) a z l) e
-
-      around_each : (strict : Bool) (g : Filling) (q : Path) (d : Bool) (sc : ℕ → List Binding) (cs : ℕ → Setting) (i : ℕ) (env : Environment) (ts : Trees) → fill strict g ts ≡ true → AllOuter s q sc (λ j. (cs j).used) i env ts → by_scopes b s sc i ts ≡ 0 → is_among x (all_lexical_variables d ts) ≡ true → Brings b s sc cs i env ts
-      around_each strict g q d sc cs i env none f a z l = inr tt
-      around_each strict refused q d sc cs i env (t ▸ ts) f a z l = absurd (true≢false (sym f))
-      around_each strict (these []) q d sc cs i env (t ▸ ts) f a z l = absurd (true≢false (sym f))
-      around_each strict (these (p ∷ ss)) q d sc cs i env (t ▸ ts) f a z l =
-          choose b s sc cs i env t ts q d a z l (λ o e. around strict p (q ++ i ∷ []) d (cs i) (env ++ sc i) t (left (fits strict p t) (fill strict (these ss) ts) f) o e)
-          (λ y w k. around_each strict (these ss) q d sc cs (suc i) (env ++ sc i) ts (right (fits strict p t) (fill strict (these ss) ts) f) y w k)
-      around_each strict (each p) q d sc cs i env (t ▸ ts) f a z l =
-          choose b s sc cs i env t ts q d a z l (λ o e. around strict p (q ++ i ∷ []) d (cs i) (env ++ sc i) t (left (fits strict p t) (fill strict (each p) ts) f) o e)
-          (λ y w k. around_each strict (each p) q d sc cs (suc i) (env ++ sc i) ts (right (fits strict p t) (fill strict (each p) ts) f) y w k)
-      around_each strict (each_or_last p r) q d sc cs i env (t ▸ ts) f a z l =
-          choose b s sc cs i env t ts q d a z l
-          (λ o e. of_either (fits strict p t) (is_last ts) (fits strict r t) (λ v. around strict p (q ++ i ∷ []) d (cs i) (env ++ sc i) t v o e) (λ v. around strict r (q ++ i ∷ []) d (cs i) (env ++ sc i) t v o e) (left (fits strict p t || (is_last ts && fits strict r t)) (fill strict (each_or_last p r) ts) f))
-          (λ y w k. around_each strict (each_or_last p r) q d sc cs (suc i) (env ++ sc i) ts (right (fits strict p t || (is_last ts && fits strict r t)) (fill strict (each_or_last p r) ts) f) y w k)
-      around_each strict (pieces g) q d sc cs i env (t ▸ ts) f a z l = absurd (true≢false (sym l ∙ other_among s (all_lexical_variables d (t ▸ ts)) (quasis_lexical g d (t ▸ ts) f)))
+    around_each : (strict : Bool) (g : Filling) (q : Path) (d : Bool) (sc : ℕ → List Binding) (cs : ℕ → Setting) (i : ℕ) (env : Environment) (ts : Trees) → fill strict g ts ≡ true → AllOuter s q sc (λ j. (cs j).used) i env ts → by_scopes b s sc i ts ≡ 0 → is_among x (all_lexical_variables d ts) ≡ true → Brings b s sc cs i env ts
+    around_each strict g q d sc cs i env none f a z l = inr tt
+    around_each strict refused q d sc cs i env (t ▸ ts) f a z l = absurd (true≢false (sym f))
+    around_each strict (these []) q d sc cs i env (t ▸ ts) f a z l = absurd (true≢false (sym f))
+    around_each strict (these (p ∷ ss)) q d sc cs i env (t ▸ ts) f a z l =
+        choose b s sc cs i env t ts q d a z l (λ o e. around strict p (q ++ i ∷ []) d (cs i) (env ++ sc i) t (left (fits strict p t) (fill strict (these ss) ts) f) o e)
+        (λ y w k. around_each strict (these ss) q d sc cs (suc i) (env ++ sc i) ts (right (fits strict p t) (fill strict (these ss) ts) f) y w k)
+    around_each strict (each p) q d sc cs i env (t ▸ ts) f a z l =
+        choose b s sc cs i env t ts q d a z l (λ o e. around strict p (q ++ i ∷ []) d (cs i) (env ++ sc i) t (left (fits strict p t) (fill strict (each p) ts) f) o e)
+        (λ y w k. around_each strict (each p) q d sc cs (suc i) (env ++ sc i) ts (right (fits strict p t) (fill strict (each p) ts) f) y w k)
+    around_each strict (each_or_last p r) q d sc cs i env (t ▸ ts) f a z l =
+        choose b s sc cs i env t ts q d a z l
+        (λ o e. of_either (fits strict p t) (is_last ts) (fits strict r t) (λ v. around strict p (q ++ i ∷ []) d (cs i) (env ++ sc i) t v o e) (λ v. around strict r (q ++ i ∷ []) d (cs i) (env ++ sc i) t v o e) (left (fits strict p t || (is_last ts && fits strict r t)) (fill strict (each_or_last p r) ts) f))
+        (λ y w k. around_each strict (each_or_last p r) q d sc cs (suc i) (env ++ sc i) ts (right (fits strict p t || (is_last ts && fits strict r t)) (fill strict (each_or_last p r) ts) f) y w k)
+    around_each strict (pieces g) q d sc cs i env (t ▸ ts) f a z l = absurd (true≢false (sym l ∙ other_among s (all_lexical_variables d (t ▸ ts)) (quasis_lexical g d (t ▸ ts) f)))
 
 -- ---- programs
 
@@ -372,6 +363,5 @@ outer_program t o s e l =
     by (inl r) = r
     by (inr i) = absurd (true≢false (sym i ∙ unimported t s e))
 
-module _ (functions : (b s : ℕ) → FunctionHandles b s) (arrows : (b s : ℕ) → ArrowHandles b s) where
-  pub early_by_moments : EarlyByMoments
-  early_by_moments t o b s e l w r = reads_early b s (moments Read outermost t) (around b s (functions b s) (arrows b s) false (one a_program) [] false at_program [] t o.shaped (outer_program t o s e l) r)
+pub early_by_moments : EarlyByMoments
+early_by_moments t o b s e l w r = reads_early b s (moments Read outermost t) (around b s false (one a_program) [] false at_program [] t o.shaped (outer_program t o s e l) r)

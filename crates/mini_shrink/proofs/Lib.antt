@@ -35,3 +35,4 @@ mod Outside
 mod Inside
 mod Around
 mod EarlyMoments
+pub mod Functions

@@ -7,7 +7,7 @@ ghost use Rattle.mini_shrink.specs.Exact.{ExactIsSo, ExactWithin};
 ghost use Rattle.mini_shrink.specs.Examples.{after_it};
 ghost use Rattle.mini_shrink.specs.Facts.{ReadsLessShrinks};
 ghost use Rattle.mini_shrink.specs.Regular.{EarlyByScopes, ForeignByScopes, ProgramsAreRegular};
-ghost use Rattle.mini_shrink.specs.SameForeign.{BoundOnce};
+ghost use Rattle.mini_shrink.specs.SameForeign.{BoundOnce, EarlyByMoments, ExactIsAll, ForeignByDefinition, ToldIsAll};
 ghost use Rattle.mini_shrink.specs.Told.{ToldShrinks};
 ghost use Rattle.mini_shrink.specs.ToldOn.{PlacesShow, ToldIsSo, ToldOn, ToldWithin};
 
@@ -51,6 +51,17 @@ pub fn symbols_are_bound_once()
 pub fn foreign_by_scopes()
     ensures early { EarlyByScopes }
     ensures foreign { ForeignByScopes }
+{}
+
+/// In a program in which each name is declared once, a body that reads a lexical symbol early by the
+/// ends that scopes tell does so by all moments; a symbol that is foreign to a body by the questions
+/// is so by its definition; and so all that the definitions of Shared and Foreign say of a body is
+/// told of it.
+pub fn foreign_by_definition()
+    ensures early { EarlyByMoments }
+    ensures foreign { ForeignByDefinition }
+    ensures told { ToldIsAll }
+    ensures exact { ExactIsAll }
 {}
 
 /// What the questions tell of a body (which symbols are steady in it, which no other body sees) is
