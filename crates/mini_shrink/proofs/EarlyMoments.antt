@@ -40,7 +40,7 @@ use Rattle.mini_shrink.proofs.Items.{sound_first, sound_rest, Settled, these_ite
 use Rattle.mini_shrink.proofs.Moments.{first_of, first_both, reads_first, firsts, is_catch}
 use Rattle.mini_shrink.proofs.Outside.{times_joined, Outer, AllOuter, inner_first, inner_rest}
 use Rattle.mini_shrink.proofs.Paces.{AllAtMost, both as follow_both, all_both, same}
-use Rattle.mini_shrink.proofs.SameForeign.{unpatterned, unimported}
+use Rattle.mini_shrink.proofs.Always.{unpatterned, unimported}
 use Rattle.mini_shrink.proofs.Homes.{unpatterned as all_unpatterned}
 use Rattle.mini_shrink.proofs.Regulars.{programs_are_regular, catch_slots}
 use Rattle.mini_shrink.proofs.Slotted.{filled, usual_filled, ClassParts, class_there, class_parts, variable_there, variable_parts, program_there, block_there, body_part, for_there, for_parts, for_in_there, for_of_there, each_parts}

@@ -53,17 +53,6 @@ pub fn foreign_by_scopes()
     ensures foreign { ForeignByScopes }
 {}
 
-/// In a program in which each name is declared once, a body that reads a lexical symbol early by the
-/// ends that scopes tell does so by all moments; a symbol that is foreign to a body by the questions
-/// is so by its definition; and so all that the definitions of Shared and Foreign say of a body is
-/// told of it.
-pub fn foreign_by_definition()
-    ensures early { EarlyByMoments }
-    ensures foreign { ForeignByDefinition }
-    ensures told { ToldIsAll }
-    ensures exact { ExactIsAll }
-{}
-
 /// What the questions tell of a body (which symbols are steady in it, which no other body sees) is
 /// so by the definitions of Shared and Foreign, and is told of the same body after any number of
 /// lawful steps that read less.
@@ -80,4 +69,14 @@ pub fn told_on<R: Rewrites>()
 pub fn exactly_told_on<R: Rewrites>()
     ensures so { ExactIsSo }
     ensures within { ExactWithin R.gives }
+{}
+
+/// In a program that declares each name once, a symbol that is foreign to a body by the questions,
+/// which shrink, is foreign to it by its definition: the questions tell of a body all that the
+/// definitions say, of what nothing writes and of what no node writes.
+pub fn foreign_is_exact()
+    ensures early { EarlyByMoments }
+    ensures foreign { ForeignByDefinition }
+    ensures told { ToldIsAll }
+    ensures exact { ExactIsAll }
 {}
