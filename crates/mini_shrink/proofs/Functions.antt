@@ -1,24 +1,23 @@
 -- What a function tells whose scopes declare a symbol: its own name or a parameter is read early
 -- nowhere, and a lexical name of its body as the moments say.
-use Rattle.std.specs.Prelude.{ℕ, zero, suc, ◌+◌, ◌≤◌, ◌≡◌, ◌⊎◌, refl, Bool, true, false, not, ◌&&◌, ◌||◌, List, [], ◌∷◌, ◌++◌, if◌then◌else◌, Option, Some, None}
+use Rattle.std.specs.Prelude.{ℕ, zero, suc, ◌+◌, ◌≤◌, ◌≡◌, ◌⊎◌, refl, Bool, true, false, ◌&&◌, ◌||◌, List, [], ◌∷◌, ◌++◌, Option, Some, None}
 use Rattle.std.proofs.Common.{ap, ◌∙◌, sym, subst, arith, inl, inr, true≢false}
 use Rattle.std.proofs.lemmas.List.{append-nil}
 use Rattle.mini_model.specs.declared.name.Name.{Name}
 use Rattle.mini_model.specs.declared.shape.Shape.{Shape}
 use Rattle.mini_model.specs.declared.shape.Shape.TheVariants as shape
 use Rattle.mini_model.specs.Tree.{Tree, Trees, node, none, ◌▸◌}
-use Rattle.mini_accept.specs.WellShaped.{in_body, a_key, a_private_or_key, an_inner_key, is_sloppy_function, in_depth, class_of, Class, a_statement, a_pattern, a_pattern_rest, a_parameter, a_function_body, an_arrow_body, Slot, one, many, many_and_rest, these, each_or_last, filling_by, slots_of, has_names, has_its_number, is_whole, is_last, is_function_body, is_strict_in, fits, fill}
+use Rattle.mini_accept.specs.WellShaped.{in_body, a_key, a_private_or_key, an_inner_key, is_sloppy_function, in_depth, class_of, Class, a_statement, a_pattern, a_pattern_rest, a_parameter, a_function_body, an_arrow_body, Slot, one, many, many_and_rest, these, each_or_last, filling_by, slots_of, has_names, is_whole, is_last, is_function_body, is_strict_in, fits, fill}
 use Rattle.mini_laws.specs.declared.names.Use.{Use}
 use Rattle.mini_laws.specs.declared.names.Use.TheVariants.{Read}
 use Rattle.mini_laws.specs.declared.names.Binding.{Binding}
 use Rattle.mini_laws.specs.declared.names.Declaration.{Declaration}
 use Rattle.mini_laws.specs.declared.names.Declared.TheVariants as declared
-use Rattle.mini_laws.specs.DeclaredNames.{names_of, all_names, body_names, bound_names, is_spelled}
+use Rattle.mini_laws.specs.DeclaredNames.{names_of, body_names, bound_names, is_spelled}
 use Rattle.mini_laws.specs.Early.{Path, declarations, body_declarations, clashing, scope_declarations}
 use Rattle.mini_laws.specs.Foreign.{lexical_variables, all_lexical_variables, moments}
 use Rattle.mini_laws.specs.Mentions.{same_variable, is_among}
 use Rattle.mini_laws.specs.Resolved.{Environment, symbol_of}
-use Rattle.mini_laws.specs.Scoped.{Scoped}
 use Rattle.mini_laws.specs.Scopes.{is_alone, use_of, body_scope, merged, scopes_by, opened}
 use Rattle.mini_laws.specs.ScopeList.{by_symbol}
 use Rattle.mini_laws.specs.Symbols.{symbols_in, declared as declared_in, declared_from, is_same, times}
@@ -30,25 +29,25 @@ use Rattle.mini_kept.proofs.Expressions.{refused_here}
 use Rattle.mini_kept.proofs.Hoisting.{bound_scoped}
 use Rattle.mini_kept.proofs.Unbound.{Other, both, AllUnbound}
 use Rattle.mini_shrink.specs.Cover.{Spellings, no_spellings, with_scope, is_covered, are_covered}
-use Rattle.mini_shrink.specs.Pace.{Pace, Ends, Silent, Reads, AtMost, ends_after, Setting, below, pace, paces}
+use Rattle.mini_shrink.specs.Pace.{Pace, Ends, Silent, Reads, AtMost, ends_after, Setting, below, pace}
 use Rattle.mini_shrink.specs.Questions.{early}
 use Rattle.mini_shrink.specs.Told.{is_reads}
-use Rattle.mini_shrink.proofs.Bodies.{Has, has_both, has_names as has_spelled, not_twice, same_either, unique, Spelt, spelt, Listing, listing}
+use Rattle.mini_shrink.proofs.Bodies.{Has, has_both, has_names as has_spelled, not_twice, same_either, unique, spelt, listing}
 use Rattle.mini_shrink.proofs.Covered.{Unpatterned, none_among, unfound}
 use Rattle.mini_shrink.proofs.Covering.{covered, nothing_owed}
-use Rattle.mini_shrink.proofs.Debts.{Debt, of, of_body, owed, slot_owes, is_body, holds_nothing, holds_nothing_slot}
-use Rattle.mini_shrink.proofs.Either.{of_either, of_either_if}
+use Rattle.mini_shrink.proofs.Debts.{Debt, of, of_body, owed, slot_owes, is_body, holds_nothing}
+use Rattle.mini_shrink.proofs.Either.{of_either_if}
 use Rattle.mini_shrink.proofs.Finding.{any_both}
 use Rattle.mini_shrink.proofs.Homes.{all_unbound}
-use Rattle.mini_shrink.proofs.Inside.{Handles, Brings, body_among, among_only}
+use Rattle.mini_shrink.proofs.Inside.{Handles, body_among, among_only}
 use Rattle.mini_shrink.proofs.Items.{AllSound, owes, nothing_other, sound_below, sound_first, sound_rest, Entry, item, name_settled, settled_entry, node_at_most}
-use Rattle.mini_shrink.proofs.Moments.{first_of, firsts}
+use Rattle.mini_shrink.proofs.Moments.{first_of}
 use Rattle.mini_shrink.proofs.Outside.{AllOuter, inner_first, inner_rest, inner_once, times_joined, Result}
 use Rattle.mini_shrink.proofs.Parts.{Sound, part_unbound_in, lexical_other}
 use Rattle.mini_shrink.proofs.Provided.{SpellsAs, Owes, in_whole_body, in_body as in_function_body, hoisted_in_body, list_in_body}
 use Rattle.mini_shrink.proofs.Silence.{silent}
 use Rattle.mini_shrink.proofs.Slotted.{filled, holds_if, if_none, nothing_deep, FunctionParts, function_there, function_parts}
-use Rattle.mini_shrink.proofs.Spelled.{Spells, or_first}
+use Rattle.mini_shrink.proofs.Spelled.{or_first}
 use Rattle.mini_shrink.proofs.Unended.{child_still, other_among}
 
 -- ---- arrow functions by slots
@@ -338,17 +337,22 @@ module _ (b s : ℕ) where
       let ts : Trees = id ▸ (params ▸ (body ▸ none)) in
       let sc = opened c.used h ts in
       let cs = below ((early b s).orders c h ts) c h n in
-      let us = λ (j : ℕ). Read in
-      ((λ y i w. let bare = tail_unbound strict a_function_body refl params body f.1.0 f.1.1 s sc 1 (env ++ sc 0) refl refl (inner_rest s q sc us 0 env id (params ▸ (body ▸ none)) y i) in
-          inr (settled_entry b s (cs 0) (env ++ sc 0) id refl (name_settled b s strict id f.0), (child_still b s (cs 1) ((env ++ sc 0) ++ sc 1) params bare.0, (child_still b s (cs 2) (((env ++ sc 0) ++ sc 1) ++ sc 2) body bare.1.0, tt)))),
-        ((λ y i w. let none_around = times_joined s env (sc 0) in
-            let free : times (symbol s) (symbols_in (sc 0)) ≡ 0 = omega (arith, none_around, y.free) in
-            absurd (parameter_never strict a_function_body refl params body f.1.0 f.1.1 q (q ++ 1 ∷ []) (q ++ 2 ∷ []) sc 1 (env ++ sc 0) y i (body_among s (bound_names params) i) z (w free))),
-          ((λ y i w. let none_around = times_joined s env (sc 0) in
-              let none_there = times_joined s (env ++ sc 0) (sc 1) in
-              let free : times (symbol s) (symbols_in (sc 0)) ≡ 0 = omega (arith, none_around, none_there, y.free) in
-              body_brings strict a_function_body refl params body f.1.0 f.1.1 (q ++ 1 ∷ []) (q ++ 2 ∷ []) (cs 2) (((env ++ sc 0) ++ sc 1) ++ sc 2) refl refl (inner_first s q sc us 2 ((env ++ sc 0) ++ sc 1) body none y i) (inner_once s q sc us 2 ((env ++ sc 0) ++ sc 1) body none y i) (among_only b s false body (w free)) z),
-            tt)))
+      let us = λ (j : ℕ). Read in (
+        (λ y i w. let bare = tail_unbound strict a_function_body refl params body f.1.0 f.1.1 s sc 1 (env ++ sc 0) refl refl (inner_rest s q sc us 0 env id (params ▸ (body ▸ none)) y i) in
+            inr (settled_entry b s (cs 0) (env ++ sc 0) id refl (name_settled b s strict id f.0), (child_still b s (cs 1) ((env ++ sc 0) ++ sc 1) params bare.0, (child_still b s (cs 2) (((env ++ sc 0) ++ sc 1) ++ sc 2) body bare.1.0, tt)))),
+        (
+          (λ y i w. let none_around = times_joined s env (sc 0) in
+              let free : times (symbol s) (symbols_in (sc 0)) ≡ 0 = omega (arith, none_around, y.free) in
+              absurd (parameter_never strict a_function_body refl params body f.1.0 f.1.1 q (q ++ 1 ∷ []) (q ++ 2 ∷ []) sc 1 (env ++ sc 0) y i (body_among s (bound_names params) i) z (w free))),
+          (
+            (λ y i w. let none_around = times_joined s env (sc 0) in
+                let none_there = times_joined s (env ++ sc 0) (sc 1) in
+                let free : times (symbol s) (symbols_in (sc 0)) ≡ 0 = omega (arith, none_around, none_there, y.free) in
+                body_brings strict a_function_body refl params body f.1.0 f.1.1 (q ++ 1 ∷ []) (q ++ 2 ∷ []) (cs 2) (((env ++ sc 0) ++ sc 1) ++ sc 2) refl refl (inner_first s q sc us 2 ((env ++ sc 0) ++ sc 1) body none y i) (inner_once s q sc us 2 ((env ++ sc 0) ++ sc 1) body none y i) (among_only b s false body (w free)) z),
+            tt,
+          ),
+        ),
+      )
   function_handles strict q c env e g ds n ts f z = absurd f
 
   arrow_handles : (strict : Bool) (q : Path) (c : Setting) (env : Environment) (ds : List (List ℕ)) (n : ℕ) (ts : Trees) → ArrowParts strict ts → clashing [] (scope_declarations (shape.ArrowFunctionExpression ds) q ts) ≡ []
@@ -359,10 +363,13 @@ module _ (b s : ℕ) where
       let ts : Trees = params ▸ (body ▸ none) in
       let sc = opened c.used h ts in
       let cs = below ((early b s).orders c h ts) c h n in
-      let us = λ (j : ℕ). Read in
-      ((λ y i w. absurd (parameter_never strict an_arrow_body refl params body f.0 f.1 q (q ++ 0 ∷ []) (q ++ 1 ∷ []) sc 0 env y i (body_among s (bound_names params) i) z (w tt))),
-        ((λ y i w. body_brings strict an_arrow_body refl params body f.0 f.1 (q ++ 0 ∷ []) (q ++ 1 ∷ []) (cs 1) ((env ++ sc 0) ++ sc 1) refl refl (inner_first s q sc us 1 (env ++ sc 0) body none y i) (inner_once s q sc us 1 (env ++ sc 0) body none y i) (among_only b s false body (w tt)) z),
-          tt))
+      let us = λ (j : ℕ). Read in (
+        (λ y i w. absurd (parameter_never strict an_arrow_body refl params body f.0 f.1 q (q ++ 0 ∷ []) (q ++ 1 ∷ []) sc 0 env y i (body_among s (bound_names params) i) z (w tt))),
+        (
+          (λ y i w. body_brings strict an_arrow_body refl params body f.0 f.1 (q ++ 0 ∷ []) (q ++ 1 ∷ []) (cs 1) ((env ++ sc 0) ++ sc 1) refl refl (inner_first s q sc us 1 (env ++ sc 0) body none y i) (inner_once s q sc us 1 (env ++ sc 0) body none y i) (among_only b s false body (w tt)) z),
+          tt,
+        ),
+      )
   arrow_handles strict q c env ds n ts f z = absurd f
 
   -- ---- by slots
