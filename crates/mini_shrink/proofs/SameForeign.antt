@@ -6,21 +6,20 @@ use Rattle.std.proofs.Common.{ap, ◌∙◌, sym, true≢false}
 use Rattle.mini_model.specs.declared.name.Name.{Name}
 use Rattle.mini_model.specs.Tree.{Tree}
 use Rattle.mini_laws.specs.declared.names.Use.TheVariants.{Read}
-use Rattle.mini_laws.specs.Foreign.{imported_names, pattern_names, is_write, lexical_variables, switched, params_around, moments, is_read_early, is_declared_in, may_be_uninitialised, is_foreign_always, is_foreign}
+use Rattle.mini_laws.specs.Foreign.{is_write, lexical_variables, switched, params_around, moments, is_read_early, is_declared_in, may_be_uninitialised, is_foreign_always, is_foreign}
 use Rattle.mini_laws.specs.Mentions.{is_among, outermost, program_mentions}
-use Rattle.mini_laws.specs.ScopeList.{by_symbol, seen_by_eval}
-use Rattle.mini_laws.specs.Shared.{script_tops, reached_by_arguments, program_pattern_writes, is_shared}
+use Rattle.mini_laws.specs.ScopeList.{by_symbol}
+use Rattle.mini_laws.specs.Shared.{is_shared}
 use Rattle.mini_laws.specs.Value.{Variable, Declared, Global}
 use Rattle.mini_kept.proofs.Bools.{left, right, both, or_second}
 use Rattle.mini_kept.specs.Without.{Within}
 use Rattle.mini_shrink.specs.Pace.{pace}
 use Rattle.mini_shrink.specs.Questions.{at_program, early}
-use Rattle.mini_shrink.specs.SameForeign.{DeclaresOnce, BoundOnce, EarlyByMoments, ForeignByDefinition, stays_by_definition, steady_by_definition, ToldIsAll, ExactIsAll}
+use Rattle.mini_shrink.specs.SameForeign.{DeclaresOnce, BoundOnce, ForeignByDefinition, stays_by_definition, steady_by_definition, ToldIsAll, ExactIsAll}
 use Rattle.mini_shrink.specs.Told.{is_reads, is_written, is_written_elsewhere, is_bound_elsewhere, is_unready, is_foreign_name, is_steady, stays}
 use Rattle.mini_shrink.specs.ToldOn.{told_by}
 use Rattle.mini_shrink.proofs.Always.{unpatterned}
 use Rattle.mini_shrink.proofs.EarlyMoments.{early_by_moments}
-use Rattle.mini_shrink.proofs.Either.{or_parts}
 use Rattle.mini_shrink.proofs.Homes.{bound_once as bound_in_one}
 use Rattle.mini_shrink.proofs.Owns.{or_implied, and_implied}
 use Rattle.mini_shrink.proofs.Spelled.{or_first}
