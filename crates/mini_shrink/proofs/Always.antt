@@ -14,7 +14,7 @@ unpatterned t s e =
     let before = is_among x (imported_names t) || is_among x (script_tops t) || is_among x (seen_by_eval t) || is_among x (reached_by_arguments false t) in
     (or_parts before (is_among x (pattern_names t)) (or_parts (before || is_among x (pattern_names t)) (is_among x (program_pattern_writes t)) e).0).1
 
--- nor does an import declare it
+-- what isn't foreign always no declaration imports
 pub unimported : (t : Tree) (s : ℕ) → is_foreign_always t (by_symbol s) ≡ false → is_among (by_symbol s) (imported_names t) ≡ false
 unimported t s e =
     let x = by_symbol s in
