@@ -138,7 +138,7 @@ module _ (b s : ℕ) where
         by (inl g) = inl (g, silent_reads b s sc cs (suc i) (env ++ sc i) ts u)
         by (inr g) = inr (g, silent_entries b s sc cs (suc i) (env ++ sc i) ts u)
 
-    -- no scope of these children declares it
+    -- children before none of which a scope opens that declares the symbol
     pub choose : (q : Path) (d : Bool) → AllOuter s q sc (λ j. (cs j).used) i env (t ▸ ts) → by_scopes sc i (t ▸ ts) ≡ 0 → is_among x (all_lexical_variables d (t ▸ ts)) ≡ true
         → (Outer s (q ++ i ∷ []) d (cs i).used (env ++ sc i) t → is_reads (pace (early b s) (cs i) (env ++ sc i) t) ≡ true → is_reads (first_of b s (moments (cs i).used (cs i).around t)) ≡ true)
         → (AllOuter s q sc (λ j. (cs j).used) (suc i) (env ++ sc i) ts → by_scopes sc (suc i) ts ≡ 0 → is_among x (all_lexical_variables d ts) ≡ true → Brings b s sc cs (suc i) (env ++ sc i) ts)
@@ -158,7 +158,7 @@ module _ (b s : ℕ) where
         by zero e = let u = silent_first q sc us i env t ts a free e in behind u (rest (outer_rest q sc us i env t ts a free) later (lexical_rest d t ts u l))
         by (suc n) e = let u = silent_rest q sc us i env t ts a free n e in before u (here (outer_first q sc us i env t ts a free d (lexical_first d t ts u l)))
 
-  -- one of their scopes does
+  -- children before one of which the scope opens that declares the symbol
   pub inside_each : (W : Type 0) (q : Path) (d : Bool) (sc : ℕ → List Binding) (cs : ℕ → Setting) (i : ℕ) (env : Environment) (ts : Trees) → AllOuter s q sc (λ j. (cs j).used) i env ts → by_scopes sc i ts ≡ 1 → by_children (λ j. (cs j).used) i ts ≡ 0
       → (W → is_among x (all_lexical_variables d ts) ≡ true) → Handles b s W q d sc cs i env ts → Brings b s sc cs i env ts
   inside_each W q d sc cs i env none a e f l h = absurd (omega (arith, e))
@@ -200,7 +200,7 @@ module _ (b s : ℕ) where
   pub own_none : (c : Setting) (env : Environment) (h : Shape) (xs : List Name) (n : ℕ) (ts : Trees) → Scoped c.used env (node h xs n ts) → times (symbol s) (symbols_in env) ≡ 0 → (early b s).before c env h xs n ts ≡ Silent
   own_none c env h xs n ts a e = ap reads_if (own_asked b s c.used c.around h xs (own_names c.used env h xs n ts a e))
 
-  -- where its end comes last, or it has none
+  -- a node with which nothing ends, or whose end comes last
   pub concluded : (c : Setting) (env : Environment) (h : Shape) (xs : List Name) (n : ℕ) (ts : Trees) → (is_catch b s h ≡ true → is_among x (ended_by h ts) ≡ false) → Scoped c.used env (node h xs n ts) → times (symbol s) (symbols_in env) ≡ 0
       → Brings b s (opened c.used h ts) (below ((early b s).orders c h ts) c h n) 0 env ts → is_reads (pace (early b s) c env (node h xs n ts)) ≡ true → is_reads (first_of b s (moments c.used c.around (node h xs n ts))) ≡ true
   unfolding pace moments

@@ -1,4 +1,5 @@
--- Where no name is declared twice, a body that declares a symbol lexically hoists no name of it.
+-- Where no name is declared twice, a body that declares a symbol lexically hoists no name of it:
+-- `let x; { var x; }` is an early error.
 use Rattle.std.specs.Prelude.{ℕ, zero, suc, ◌+◌, ◌≤◌, ◌≡◌, ◌⊎◌, refl, Bool, true, false, not, ◌&&◌, ◌||◌, List, [], ◌∷◌, ◌++◌, Option, Some, None, if◌then◌else◌}
 use Rattle.std.specs.List.{list_any}
 use Rattle.std.proofs.Common.{ap, ◌∙◌, sym, subst, arith, inl, inr, true≢false}
@@ -299,7 +300,7 @@ module _ (s : ℕ) where
       (statement_lexical b strict d (env ++ sc i) t (left (fits strict (one (a_statement d)) t) (fill strict (each (one (a_statement d))) ts) f) (sound_first s sc (λ j. Read) i env t ts a) (other_first s (strict_names b t) (all_strict_names b ts) o))
       (statements_lexical b strict d sc (suc i) (env ++ sc i) ts (right (fits strict (one (a_statement d)) t) (fill strict (each (one (a_statement d))) ts) f) (sound_rest s sc (λ j. Read) i env t ts a) (other_rest s (strict_names b t) (all_strict_names b ts) o))
 
-  -- ---- they are lexical names of its list
+  -- ---- lexical names of statements are those of their list
 
   among_both : (ys zs : List Name) → is_among x (ys ++ zs) ≡ (is_among x ys || is_among x zs)
   among_both ys zs = any_both (same_variable x) ys zs

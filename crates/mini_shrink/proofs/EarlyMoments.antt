@@ -1,5 +1,5 @@
 -- In a program in which each name is declared once, what a body reads early by the ends that scopes
--- tell it reads early by all moments.
+-- tell it reads early by all moments: `{ x; let x; }`, and not `{ let x; x; }`.
 use Rattle.std.specs.Prelude.{ℕ, zero, suc, ◌≡◌, ◌⊎◌, refl, Bool, true, false, not, ◌&&◌, ◌||◌, List, [], ◌∷◌, ◌++◌, None, if◌then◌else◌}
 use Rattle.std.proofs.Common.{ap, ◌∙◌, sym, subst, arith, inl, inr, true≢false}
 use Rattle.mini_model.specs.declared.kind.VariableDeclarationKind.TheVariants.{Var, Let, Const}

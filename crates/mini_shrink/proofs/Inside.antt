@@ -80,7 +80,8 @@ module _ (b s : ℕ) where
   abbrev pub Brings : (ℕ → List Binding) → (ℕ → Setting) → ℕ → Environment → Trees → Type 0
   Brings sc cs i env ts = Result (paces (early b s) sc cs i env ts) (firsts b s (moments_from (λ j. (cs j).used) (λ j. (cs j).around) i ts))
 
-  -- what children tell from each whose scope declares it on, where they have lexical names of it
+  -- what children tell from the one on before which a scope declares the symbol; W says where it is
+  -- known that they declare it lexically
   abbrev pub Handles : Type 0 → Path → Bool → (ℕ → List Binding) → (ℕ → Setting) → ℕ → Environment → Trees → Type 0
   Handles W q d sc cs i env none = Unit {0}
   Handles W q d sc cs i env (t ▸ ts) =
@@ -90,7 +91,7 @@ module _ (b s : ℕ) where
   unscoped W q d sc cs o i env none = tt
   unscoped W q d sc cs o i env (t ▸ ts) = (λ a e w. absurd (no_scope s (sc i) (o i) e), unscoped W q d sc cs o (suc i) (env ++ sc i) ts)
 
-  -- no scope but the first
+  -- a node that opens no scope but before its first child
   unscoped_later : (W : Type 0) (q : Path) (d : Bool) (sc : ℕ → List Binding) (cs : ℕ → Setting) → ((j : ℕ) → sc (suc j) ≡ []) → (i : ℕ) (env : Environment) (ts : Trees) → Handles W q d sc cs (suc i) env ts
   unscoped_later W q d sc cs o i env none = tt
   unscoped_later W q d sc cs o i env (t ▸ ts) = (λ a e w. absurd (no_scope s (sc (suc i)) (o i) e), unscoped_later W q d sc cs o (suc i) (env ++ sc (suc i)) ts)
@@ -102,7 +103,7 @@ module _ (b s : ℕ) where
   pub hoisted_node : (u : Use) (env : Environment) (t : Tree) → Scoped u env t → times (symbol s) (symbols_in env) ≡ 0 → Other s (names_of declared.Hoisted t)
   hoisted_node u env t a e = names_other s Hoisted env (names_of declared.Hoisted t) (hoisted_scoped u env t a) e
 
-  -- items from a child on whose scope declares it
+  -- items of a list, from the one on before which the scope opens that declares the symbol
   lone_entries : (strict : Bool) (ss : List Slot) → lone_slots ss ≡ true → (q : Path) (d : Bool) (sc : ℕ → List Binding) (cs : ℕ → Setting) → ((j : ℕ) → (cs j).ordered ≡ true) → ((j : ℕ) → is_alone (cs j).used ≡ false) → (i : ℕ) (env : Environment) (t : Tree) (ts : Trees) → fill strict (these ss) (t ▸ ts) ≡ true
       → AllOuter s q sc (λ j. (cs j).used) i env (t ▸ ts) → times (symbol s) (symbols_in (sc i)) ≡ 1 → Other s (names_of declared.Hoisted t) → Other s (all_names declared.Hoisted ts) → Brings sc cs i env (t ▸ ts)
   unfolding pace moments

@@ -1,5 +1,5 @@
 -- What stands in a list that declares a symbol ends its declaration for the list where its moments
--- end it, if it hoists no name of the symbol.
+-- end it, if it hoists no name of the symbol: in `{ x; let x = 0; x; }` the second item does.
 use Rattle.std.specs.Prelude.{ℕ, suc, ◌≡◌, refl, Bool, true, false, not, ◌&&◌, ◌||◌, List, [], ◌∷◌, ◌++◌, None}
 use Rattle.std.proofs.Common.{ap, ◌∙◌, sym, subst, arith, true≢false}
 use Rattle.mini_model.specs.declared.kind.VariableDeclarationKind.TheVariants.{Var, Let, Const}
@@ -78,7 +78,7 @@ sound_rest k sc us i env t ts a =
       regular = right (is_regular k t) (all_regular k ts) a.regular;
     }
 
--- a scope among them declares nothing of it
+-- no scope of these children declares the symbol
 scope_free : (k : ℕ) (sc : ℕ → List Binding) (us : ℕ → Use) (i : ℕ) (env : Environment) (t : Tree) (ts : Trees) → AllSound k sc us i env (t ▸ ts) → (times None (symbols_in (sc i)) ≡ 0) × (times (symbol k) (symbols_in (sc i)) ≡ 0)
 unfolding declared_in
 scope_free k sc us i env t ts a = (omega (arith, times_three None (symbols_in (sc i)) (declared_in (us i) t) (declared_from sc us (suc i) ts), a.all), omega (arith, times_three (symbol k) (symbols_in (sc i)) (declared_in (us i) t) (declared_from sc us (suc i) ts), a.undeclared))
@@ -200,7 +200,7 @@ module _ (b s : ℕ) where
   loud_ends : (c : Setting) (t : Tree) → c.ordered ≡ true → is_loud t ≡ true → (early b s).ends c t ≡ true
   loud_ends c t o e = ap (λ d. d && is_loud t) o ∙ e
 
-  -- a node with which nothing ends
+  -- a node with which no declaration of the symbol ends
   pub node_at_most : (c : Setting) (env : Environment) (h : Shape) (xs : List Name) (n : ℕ) (ts : Trees) → is_among x (ended_by h ts) ≡ false → Entries (opened c.used h ts) (below ((early b s).orders c h ts) c h n) 0 env ts → AtMost (pace (early b s) c env (node h xs n ts)) (first_of b s (moments c.used c.around (node h xs n ts)))
   unfolding pace moments
   node_at_most c env h xs n ts e a =
@@ -211,7 +211,7 @@ module _ (b s : ℕ) where
       subst (AtMost (pace (early b s) c env (node h xs n ts))) (sym (first_both b s reads (in_order h ls (ends_at c.around (ended_by h ts))) ∙ ap (followed (first_of b s reads)) (turn_unended b s h ls c.around (ended_by h ts) e)))
       (follow_both own (first_of b s reads) (in_turn h ps) (in_turn h (firsts b s ls)) (same own (first_of b s reads) (sym (reads_first b s (own_mentions c.used c.around h xs)))) (turned h ps (firsts b s ls) a))
 
-  -- one that hands the list on
+  -- a node that hands the list on to its children, as `let x = 0, y = x` does
   handed : (c : Setting) (env : Environment) (h : Shape) (xs : List Name) (n : ℕ) (ts : Trees) → c.ordered ≡ true → is_among x (ended_by h ts) ≡ false → Entries (opened c.used h ts) (below ((early b s).orders c h ts) c h n) 0 env ts → is_loud (node h xs n ts) ≡ true → Entry c env (node h xs n ts)
   handed c env h xs n ts o e a l =
       let q = pace (early b s) c env (node h xs n ts) in
@@ -221,7 +221,7 @@ module _ (b s : ℕ) where
   pub settled_entry : (c : Setting) (env : Environment) (t : Tree) → c.ordered ≡ false → Settled t → Entry c env t
   settled_entry c env t o a = subst (λ e. AtMost (ends_after e (pace (early b s) c env t)) (first_of b s (moments c.used c.around t))) (sym (unordered_ends c t o)) (unended (pace (early b s) c env t) (first_of b s (moments c.used c.around t)) (settled_still c env t a))
 
-  -- one with which the declaration ends
+  -- a node with which the declaration ends: a declarator, a function, a class
   ended : (c : Setting) (env : Environment) (h : Shape) (xs : List Name) (n : ℕ) (ts : Trees) → c.ordered ≡ true → is_catch b s h ≡ false → is_among x (ended_by h ts) ≡ true → (early b s).orders c h ts ≡ false → AllSettled ts → is_loud (node h xs n ts) ≡ true → Entry c env (node h xs n ts)
   ended c env h xs n ts o k e f a l =
       subst (λ d. AtMost (ends_after d (pace (early b s) c env (node h xs n ts))) (first_of b s (moments c.used c.around (node h xs n ts)))) (sym (loud_ends c (node h xs n ts) o l))
@@ -249,7 +249,7 @@ module _ (b s : ℕ) where
       many_holds c e = refl
   lone_holds p e = absurd (true≢false (sym e))
 
-  -- what declares nothing of it, or does and is told
+  -- a part that binds no name of the symbol, or one that does and tells its end
   by_loud : (strict : Bool) (p : Slot) → lone_slot p ≡ true → (c : Setting) (env : Environment) (t : Tree) → fits strict p t ≡ true → is_alone c.used ≡ false → Sound s c.used env t → Other s (names_of declared.Hoisted t) → (is_loud t ≡ true → Entry c env t) → Entry c env t
   by_loud strict p l c env t f e a h k = by (is_loud t) refl
     where
@@ -266,7 +266,7 @@ module _ (b s : ℕ) where
   hands : (o r : Bool) → o ≡ true → ((true && o) || r) ≡ true
   hands o r e = ap (λ d. (true && d) || r) e
 
-  -- what stands in a class
+  -- the parts of a class, as of `class A extends B { .. }`
   not_body : (strict : Bool) (c : Class) (xs : List Name) (n : ℕ) (ts : Trees) → slots_of strict c shape.FunctionBody ≡ None → fits strict (one_or_absent c) (node shape.FunctionBody xs n ts) ≡ true → ⊥
   not_body strict c xs n ts q e = refused_here strict (one_or_absent c) shape.FunctionBody xs n ts (ap filling_by q) e
 
@@ -278,7 +278,7 @@ module _ (b s : ℕ) where
   members_no_body strict (node shape.FunctionBody xs n ts) e = absurd (refused_here strict (one a_class_body) shape.FunctionBody xs n ts refl e)
   members_no_body strict (node h xs n ts) e = refl
 
-  -- the parts of a class declare nothing around them
+  -- the parts of a class declare no name around them
   pub class_settled : (strict : Bool) (u : Use) (env : Environment) (d : Bool) (xs : List Name) (n : ℕ) (ts : Trees) → ClassParts strict ts → AllSound s (opened u (shape.Class d) ts) (use_of (shape.Class d) u) 0 env ts → AllSettled ts
   class_settled strict u env d xs n (id ▸ (parent ▸ (body ▸ (again ▸ none)))) f a =
       let ts : Trees = id ▸ (parent ▸ (body ▸ (again ▸ none))) in

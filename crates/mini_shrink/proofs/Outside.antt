@@ -153,7 +153,7 @@ at_most_silent Ends a = refl
 at_most_silent Silent a = refl
 at_most_silent Reads a = absurd a
 
--- ---- what such a part tells
+-- ---- a part that mentions nothing tells nothing
 
 module _ (b s : ℕ) where
   abbrev x : Name
@@ -229,7 +229,7 @@ pub record AllOuter (s : ℕ) (q : Path) (sc : ℕ → List Binding) (us : ℕ �
   pub regular : all_regular s ts ≡ true
   pub names : all_early_names q i ts ≡ []
 
--- behind the scope that declares it: the first child, and the others
+-- what is known of the first child behind the scope that declares the symbol, and of the others
 module _ (s : ℕ) (q : Path) (sc : ℕ → List Binding) (us : ℕ → Use) (i : ℕ) (env : Environment) (t : Tree) (ts : Trees) (a : AllOuter s q sc us i env (t ▸ ts)) (e : times (symbol s) (symbols_in (sc i)) ≡ 1) where
   pub inner_first : Sound s (us i) (env ++ sc i) t
   unfolding Scoped declared_in is_regular

@@ -172,7 +172,7 @@ lone_class (one_or_absent c) l = l
 lone_class (many c) l = l
 lone_class s l = absurd (true≢false (sym l))
 
--- no other binder stands there
+-- no binder but a declarator stands in a list of statements, declarators or cases
 pub lone_refused : (strict : Bool) (p : Slot) (h : Shape) (xs : List Name) (n : ℕ) (ts : Trees) → is_lone_shape h ≡ false → is_bare h ≡ true → lone_slot p ≡ true → fits strict p (node h xs n ts) ≡ true → ⊥
 lone_refused strict p h xs n ts q b l e = by (class_of p) (lone_class p l) (filled strict p h xs n ts b e)
   where
@@ -279,7 +279,7 @@ lone_right strict an_exported_declaration h l = slots_right strict an_exported_d
 lone_right strict a_default_export h l = slots_right strict a_default_export h refl
 lone_right strict c h l = absurd (true≢false (sym l))
 
--- of a node of a shape, the slots and that its children fill them
+-- the slots of a node's shape, which its children fill
 pub record Filled (strict : Bool) (h : Shape) (ts : Trees) : Type 0 where
   pub slots : List Slot
   pub ordered : ordered_slots h slots ≡ true
@@ -292,7 +292,7 @@ lone_filled strict p h xs n ts b l e = by (slots_of strict (class_of p) h) (lone
     by None r f = absurd (true≢false (sym f))
     by (Some ss) r f = record { slots = ss; ordered = left (ordered_slots h ss) (deep_slots ss) r; filled = f }
 
--- of a node that is no program and no inner expression
+-- shapes but those of programs and of inner expressions
 abbrev pub is_usual : Shape → Bool
 is_usual (shape.Program m ds) = false
 is_usual shape.InnerExpression = false
@@ -406,7 +406,7 @@ pub record Head (strict : Bool) (t : Tree) : Type 0 where
   pub lone : lone_slot slot ≡ true
   pub fit : fits strict slot t ≡ true
 
--- the three parts of a head and the body, which stands alone
+-- the three parts of the head of a `for`, and the body, which stands alone
 abbrev pub ForParts : Bool → Trees → Type 0
 ForParts strict (a ▸ (b ▸ (c ▸ (body ▸ none)))) = Head strict a × (Head strict b × (Head strict c × (fits strict (one (a_statement nested)) body ≡ true)))
 ForParts strict ts = ⊥
@@ -434,7 +434,7 @@ for_parts strict (Some (one_or_absent an_init ∷ (one_or_absent an_expression �
         absurd (true≢false (sym (right (fits strict (one (a_statement nested)) body) false (right (fits strict (one_or_absent an_expression) c) _ (right (fits strict (one_or_absent an_expression) b) _ (right (fits strict (one_or_absent an_init) a) _ e))))))
 for_parts strict (Some ss) ts h e = absurd (true≢false (sym h))
 
--- both parts of a head and the body
+-- both parts of the head of a `for..in` or `for..of`, and the body
 abbrev pub EachParts : Bool → Trees → Type 0
 EachParts strict (a ▸ (b ▸ (body ▸ none))) = Head strict a × (Head strict b × (fits strict (one (a_statement nested)) body ≡ true))
 EachParts strict ts = ⊥
