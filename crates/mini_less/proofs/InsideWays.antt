@@ -1,5 +1,5 @@
--- On the way into a body each node over what loses a `var` loses it, and tells no more of every
--- other symbol.
+-- On the way into a body each node over what loses a `var` loses it, and tells no more of any other
+-- symbol: of `if (a) { var x = b(); c(x); }` the `if` and its block.
 use Rattle.std.specs.Prelude.{ℕ, zero, suc, ◌≡◌, refl, Bool, true, false, ◌||◌, List, [], ◌∷◌, Option, Some, None}
 use Rattle.std.proofs.Common.{ap, ◌∙◌, sym, subst, subst₂, true≢false}
 use Rattle.mini_model.specs.declared.name.Name.{Name}
@@ -127,7 +127,7 @@ module _ (sp : List ℕ) (k : ℕ) where
     along_way w (inside h [] (suc n) pre p post) a b q f s z = absurd (true≢false (sym q))
     along_way w (inside h (y ∷ ys) n pre p post) a b q f s z = absurd (true≢false (sym q))
 
-  -- so a statement loses it in a list
+  -- a statement loses the name in a list, where it does by itself
   pub statement_drops : (t u : Tree) → WroteIn sp k is_statement_use t u → DropsLess x k (t ▸ none) (u ▸ none)
   unfolding has_eval has_number
   statement_drops t u w = record {

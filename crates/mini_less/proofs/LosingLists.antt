@@ -1,5 +1,5 @@
--- A list of statements that loses a name, and what holds it: a block, a function, an arrow function,
--- a module, a static block, and a case of a `switch`.
+-- A list of statements that loses a name, and what holds it: a block, a function, an arrow
+-- function, a module and a static block.
 use Rattle.std.specs.Prelude.{ℕ, suc, ◌+◌, ◌≤◌, ◌≡◌, refl, nat_eq, Bool, true, false, ◌||◌, List, [], ◌∷◌, ◌++◌}
 use Rattle.std.proofs.Common.{ap, ◌∙◌, sym, subst, subst₂, inr}
 use Rattle.std.proofs.lemmas.List.{append-nil}
@@ -48,7 +48,7 @@ use Rattle.mini_less.proofs.LosingNodes.{Wrote, lost_less, of_arrow, of_body, of
 use Rattle.mini_less.proofs.Neighbours.{neighbours_ask_less}
 use Rattle.mini_less.specs.Neighbours.{PassesLists}
 
--- of each fact, what passes lists on
+-- a list hands each fact on
 passes : (g : Fact) (b s : ℕ) → PassesLists (question g b s)
 passes = by_fact PassesLists (λ o t z. asks_pass o t) (λ b s. early_passes b s)
 

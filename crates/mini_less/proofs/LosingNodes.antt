@@ -43,7 +43,7 @@ use Rattle.mini_less.proofs.Flags.{none_of}
 use Rattle.mini_less.proofs.Losing.{Loses, ScopeLoses, among_lost, body_lost, caught_lost, lexical_lost, lost_among, node_said}
 use Rattle.mini_less.proofs.Shown.{shows_all}
 
--- a node on the way, or what has a body
+-- a node on the way into a body, or what has a body
 pub data Holds : Type 0 where
   on_way : Stage → Holds
   of_body : Holds
@@ -67,7 +67,7 @@ front (of_function d g ds name params) = name ▸ (params ▸ none)
 front (of_arrow ds params) = params ▸ none
 front m = none
 
--- around a child
+-- it stands around a child
 abbrev pub holding : Holds → ℕ → Tree → Trees → Tree
 holding m n t post = node (shape_by m) [] n (append (front m) (t ▸ post))
 
@@ -147,7 +147,8 @@ module _ (sp : List ℕ) (k : ℕ) where
   lost_by place_kind.Below own f f' b b' l l' e g h = h
   lost_by place_kind.Nowhere own f f' b b' l l' e g h = inl refl
 
-  -- what a child that loses the name tells, as it is seen from somewhere, where it stands in some ways
+  -- what a child that loses the name tells, as it is seen from somewhere, where its names are used
+  -- in some ways
   pub record WroteBy (seen : Pace → Pace) (ok : Use → Bool) (t u : Tree) : Type 0 where
     pub said : (g : Fact) (b s : ℕ) → nat_eq s k ≡ false → (c : Setting) → ok c.used ≡ true → (env : Environment) → AtMost (seen (pace (question g b s) c env u)) (seen (pace (question g b s) c env t))
     pub unnamed : names x u ≡ false
@@ -158,11 +159,11 @@ module _ (sp : List ℕ) (k : ℕ) where
     pub lexical : Loses sp k (names_of declared.Lexical t) (names_of declared.Lexical u)
     pub hoisted : Loses sp k (names_of declared.Hoisted t) (names_of declared.Hoisted u)
 
-  -- in all
+  -- all that it tells
   abbrev pub Wrote : (Use → Bool) → Tree → Tree → Type 0
   Wrote = WroteBy (λ p. p)
 
-  -- around it
+  -- what is seen of that around it
   abbrev pub WroteIn : (Use → Bool) → Tree → Tree → Type 0
   WroteIn = WroteBy kept_in
 

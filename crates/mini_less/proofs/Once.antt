@@ -1,5 +1,5 @@
--- A declaration whose name is read once, right behind it, goes: its value stands where the name was
--- read, and of every other symbol no more is told.
+-- A declaration whose name is read once, right behind it, goes, its value stands where the name was
+-- read, and no more is told of any other symbol: `const x = f(); g(x);` becomes `; g(f());`.
 use Rattle.std.specs.Prelude.{ℕ, suc, ◌≡◌, refl, nat_eq, Bool, true, false, ◌&&◌, ◌||◌, List, [], ◌++◌}
 use Rattle.std.proofs.Common.{ap, ◌∙◌, sym, true≢false}
 use Rattle.std.proofs.lemmas.List.{append-nil}
@@ -260,7 +260,7 @@ each_unended sp k init UnderCatch b s e c = refl
 each_unended sp k init ByArguments b s e c = refl
 each_unended sp k init AmongParameters b s e c = refl
 
--- so the symbol is another
+-- where the declarator ends no declaration of a symbol, that is another than its own
 pub another : (sp : List ℕ) (k : ℕ) (init : Tree) (b s : ℕ) → (c : Setting) → Unended sp k init (early b s) → nat_eq s k ≡ false
 unfolding names_of
 another sp k init b s c f = by (nat_eq s k) (f (record c { ordered = true }))

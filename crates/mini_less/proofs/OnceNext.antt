@@ -1,5 +1,5 @@
--- A declarator whose name the next one reads once goes: its value stands where the name was read,
--- and of every other symbol no more is told.
+-- A declarator whose name the next one reads once goes, its value stands where the name was read,
+-- and no more is told of any other symbol: `let x = a(), y = x.b;` becomes `let y = a().b;`.
 use Rattle.std.specs.Prelude.{ℕ, suc, ◌≡◌, refl, nat_eq, Bool, true, false, ◌&&◌, ◌||◌, List, [], ◌++◌}
 use Rattle.std.proofs.Common.{ap, ◌∙◌, sym, subst, true≢false}
 use Rattle.mini_model.specs.declared.kind.VariableDeclarationKind.{VariableDeclarationKind}
