@@ -1,6 +1,6 @@
 -- Where each binder is spelled in a scope of its body, a tree whose scopes declare no symbol binds
 -- none: neither for a `var` nor otherwise, as far as what is spelled around it is no name of it.
-use Rattle.std.specs.Prelude.{ℕ, zero, suc, ◌+◌, ◌≡◌, ◌⊎◌, refl, Bool, true, false, ◌&&◌, ◌||◌, List, [], ◌∷◌, ◌++◌, Option, Some, None, if◌then◌else◌}
+use Rattle.std.specs.Prelude.{ℕ, suc, ◌+◌, ◌≡◌, ◌⊎◌, refl, Bool, true, false, ◌&&◌, ◌||◌, List, [], ◌∷◌, ◌++◌, Option, Some, None, if◌then◌else◌}
 use Rattle.std.specs.List.{list_any, list_all}
 use Rattle.std.proofs.Common.{ap, ◌∙◌, sym, subst, arith, inl, inr, true≢false}
 use Rattle.mini_model.specs.declared.name.Name.{Name}
@@ -11,10 +11,9 @@ use Rattle.mini_model.specs.Tree.{Tree, Trees, node, none, ◌▸◌}
 use Rattle.mini_model.specs.Weight.{same_text}
 use Rattle.mini_accept.specs.WellShaped.{is_same_flag}
 use Rattle.mini_laws.specs.declared.names.Use.{Use}
-use Rattle.mini_laws.specs.declared.names.Use.TheVariants.{Read, Hoisted, Headed}
+use Rattle.mini_laws.specs.declared.names.Use.TheVariants.{Hoisted, Headed}
 use Rattle.mini_laws.specs.declared.names.Binding.{Binding}
-use Rattle.mini_laws.specs.declared.names.Declared.TheVariants as declared
-use Rattle.mini_laws.specs.DeclaredNames.{names_of, all_names, is_spelled}
+use Rattle.mini_laws.specs.DeclaredNames.{names_of, is_spelled}
 use Rattle.mini_laws.specs.Foreign.{own_pattern_names}
 use Rattle.mini_laws.specs.Mentions.{same_variable, is_among}
 use Rattle.mini_laws.specs.Resolved.{Environment, serves, is_for, or_else, own_symbol, symbol_of}

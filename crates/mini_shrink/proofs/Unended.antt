@@ -18,7 +18,6 @@ use Rattle.mini_kept.proofs.Unbound.{Other, Unbound, AllUnbound, named}
 use Rattle.mini_shrink.specs.Pace.{Pace, Ends, Silent, Reads, AtMost, followed, kept_in, reads_if, ends_if, ends_after, all_followed, in_turn, Setting, below, pace, paces}
 use Rattle.mini_shrink.specs.Questions.{early}
 use Rattle.mini_shrink.proofs.Moments.{grouped, x, first_of, first_both, reads_first, ends_first, firsts, moved, joined_first, is_catch}
-use Rattle.mini_shrink.proofs.Paces.{same, AllAtMost}
 
 -- ---- answers without an end
 
@@ -177,7 +176,7 @@ module _ (b s : ℕ) where
       let reads = reads_at (own_mentions c.used c.around h xs) in
       subst (AtMost (kept_in (pace (early b s) c env (node h xs n ts)))) (sym (first_both b s reads (in_order h ls (ends_at c.around (ended_by h ts))) ∙ ap (followed (first_of b s reads)) (turn_unended h ls c.around (ended_by h ts) e))) (told_less c env h xs n ts a)
 
-  end_after : (q m : Pace) → AtMost (kept_in q) m → AtMost (ends_after true q) (followed m Ends)
+  pub end_after : (q m : Pace) → AtMost (kept_in q) m → AtMost (ends_after true q) (followed m Ends)
   end_after Ends m l = tt
   end_after Silent m l = tt
   end_after Reads Ends l = absurd l
