@@ -1,9 +1,8 @@
 -- A child stands in a slot of its place, where the node does; so what declares names in a list of
 -- statements does it by declarators alone.
 use Rattle.std.specs.Prelude.{ℕ, suc, ◌≡◌, refl, Bool, true, false, ◌&&◌, ◌||◌, List, [], ◌∷◌, ◌++◌, nat_le}
-use Rattle.std.proofs.Common.{ap, ◌∙◌, sym, subst, true≢false}
-use Rattle.std.proofs.lemmas.Bool.{and_parts}
-use Rattle.mini_accept.specs.WellShaped.{Depth, Filling, Slot, Tagging, untagged, tagged, a_declarator, a_statement, are_quasis, class_of, each, each_or_last, fill, filling, fits, is_last, is_quasi, is_strict_in, is_whole, one, pieces, refused, these}
+use Rattle.std.proofs.Common.{ap, ◌∙◌, sym, true≢false}
+use Rattle.mini_accept.specs.WellShaped.{Filling, Slot, Tagging, untagged, tagged, a_declarator, a_statement, are_quasis, class_of, each, each_or_last, fill, filling, fits, is_last, is_quasi, is_strict_in, is_whole, one, pieces, refused, these}
 use Rattle.mini_kept.specs.Placed.{fits_place, is_statement_list}
 use Rattle.mini_kept.proofs.Bools.{left, right}
 use Rattle.mini_kept.proofs.Expressions.{refused_here}

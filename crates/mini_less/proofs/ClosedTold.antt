@@ -1,5 +1,5 @@
 -- A constant that mentions no name tells nothing, wherever it stands.
-use Rattle.std.specs.Prelude.{ℕ, ℤ, ◌≡◌, refl, nat_eq, Bool, true, false, ◌||◌, ◌&&◌, ◌≤◌, List, [], ◌∷◌, ◌++◌}
+use Rattle.std.specs.Prelude.{ℕ, ℤ, ◌≡◌, refl, nat_eq, Bool, true, false, ◌||◌, List, [], ◌∷◌, ◌++◌}
 use Rattle.std.proofs.Common.{ap, ◌∙◌, arith, inl, inr, sym, subst, true≢false}
 use Rattle.mini_model.specs.declared.name.Name.{Name}
 use Rattle.mini_model.specs.declared.operator.UnaryOperator.TheVariants.{LogicalNot, Void}

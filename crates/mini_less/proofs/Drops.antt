@@ -1,5 +1,5 @@
--- What is asked of some neighbours in a list that lose a name, and of those that are written for
--- them, for every other symbol to be told no more.
+-- What some neighbours in a list that lose a name have to show, with those that are written for
+-- them, for no more to be told of any other symbol.
 use Rattle.std.specs.Prelude.{ℕ, suc, ◌≡◌, nat_eq, Bool, false}
 use Rattle.mini_model.specs.declared.name.Name.{Name}
 use Rattle.mini_model.specs.Tree.{Trees}
@@ -13,7 +13,7 @@ use Rattle.mini_rows.specs.Unused.{any_names}
 use Rattle.mini_less.proofs.LessRows.{any_names as any_arguments}
 use Rattle.mini_less.proofs.ListMade.{SaysLess}
 
--- d becomes w, and the name x with the symbol k goes
+-- d becomes w, and the name x with the symbol k goes: of `const x = f(); g(x);` is left `g(f());`
 pub record DropsLess (x : Name) (k : ℕ) (d w : Trees) : Type 0 where
   -- wherever it is a list of statements
   pub less : (g : Fact) (b s : ℕ) → nat_eq s k ≡ false → (c : Setting) → c.used ≡ Read → (env : Environment) (o : Bool) → SaysLess d w (question g b s) c env o

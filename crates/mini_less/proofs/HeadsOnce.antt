@@ -16,7 +16,7 @@ use Rattle.mini_shrink.proofs.Paces.{same}
 use Rattle.mini_rows.specs.Declarations.{declarator}
 use Rattle.mini_rows.specs.Lists.{declaration, is_unscoped}
 use Rattle.mini_rows.specs.Sketches.{Asked, AsValue, AsWholeItem}
-use Rattle.mini_rows.specs.Unused.{names, put_first}
+use Rattle.mini_rows.specs.Unused.{put_first}
 use Rattle.mini_rows.proofs.Arranging.{Any, Local}
 use Rattle.mini_rows.proofs.SingleUse.{Initial}
 use Rattle.mini_less.specs.Neighbours.{of_items, items_say}

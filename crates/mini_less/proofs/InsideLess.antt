@@ -1,6 +1,6 @@
 -- A `var` further inside a body: whatever holds the body tells no more without it.
-use Rattle.std.specs.Prelude.{ℕ, ◌≡◌, refl, Bool, true, false, ◌&&◌, ◌||◌, not, List, [], ◌∷◌, ◌++◌, Some}
-use Rattle.std.proofs.Common.{ap, ◌∙◌, sym, subst, subst₂, inl, inr, true≢false}
+use Rattle.std.specs.Prelude.{ℕ, ◌≡◌, refl, Bool, true, false, ◌||◌, List, [], ◌++◌, Some}
+use Rattle.std.proofs.Common.{ap, ◌∙◌, sym, subst₂}
 use Rattle.std.proofs.lemmas.List.{append-nil}
 use Rattle.mini_model.specs.declared.name.Name.{Name}
 use Rattle.mini_model.specs.declared.place.Position.{Position}
@@ -14,10 +14,9 @@ use Rattle.mini_laws.specs.declared.names.Use.{Use}
 use Rattle.mini_kept.specs.KeepsNames.{is_read, is_statement_use}
 use Rattle.mini_kept.specs.Without.{Assured, BodySets}
 use Rattle.mini_node.specs.Children.{number_of}
-use Rattle.mini_shrink.specs.Facts.{ReadsLess}
 use Rattle.mini_rows.specs.declared.inside.Way.{Way}
 use Rattle.mini_rows.specs.declared.inside.Way.TheVariants as way
-use Rattle.mini_rows.specs.Inside.{Holder, Arrow, Function, Module, Static, InsideAt, InsideOf, above, is_way_to, over}
+use Rattle.mini_rows.specs.Inside.{Holder, Arrow, Function, Module, Static, above, is_way_to, over}
 use Rattle.mini_rows.specs.PastInside.{PastEnd, PastInside, PastOneEnd, known_below, past_ends}
 use Rattle.mini_laws.specs.declared.names.Use.TheVariants.{Read}
 use Rattle.mini_less.proofs.Drops.{DropsLess}
@@ -26,13 +25,13 @@ use Rattle.mini_rows.specs.Unused.{any_names, names, resolved}
 use Rattle.mini_rows.proofs.InsideLawful.{front, in_front}
 use Rattle.mini_rows.proofs.InsideNames.{Losing}
 use Rattle.mini_rows.proofs.PastInsideKept.{body_behind, heading_loses, held_loses, inside_behind, list_loses, next_loses, of_behind, one_next}
-use Rattle.mini_rows.proofs.PastStretches.{Behind, behind}
+use Rattle.mini_rows.proofs.PastStretches.{behind}
 use Rattle.mini_rows.proofs.UnusedNames.{or_parts}
 use Rattle.mini_less.specs.Families.{LessAt}
 use Rattle.mini_less.specs.Past.{PastInsideReadsLess}
 use Rattle.mini_less.proofs.Flags.{none_of}
 use Rattle.mini_less.proofs.InsideOnes.{next_wrote}
-use Rattle.mini_less.proofs.InsideWays.{Spares, along_way, statement_drops, used_in}
+use Rattle.mini_less.proofs.InsideWays.{Spares, along_way, statement_drops}
 use Rattle.mini_less.proofs.LessRows.{reads_less_by}
 use Rattle.mini_less.proofs.Losing.{Loses}
 use Rattle.mini_less.proofs.LosingLists.{ListLess, arrow_drops, function_drops, list_wrote, module_drops, static_drops}

@@ -1,17 +1,15 @@
 -- A `var` in no list, and one that a `for` begins with, tells what it does in a list.
-use Rattle.std.specs.Prelude.{ℕ, suc, ◌≡◌, ◌⊎◌, refl, nat_eq, Bool, true, false, ◌&&◌, ◌||◌, List, [], ◌∷◌, ◌++◌}
-use Rattle.std.proofs.Common.{ap, ◌∙◌, sym, subst, subst₂, inl, inr, true≢false}
+use Rattle.std.specs.Prelude.{ℕ, suc, ◌≡◌, refl, Bool, true, false, ◌&&◌, ◌||◌, List, []}
+use Rattle.std.proofs.Common.{ap, ◌∙◌, sym, subst, subst₂, inl, true≢false}
 use Rattle.std.proofs.lemmas.List.{append-nil}
 use Rattle.mini_model.specs.declared.kind.VariableDeclarationKind.TheVariants.{Var}
-use Rattle.mini_model.specs.declared.name.Name.{Name}
-use Rattle.mini_model.specs.Tree.{Tree, Trees, none, ◌▸◌}
+use Rattle.mini_model.specs.Tree.{Tree, none, ◌▸◌}
 use Rattle.mini_laws.specs.DeclaredNames.{all_names, names_of}
 use Rattle.mini_laws.specs.Foreign.{has_number}
 use Rattle.mini_laws.specs.Resolved.{Environment}
-use Rattle.mini_laws.specs.ScopeList.{any_has_eval, has_eval}
+use Rattle.mini_laws.specs.ScopeList.{has_eval}
 use Rattle.mini_laws.specs.Shared.{names_arguments}
 use Rattle.mini_laws.specs.declared.names.Declared.TheVariants as declared
-use Rattle.mini_laws.specs.declared.names.Use.{Use}
 use Rattle.mini_laws.specs.declared.names.Use.TheVariants.{Read}
 use Rattle.mini_kept.specs.KeepsNames.{is_statement_use}
 use Rattle.mini_shrink.specs.Facts.{Fact, question}
@@ -20,7 +18,7 @@ use Rattle.mini_shrink.specs.Questions.{Own, asks, early, finds}
 use Rattle.mini_shrink.proofs.Finding.{pace_is}
 use Rattle.mini_rows.specs.Lists.{is_unscoped}
 use Rattle.mini_rows.specs.Sketches.{AsItem, AsWholeItem}
-use Rattle.mini_rows.specs.Unused.{any_names, names, put_first, resolved}
+use Rattle.mini_rows.specs.Unused.{names, put_first, resolved}
 use Rattle.mini_rows.proofs.InsideEnds.{unscoped}
 use Rattle.mini_rows.proofs.InsideNames.{next_vars}
 use Rattle.mini_rows.proofs.NextEnds.{ReadNext, next_simple, next_simple_left}

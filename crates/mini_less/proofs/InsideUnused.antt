@@ -1,5 +1,5 @@
 -- 71 and 72 of a `var` further inside a body read less.
-use Rattle.std.specs.Prelude.{ℕ, suc, ◌≡◌, ◌⊎◌, refl, Bool, true, false, ◌&&◌, ◌||◌, not, List, [], ◌∷◌, ◌++◌, Some}
+use Rattle.std.specs.Prelude.{ℕ, suc, ◌≡◌, refl, true, false, ◌||◌, not, List, [], ◌++◌, Some}
 use Rattle.std.proofs.Common.{ap, ◌∙◌, sym, subst, subst₂, inl, inr, true≢false}
 use Rattle.std.proofs.lemmas.List.{append-nil}
 use Rattle.mini_model.specs.declared.kind.VariableDeclarationKind.TheVariants.{Var}
@@ -8,11 +8,9 @@ use Rattle.mini_model.specs.declared.place.Position.{Position}
 use Rattle.mini_model.specs.declared.shape.Shape.TheVariants as shape
 use Rattle.mini_model.specs.Paths.{append}
 use Rattle.mini_model.specs.Tree.{Tree, Trees, node, none, ◌▸◌, absent, listed, shape_of}
-use Rattle.mini_accept.specs.WellShaped.{Depth, each, fill}
 use Rattle.mini_laws.specs.Congruence.{AllAvoid, Avoids}
 use Rattle.mini_laws.specs.DeclaredNames.{all_names, names_of}
 use Rattle.mini_laws.specs.Foreign.{any_has_number, has_number}
-use Rattle.mini_laws.specs.Naming.{is_lexical}
 use Rattle.mini_laws.specs.Path.{Path, plug}
 use Rattle.mini_laws.specs.ScopeList.{any_has_eval, has_eval}
 use Rattle.mini_laws.specs.Shared.{names_arguments}
@@ -37,7 +35,7 @@ use Rattle.mini_rows.proofs.InsideKept.{Keeping}
 use Rattle.mini_rows.proofs.InsideLoses.{declares, fits_there, leaves}
 use Rattle.mini_rows.proofs.InsideNames.{Losing, VarThere, idle_vars, list_keeps, of_stretch, row_vars}
 use Rattle.mini_rows.proofs.ListShapes.{append_fits, both_fit}
-use Rattle.mini_rows.proofs.NextEnds.{heading_next, heading_outside, next_avoided, next_heading}
+use Rattle.mini_rows.proofs.NextEnds.{heading_next, next_avoided, next_heading}
 use Rattle.mini_rows.proofs.Sunk.{value_passed}
 use Rattle.mini_rows.proofs.UnusedKept.{all_append}
 use Rattle.mini_rows.proofs.UnusedMeaning.{all_join}

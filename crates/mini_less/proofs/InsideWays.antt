@@ -1,30 +1,26 @@
--- On the way into a body each node over what loses a `var` loses it, and tells no more of every
--- other symbol.
-use Rattle.std.specs.Prelude.{ℕ, zero, suc, ◌≡◌, refl, nat_eq, Bool, true, false, ◌&&◌, ◌||◌, List, [], ◌∷◌, ◌++◌, Option, Some, None}
-use Rattle.std.proofs.Common.{ap, ◌∙◌, sym, subst, subst₂, inl, inr, true≢false}
-use Rattle.std.proofs.lemmas.List.{append-nil}
+-- On the way into a body each node over what loses a `var` loses it, and tells no more of any other
+-- symbol: of `if (a) { var x = b(); c(x); }` the `if` and its block.
+use Rattle.std.specs.Prelude.{ℕ, zero, suc, ◌≡◌, refl, Bool, true, false, ◌||◌, List, [], ◌∷◌, Option, Some, None}
+use Rattle.std.proofs.Common.{ap, ◌∙◌, sym, subst, subst₂, true≢false}
 use Rattle.mini_model.specs.declared.name.Name.{Name}
 use Rattle.mini_model.specs.declared.shape.Shape.{Shape}
 use Rattle.mini_model.specs.Paths.{append}
 use Rattle.mini_model.specs.Tree.{Tree, Trees, node, none, ◌▸◌, absent, count}
-use Rattle.mini_laws.specs.DeclaredNames.{all_names, names_of}
-use Rattle.mini_laws.specs.Foreign.{any_has_number, has_number}
+use Rattle.mini_laws.specs.Foreign.{has_number}
 use Rattle.mini_laws.specs.Path.{Path, here, inside, join, plug}
-use Rattle.mini_laws.specs.Resolved.{Environment}
 use Rattle.mini_laws.specs.ScopeList.{any_has_eval, has_eval, is_eval_call}
 use Rattle.mini_laws.specs.Scopes.{use_of}
 use Rattle.mini_laws.specs.Shared.{names_arguments}
-use Rattle.mini_laws.specs.declared.names.Declared.TheVariants as declared
 use Rattle.mini_laws.specs.declared.names.Use.{Use}
-use Rattle.mini_laws.specs.declared.names.Use.TheVariants.{Read, Alone}
+use Rattle.mini_laws.specs.declared.names.Use.TheVariants.{Read}
 use Rattle.mini_kept.specs.KeepsNames.{is_read, is_statement_use}
-use Rattle.mini_shrink.specs.Facts.{Fact, question}
-use Rattle.mini_shrink.specs.Pace.{AtMost, Setting, Silent, ends_after, followed, pace}
+use Rattle.mini_shrink.specs.Facts.{question}
+use Rattle.mini_shrink.specs.Pace.{AtMost, Silent, ends_after, pace}
 use Rattle.mini_shrink.proofs.Paces.{both, ended_inside}
 use Rattle.mini_rows.specs.declared.inside.Way.{Way}
 use Rattle.mini_rows.specs.declared.inside.Way.TheVariants as way
 use Rattle.mini_rows.specs.Inside.{above, is_way_to, way_in}
-use Rattle.mini_rows.specs.Unused.{any_names, names, resolved}
+use Rattle.mini_rows.specs.Unused.{any_names, resolved}
 use Rattle.mini_rows.proofs.InsideLoses.{joined_unnamed, no_way, ways_same}
 use Rattle.mini_rows.proofs.InsideStages.{Stage, Braces, Then, Else, While, Doing, For, ForIn, ForOf, Labeled, Tried, Caught, Finally, Switched, Items, Cases, Case, Handler, Heading, before, from, head, plainly, to, view}
 use Rattle.mini_rows.proofs.SingleUse.{place}
@@ -32,9 +28,7 @@ use Rattle.mini_rows.proofs.UnusedNames.{or_parts}
 use Rattle.mini_less.specs.Neighbours.{of_items}
 use Rattle.mini_less.proofs.Drops.{DropsLess}
 use Rattle.mini_less.proofs.Flags.{none_of}
-use Rattle.mini_less.proofs.Losing.{Loses}
 use Rattle.mini_less.proofs.LosingNodes.{WroteIn, ends_same, holds_so, no_call, on_way, over_kept, wrote_in}
-use Rattle.mini_less.proofs.LessRows.{any_names as any_arguments}
 
 -- how what stands on the way is used
 abbrev pub used_in : Way → Use → Bool
@@ -133,7 +127,7 @@ module _ (sp : List ℕ) (k : ℕ) where
     along_way w (inside h [] (suc n) pre p post) a b q f s z = absurd (true≢false (sym q))
     along_way w (inside h (y ∷ ys) n pre p post) a b q f s z = absurd (true≢false (sym q))
 
-  -- so a statement loses it in a list
+  -- a statement loses the name in a list, where it does by itself
   pub statement_drops : (t u : Tree) → WroteIn sp k is_statement_use t u → DropsLess x k (t ▸ none) (u ▸ none)
   unfolding has_eval has_number
   statement_drops t u w = record {

@@ -1,37 +1,27 @@
 -- A node loses a name, where a child of it does: of every other symbol it tells no more.
-use Rattle.std.specs.Prelude.{ℕ, suc, ◌≡◌, ◌⊎◌, refl, nat_eq, Bool, true, false, ◌&&◌, ◌||◌, not, List, [], ◌∷◌, ◌++◌, map, drop, length, Option, None, if◌then◌else◌}
-use Rattle.std.proofs.Common.{ap, ◌∙◌, sym, subst, inl, inr, true≢false}
-use Rattle.std.proofs.lemmas.List.{append-nil, map-append}
-use Rattle.mini_model.specs.declared.kind.VariableDeclarationKind.TheVariants.{Var}
+use Rattle.std.specs.Prelude.{ℕ, suc, ◌≡◌, ◌⊎◌, refl, nat_eq, Bool, true, false, ◌&&◌, ◌||◌, List, [], ◌∷◌, ◌++◌, map, Option, None, if◌then◌else◌}
+use Rattle.std.proofs.Common.{ap, ◌∙◌, sym, subst, inl, inr}
 use Rattle.mini_model.specs.declared.name.Name.{Name}
 use Rattle.mini_model.specs.declared.shape.Shape.{Shape}
-use Rattle.mini_model.specs.declared.shape.Shape.TheVariants as shape
 use Rattle.mini_model.specs.Paths.{append}
-use Rattle.mini_model.specs.Tree.{Tree, Trees, node, none, ◌▸◌, count}
+use Rattle.mini_model.specs.Tree.{Tree, Trees, node, none, ◌▸◌}
 use Rattle.mini_model.specs.Weight.{same_text}
 use Rattle.mini_laws.specs.declared.names.Binding.{Binding}
-use Rattle.mini_laws.specs.declared.names.Declared.{Declared}
-use Rattle.mini_laws.specs.declared.names.Declared.TheVariants as declared
 use Rattle.mini_laws.specs.declared.names.Use.{Use}
-use Rattle.mini_laws.specs.DeclaredNames.{all_body_names, all_names, body_names, bound_names, first_names, is_spelled, is_statement_list, names_of, with_names}
-use Rattle.mini_laws.specs.Foreign.{any_has_number, has_number, is_write, own_lexical, own_params_around, own_pattern_names, own_switched}
-use Rattle.mini_laws.specs.Mentions.{is_among, is_elsewhere, same_variable}
+use Rattle.mini_laws.specs.DeclaredNames.{is_spelled}
+use Rattle.mini_laws.specs.Mentions.{is_among}
 use Rattle.mini_laws.specs.Resolved.{Environment, or_else, own_symbol, serves, symbol_of}
-use Rattle.mini_laws.specs.ScopeList.{any_has_eval, by_symbol, has_eval, is_eval_call, names_in}
-use Rattle.mini_laws.specs.Scopes.{at_or_empty, body_scope, is_alone, lexical_scope, merged, name_if, opened, scopes_by, use_of}
-use Rattle.mini_laws.specs.Shared.{any_names_arguments, given_values, is_arguments, is_name_of_variable, is_of_function, names_arguments, own_caught, own_pattern_writes, reached_params, spelled_among, write_at}
+use Rattle.mini_laws.specs.ScopeList.{by_symbol}
+use Rattle.mini_laws.specs.Scopes.{body_scope, lexical_scope, opened}
+use Rattle.mini_laws.specs.Shared.{spelled_among}
 use Rattle.mini_laws.proofs.Lookups.{symbol_of_both}
-use Rattle.mini_shrink.specs.Facts.{Fact, Written, WrittenElsewhere, Given, GivenElsewhere, GivenByPattern, MentionedElsewhere, BoundElsewhere, IsLexical, IsSwitched, InPattern, UnderCatch, ByArguments, ByEval, AmongParameters, ReadEarly, question}
-use Rattle.mini_shrink.specs.Pace.{Pace, Silent, followed, kept_in, ends_after, in_turn, AtMost, Setting, below, Question, pace, paces, reads_if}
-use Rattle.mini_shrink.specs.Questions.{hands_on, listed_names, seen_from}
-use Rattle.mini_shrink.proofs.Owns.{implied, or_implied}
-use Rattle.mini_shrink.proofs.Paces.{AllAtMost, both, ended_inside, itself, same, turned}
+use Rattle.mini_shrink.specs.Facts.{Fact, question}
+use Rattle.mini_shrink.specs.Pace.{Pace, kept_in, ends_after, in_turn, AtMost, Setting, below, Question, pace, paces}
+use Rattle.mini_shrink.proofs.Paces.{AllAtMost, both, ended_inside, same, turned}
 use Rattle.mini_rows.specs.Unused.{any_names, names, resolved}
-use Rattle.mini_rows.proofs.ListKeptDeclarations.{all_both}
 use Rattle.mini_rows.proofs.SingleUse.{place}
-use Rattle.mini_rows.proofs.UnusedNames.{Amid, Other, all_other, amid, amid_behind, declared_other, other_both, or_parts}
+use Rattle.mini_rows.proofs.UnusedNames.{Other, amid, amid_behind, other_both, or_parts}
 use Rattle.mini_less.proofs.Beside.{Beside, beside_both, fact_beside}
-use Rattle.mini_less.proofs.Flags.{none_of, unlike}
 use Rattle.mini_less.proofs.TellingLists.{among_both}
 
 module _ (sp : List ℕ) (k : ℕ) where
@@ -162,8 +152,7 @@ module _ (sp : List ℕ) (k : ℕ) where
     unfolding pace
     child_said sc sc' z cs i env env' f none e n a =
         let inner = beside_lost env env' f (sc i) (sc' i) (z i) in
-        let there = pace q (cs i) (env ++ sc i) t in
-        (
+        let there = pace q (cs i) (env ++ sc i) t in (
           subst (λ d. AtMost (ends_after d (pace q (cs i) (env' ++ sc' i) u)) (ends_after (q.ends (cs i) t) there)) (sym (n (cs i)))
               (ended_inside (q.ends (cs i) t) (pace q (cs i) (env' ++ sc' i) u) there (subst (λ p. AtMost (kept_in p) (kept_in there)) (fact_beside x g b s (cs i) (env ++ sc i) (env' ++ sc' i) inner u unnamed) (a (env ++ sc i)))),
           rest_said sc sc' z cs (suc i) (env ++ sc i) (env' ++ sc' i) inner post later,

@@ -1,59 +1,54 @@
--- A list of statements that loses a name, and what holds it: a block, a function, an arrow function,
--- a module, a static block, and a case of a `switch`.
-use Rattle.std.specs.Prelude.{ℕ, suc, ◌+◌, ◌≤◌, ◌≡◌, ◌⊎◌, refl, nat_eq, Bool, true, false, ◌&&◌, ◌||◌, List, [], ◌∷◌, ◌++◌}
-use Rattle.std.proofs.Common.{ap, ◌∙◌, sym, subst, subst₂, inl, inr, true≢false}
+-- A list of statements that loses a name, and what holds it: a block, a function, an arrow
+-- function, a module and a static block.
+use Rattle.std.specs.Prelude.{ℕ, suc, ◌+◌, ◌≤◌, ◌≡◌, refl, nat_eq, Bool, true, false, ◌||◌, List, [], ◌∷◌, ◌++◌}
+use Rattle.std.proofs.Common.{ap, ◌∙◌, sym, subst, subst₂, inr}
 use Rattle.std.proofs.lemmas.List.{append-nil}
 use Rattle.mini_model.specs.declared.name.Name.{Name}
 use Rattle.mini_model.specs.declared.place.Position.{Position}
 use Rattle.mini_model.specs.declared.place.Position.TheVariants.{Elsewhere, BodyList, StatementList}
 use Rattle.mini_model.specs.declared.shape.Shape.TheVariants as shape
 use Rattle.mini_model.specs.Paths.{append}
-use Rattle.mini_model.specs.Tree.{Tree, Trees, node, none, ◌▸◌, absent, listed, program}
+use Rattle.mini_model.specs.Tree.{Tree, Trees, none, ◌▸◌, listed, program}
 use Rattle.mini_laws.specs.DeclaredNames.{all_body_names, all_names, body_names, names_of}
 use Rattle.mini_laws.specs.Foreign.{any_has_number, has_number}
 use Rattle.mini_laws.specs.Resolved.{Environment}
 use Rattle.mini_laws.specs.ScopeList.{any_has_eval, has_eval}
-use Rattle.mini_laws.specs.Shared.{names_arguments}
 use Rattle.mini_laws.specs.Symbols.{declared as declared_in, times}
 use Rattle.mini_laws.specs.declared.names.Declared.{Declared}
 use Rattle.mini_laws.specs.declared.names.Declared.TheVariants as declared
 use Rattle.mini_laws.specs.declared.names.Use.{Use}
-use Rattle.mini_laws.specs.declared.names.Use.TheVariants.{Read}
 use Rattle.mini_kept.specs.KeepsNames.{is_read}
 use Rattle.mini_kept.specs.Loosely.{symbol}
 use Rattle.mini_kept.specs.Placed.{is_statement_list}
 use Rattle.mini_shrink.specs.Facts.{Fact, question}
-use Rattle.mini_shrink.specs.Pace.{AtMost, Question, Setting, pace}
+use Rattle.mini_shrink.specs.Pace.{AtMost, Setting, pace}
 use Rattle.mini_shrink.proofs.Fitting.{Stood}
-use Rattle.mini_rows.specs.Cases.{switch_case}
-use Rattle.mini_rows.specs.Lists.{block, switch}
-use Rattle.mini_rows.specs.Unused.{any_names, arrow_with, function_with, names, resolved, statements, static_block, switch_around}
+use Rattle.mini_rows.specs.Lists.{block}
+use Rattle.mini_rows.specs.Unused.{any_names, arrow_with, function_with, names, resolved, statements, static_block}
 use Rattle.mini_less.proofs.Plainly.{read}
 use Rattle.mini_rows.proofs.FunctionBodyKept.{arrow_less, function_less}
-use Rattle.mini_rows.proofs.InsideNames.{Losing, VarThere}
-use Rattle.mini_rows.proofs.InsideStages.{Braces, Case, Cases, Switched}
+use Rattle.mini_rows.proofs.InsideNames.{Losing}
+use Rattle.mini_rows.proofs.InsideStages.{Braces}
 use Rattle.mini_rows.proofs.ListKeptDeclarations.{all_both}
 use Rattle.mini_rows.proofs.ModuleKept.{module_less}
 use Rattle.mini_rows.proofs.SingleUse.{or_true}
 use Rattle.mini_rows.proofs.StaticBlockKept.{static_less}
-use Rattle.mini_rows.proofs.SwitchKept.{case_leaves, case_names, switch_less}
 use Rattle.mini_rows.proofs.UnusedKept as kept
 use Rattle.mini_rows.proofs.UnusedKept.{DeclaresThere, LeavesThere, NamesThere}
-use Rattle.mini_rows.proofs.UnusedNames.{Other, all_body_other, all_other, or_parts}
+use Rattle.mini_rows.proofs.UnusedNames.{all_body_other, all_other, or_parts}
 use Rattle.mini_less.specs.Families.{LessAt}
-use Rattle.mini_less.specs.Neighbours.{of_items, items_say}
 use Rattle.mini_less.proofs.ChildStands.{child_stood, holder_no_text, less_where, list_no_text}
 use Rattle.mini_less.proofs.Drops.{DropsLess}
 use Rattle.mini_less.proofs.EachFact.{by_fact}
 use Rattle.mini_less.proofs.Flags.{none_of, unlike}
 use Rattle.mini_less.proofs.LessRows.{Adds, evals_add, list_evals, list_names, list_numbers, names_add, numbers_add, any_names as any_arguments}
 use Rattle.mini_less.proofs.Listing.{asks_pass, early_passes}
-use Rattle.mini_less.proofs.Losing.{Lost, Loses, lost_among}
-use Rattle.mini_less.proofs.LosingNodes.{Holds, Wrote, holding, lost_less, of_arrow, of_body, of_function, of_module, of_static, on_way, over_wrote}
+use Rattle.mini_less.proofs.Losing.{Loses, lost_among}
+use Rattle.mini_less.proofs.LosingNodes.{Wrote, lost_less, of_arrow, of_body, of_function, of_module, of_static, on_way, over_wrote}
 use Rattle.mini_less.proofs.Neighbours.{neighbours_ask_less}
 use Rattle.mini_less.specs.Neighbours.{PassesLists}
 
--- of each fact, what passes lists on
+-- a list hands each fact on
 passes : (g : Fact) (b s : ℕ) → PassesLists (question g b s)
 passes = by_fact PassesLists (λ o t z. asks_pass o t) (λ b s. early_passes b s)
 

@@ -1,6 +1,6 @@
 -- The nodes over a list of statements that loses a name: those on the way into a body, and what has
 -- a body. Each tells no more of every other symbol.
-use Rattle.std.specs.Prelude.{ℕ, zero, suc, ◌+◌, ◌≤◌, ◌≡◌, ◌⊎◌, refl, nat_eq, Bool, true, false, ◌&&◌, ◌||◌, not, List, [], ◌∷◌, ◌++◌, map, if◌then◌else◌}
+use Rattle.std.specs.Prelude.{ℕ, zero, suc, ◌+◌, ◌≤◌, ◌≡◌, refl, nat_eq, Bool, true, false, ◌&&◌, ◌||◌, not, List, [], ◌++◌, map, if◌then◌else◌}
 use Rattle.std.specs.List.{list_any}
 use Rattle.std.proofs.Common.{ap, ◌∙◌, sym, subst, inl, inr, true≢false}
 use Rattle.std.proofs.lemmas.Bool.{eqb-true}
@@ -21,8 +21,8 @@ use Rattle.mini_laws.specs.Foreign.{any_has_number, has_number, is_write, own_le
 use Rattle.mini_laws.specs.Mentions.{Mention, is_among, is_elsewhere, own_mentions}
 use Rattle.mini_laws.specs.Resolved.{Environment}
 use Rattle.mini_laws.specs.ScopeList.{any_has_eval, by_symbol, has_eval, is_eval_call, is_eval_callee, names_in}
-use Rattle.mini_laws.specs.Scopes.{at_or_empty, lexical_scope, body_scope, merged, opened, scopes_by, use_of}
-use Rattle.mini_laws.specs.Shared.{any_names_arguments, given_values, is_arguments, is_name_of_variable, is_of_function, names_arguments, own_caught, own_pattern_writes, reached_params, spelled_among, write_at}
+use Rattle.mini_laws.specs.Scopes.{merged, opened, scopes_by, use_of}
+use Rattle.mini_laws.specs.Shared.{any_names_arguments, given_values, is_name_of_variable, is_of_function, names_arguments, own_caught, own_pattern_writes, reached_params, write_at}
 use Rattle.mini_laws.specs.Strict.{is_strict_in}
 use Rattle.mini_laws.specs.Symbols.{declared as declared_in, times}
 use Rattle.mini_laws.specs.Value.{Declared as Variable}
@@ -34,18 +34,16 @@ use Rattle.mini_shrink.specs.Shrinking.{OrGone}
 use Rattle.mini_shrink.proofs.Owns.{implied, if_implied}
 use Rattle.mini_shrink.proofs.Paces.{itself, same}
 use Rattle.mini_rows.specs.Unused.{any_names, names, resolved}
-use Rattle.mini_rows.proofs.InsideStages.{Stage, Braces, Then, Else, While, Doing, For, ForIn, ForOf, Labeled, Tried, Caught, Finally, Switched, Items, Cases, Case, Handler, Heading, head, before}
+use Rattle.mini_rows.proofs.InsideStages.{Stage, Braces, Switched, Handler, Heading, head, before}
 use Rattle.mini_rows.proofs.ListKeptDeclarations.{all_both}
 use Rattle.mini_rows.proofs.SingleUse.{place}
 use Rattle.mini_rows.proofs.UnusedNames.{Other, all_other, declared_other, or_parts}
 use Rattle.mini_less.specs.Families.{LessAt}
-use Rattle.mini_less.proofs.Calm.{no_mention}
 use Rattle.mini_less.proofs.Flags.{none_of}
-use Rattle.mini_less.proofs.Losing.{Lost, Loses, ScopeLoses, among_lost, body_lost, caught_lost, lexical_lost, lost_among, node_said}
+use Rattle.mini_less.proofs.Losing.{Loses, ScopeLoses, among_lost, body_lost, caught_lost, lexical_lost, lost_among, node_said}
 use Rattle.mini_less.proofs.Shown.{shows_all}
-use Rattle.mini_less.proofs.TellingLists.{among_both}
 
--- a node on the way, or what has a body
+-- a node on the way into a body, or what has a body
 pub data Holds : Type 0 where
   on_way : Stage → Holds
   of_body : Holds
@@ -69,7 +67,7 @@ front (of_function d g ds name params) = name ▸ (params ▸ none)
 front (of_arrow ds params) = params ▸ none
 front m = none
 
--- around a child
+-- it stands around a child
 abbrev pub holding : Holds → ℕ → Tree → Trees → Tree
 holding m n t post = node (shape_by m) [] n (append (front m) (t ▸ post))
 
@@ -149,7 +147,8 @@ module _ (sp : List ℕ) (k : ℕ) where
   lost_by place_kind.Below own f f' b b' l l' e g h = h
   lost_by place_kind.Nowhere own f f' b b' l l' e g h = inl refl
 
-  -- what a child that loses the name tells, as it is seen from somewhere, where it stands in some ways
+  -- what a child that loses the name tells, as it is seen from somewhere, where its names are used
+  -- in some ways
   pub record WroteBy (seen : Pace → Pace) (ok : Use → Bool) (t u : Tree) : Type 0 where
     pub said : (g : Fact) (b s : ℕ) → nat_eq s k ≡ false → (c : Setting) → ok c.used ≡ true → (env : Environment) → AtMost (seen (pace (question g b s) c env u)) (seen (pace (question g b s) c env t))
     pub unnamed : names x u ≡ false
@@ -160,11 +159,11 @@ module _ (sp : List ℕ) (k : ℕ) where
     pub lexical : Loses sp k (names_of declared.Lexical t) (names_of declared.Lexical u)
     pub hoisted : Loses sp k (names_of declared.Hoisted t) (names_of declared.Hoisted u)
 
-  -- in all
+  -- all that it tells
   abbrev pub Wrote : (Use → Bool) → Tree → Tree → Type 0
   Wrote = WroteBy (λ p. p)
 
-  -- around it
+  -- what is seen of that around it
   abbrev pub WroteIn : (Use → Bool) → Tree → Tree → Type 0
   WroteIn = WroteBy kept_in
 

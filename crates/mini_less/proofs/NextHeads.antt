@@ -1,19 +1,17 @@
 -- The head of a `for`, where the next declarator reads a name once: 71 there, past names that keep
 -- their value and not.
-use Rattle.std.specs.Prelude.{ℕ, suc, ◌≡◌, refl, nat_eq, Bool, true, false, ◌&&◌, ◌||◌, List, []}
-use Rattle.std.proofs.Common.{ap, ◌∙◌, sym, subst, subst₂, inl, inr, true≢false}
+use Rattle.std.specs.Prelude.{ℕ, suc, ◌≡◌, refl, Bool, true, false, ◌||◌, List}
+use Rattle.std.proofs.Common.{ap, ◌∙◌, sym, subst}
 use Rattle.std.proofs.lemmas.Bool.{and_parts}
 use Rattle.mini_model.specs.declared.kind.VariableDeclarationKind.{VariableDeclarationKind}
 use Rattle.mini_model.specs.declared.name.Name.{Name}
 use Rattle.mini_model.specs.declared.place.Position.TheVariants.{Stmt}
 use Rattle.mini_model.specs.declared.seat.StmtSeat.{StmtSeat}
-use Rattle.mini_model.specs.declared.shape.Shape.TheVariants as shape
 use Rattle.mini_model.specs.Paths.{append}
 use Rattle.mini_model.specs.Tree.{Tree, Trees, none, ◌▸◌, absent, child_or_absent, children}
 use Rattle.mini_laws.specs.DeclaredNames.{names_of}
 use Rattle.mini_laws.specs.Foreign.{has_number}
 use Rattle.mini_laws.specs.Naming.{is_lexical}
-use Rattle.mini_laws.specs.Resolved.{Environment}
 use Rattle.mini_laws.specs.ScopeList.{any_has_eval, has_eval}
 use Rattle.mini_laws.specs.Shared.{names_arguments}
 use Rattle.mini_laws.specs.declared.names.Declared.TheVariants as declared
@@ -21,10 +19,10 @@ use Rattle.mini_kept.specs.KeepsNames.{is_read}
 use Rattle.mini_kept.specs.Without.{Assured}
 use Rattle.mini_terms.specs.Reading.{is_plain_part}
 use Rattle.mini_shrink.specs.Facts.{question}
-use Rattle.mini_shrink.specs.Pace.{Pace, Ends, Silent, Reads, AtMost, Setting, ends_after, followed, kept_in, pace}
+use Rattle.mini_shrink.specs.Pace.{Pace, Ends, Silent, Reads, AtMost, ends_after, followed, kept_in, pace}
 use Rattle.mini_rows.specs.declared.gathered.Gathered.TheVariants.{Values as OfValues}
-use Rattle.mini_rows.specs.Declarations.{binding, declarator}
-use Rattle.mini_rows.specs.Lists.{block, declaration, for_loop}
+use Rattle.mini_rows.specs.Declarations.{declarator}
+use Rattle.mini_rows.specs.Lists.{declaration, for_loop}
 use Rattle.mini_rows.specs.Nesting.{fits_in}
 use Rattle.mini_rows.specs.Past.{Row71PastNext, are_past_by_value, held}
 use Rattle.mini_rows.specs.PastBlocks.{PastHeadRow}
@@ -38,7 +36,6 @@ use Rattle.mini_rows.proofs.Sunk.{value_passed}
 use Rattle.mini_rows.proofs.UnusedMeaning.{lexical_alone, movable}
 use Rattle.mini_rows.proofs.UnusedNames.{or_parts}
 use Rattle.mini_less.specs.Families.{LessAt}
-use Rattle.mini_less.specs.Neighbours.{of_items}
 use Rattle.mini_less.proofs.Drops.{DropsLess}
 use Rattle.mini_less.proofs.Flags.{none_of}
 use Rattle.mini_less.proofs.ForHeadLess.{hoisted_kept, lexical_lost}

@@ -1,55 +1,37 @@
 -- A declaration whose name is read once goes, and its value stands where the name was read: nothing
 -- of another symbol is read earlier against the end of its declaration.
-use Rattle.std.specs.Prelude.{ℕ, suc, ◌≡◌, refl, nat_eq, Bool, true, false, ◌&&◌, ◌||◌, List, [], ◌∷◌, ◌++◌}
+use Rattle.std.specs.Prelude.{ℕ, ◌≡◌, refl, nat_eq, Bool, true, false, ◌&&◌, ◌||◌, List, [], ◌∷◌, ◌++◌}
 use Rattle.std.proofs.Common.{ap, ◌∙◌, sym, subst, true≢false}
-use Rattle.std.proofs.lemmas.List.{append-nil}
 use Rattle.mini_model.specs.declared.kind.VariableDeclarationKind.{VariableDeclarationKind}
-use Rattle.mini_model.specs.declared.kind.VariableDeclarationKind.TheVariants.{Var, Let, Const}
+use Rattle.mini_model.specs.declared.kind.VariableDeclarationKind.TheVariants.{Var}
 use Rattle.mini_model.specs.declared.name.Name.{Name}
-use Rattle.mini_model.specs.declared.shape.Shape.TheVariants as shape
 use Rattle.mini_model.specs.Paths.{append}
-use Rattle.mini_model.specs.Tree.{Tree, Trees, none, ◌▸◌, listed, is_absent, empty_statement}
+use Rattle.mini_model.specs.Tree.{Tree, Trees, none, ◌▸◌, empty_statement}
 use Rattle.mini_laws.specs.DeclaredNames.{all_names, names_of}
-use Rattle.mini_laws.specs.Foreign.{any_has_number, has_number, own_lexical}
 use Rattle.mini_laws.specs.Mentions.{is_among}
 use Rattle.mini_laws.specs.Naming.{is_lexical}
 use Rattle.mini_laws.specs.Resolved.{Environment}
-use Rattle.mini_laws.specs.ScopeList.{any_has_eval, by_symbol, has_eval}
-use Rattle.mini_laws.specs.Scopes.{opened, use_of}
-use Rattle.mini_laws.specs.Shared.{names_arguments}
+use Rattle.mini_laws.specs.ScopeList.{by_symbol}
 use Rattle.mini_laws.specs.declared.names.Declared.TheVariants as declared
-use Rattle.mini_laws.specs.declared.names.Use.{Use}
-use Rattle.mini_laws.specs.declared.names.Use.TheVariants.{Read, Hoisted}
-use Rattle.mini_shrink.specs.Facts.{Fact, Written, WrittenElsewhere, Given, GivenElsewhere, GivenByPattern, MentionedElsewhere, BoundElsewhere, IsLexical, IsSwitched, InPattern, UnderCatch, ByArguments, ByEval, AmongParameters, ReadEarly, question}
-use Rattle.mini_shrink.specs.Pace.{Pace, Ends, Silent, Reads, followed, ends_if, ends_after, AtMost, Setting, Question, pace, reads_if}
-use Rattle.mini_shrink.specs.Questions.{Own, asks, early}
-use Rattle.mini_shrink.proofs.Paces.{itself, both, ended, same}
+use Rattle.mini_laws.specs.declared.names.Use.TheVariants.{Read}
+use Rattle.mini_shrink.specs.Pace.{Pace, Ends, Silent, Reads, followed, ends_after, AtMost, Setting, Question, pace}
+use Rattle.mini_shrink.specs.Questions.{early}
 use Rattle.mini_rows.specs.Declarations.{binding, declarator}
 use Rattle.mini_rows.specs.Lists.{declaration, is_unscoped}
-use Rattle.mini_rows.specs.Sketches.{Asked, AsValue, AsWholeItem, Empty}
-use Rattle.mini_rows.specs.Unused.{resolved, names, any_names, declared_left}
-use Rattle.mini_rows.proofs.ListKeptDeclarations.{all_both}
-use Rattle.mini_rows.proofs.Arranging.{All, Any, first_all, second_all, both_all}
+use Rattle.mini_rows.specs.Sketches.{Asked, AsWholeItem, Empty}
+use Rattle.mini_rows.specs.Unused.{resolved, declared_left}
 use Rattle.mini_less.specs.Neighbours.{of_items, items_say}
-use Rattle.mini_less.specs.TellsLists.{Every, TellsLists}
-use Rattle.mini_less.proofs.ByLists.{ByLists, calm_lists, declared_use, declarator_lacks, kind_use, lacks_lists, lacks_var, names_lists, numbers_lists, spared_lists, valued_calm, valued_lacks, var_lacks, Declares}
-use Rattle.mini_less.proofs.Calm.{unseen}
-use Rattle.mini_less.proofs.Drops.{DropsLess}
-use Rattle.mini_less.proofs.EachFact.{Unordered}
-use Rattle.mini_less.proofs.EntersLess.{reads_most, calm_ends, first_every, second_every}
-use Rattle.mini_less.proofs.Finding.{Lacks}
-use Rattle.mini_less.proofs.Flags.{none_of, unlike}
+use Rattle.mini_less.specs.TellsLists.{Every}
+use Rattle.mini_less.proofs.ByLists.{ByLists, calm_lists, valued_calm}
+use Rattle.mini_less.proofs.EntersLess.{reads_most, first_every, second_every}
 use Rattle.mini_less.proofs.HeadsOnce.{HeadLess}
-use Rattle.mini_less.proofs.LessRows.{Adds, evals_add, list_names, names_add, numbers_add, any_names as any_arguments}
-use Rattle.mini_less.proofs.ListHeads.{both_every}
 use Rattle.mini_less.proofs.ListJoins as joins
-use Rattle.mini_less.proofs.ListRowsLess.{append_none}
 use Rattle.mini_less.proofs.Headed.{and_nothing}
-use Rattle.mini_less.proofs.ListMade.{SaysLess, one_says}
-use Rattle.mini_less.proofs.Listing.{with_belongs, say, to_lacks, of_lacks, none_ended, early_passes}
+use Rattle.mini_less.proofs.ListMade.{one_says}
+use Rattle.mini_less.proofs.Listing.{with_belongs, early_passes}
 use Rattle.mini_less.proofs.Neighbours.{appended}
-use Rattle.mini_less.proofs.Plainly.{is_ended, is_reads, split, join, Calmly, less_by}
-use Rattle.mini_less.proofs.TellingLists.{among_both, by_lists, declaration_opens}
+use Rattle.mini_less.proofs.Plainly.{is_ended, is_reads, Calmly}
+use Rattle.mini_less.proofs.TellingLists.{among_both}
 
 -- ---- answers in order
 
@@ -220,4 +202,3 @@ module _ (sp : List ℕ) (k : ℕ) (first : Trees) (init head put : Tree) (heads
         (subst (AtMost (followed (ends_after (o && declares first) (items first)) (says (put ▸ none)))) (sym read_says)
         (ordered_less (o && declares first) (items first) (pace q around env dx) (says (head ▸ none)) (says (put ▸ none)) spoken (not_ended first plain)
         (λ e. heads.in_order b s c u env o (valued_calm b s (with_belongs c) env u Read (binding x) init init (sym (ap is_reads (joins.declarator_anywhere b s c env o (binding x) init)) ∙ e)).0)))
-

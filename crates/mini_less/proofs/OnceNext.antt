@@ -1,55 +1,50 @@
--- A declarator whose name the next one reads once goes: its value stands where the name was read,
--- and of every other symbol no more is told.
-use Rattle.std.specs.Prelude.{ℕ, suc, ◌≡◌, refl, nat_eq, Bool, true, false, ◌&&◌, ◌||◌, List, [], ◌∷◌, ◌++◌}
+-- A declarator whose name the next one reads once goes, its value stands where the name was read,
+-- and no more is told of any other symbol: `let x = a(), y = x.b;` becomes `let y = a().b;`.
+use Rattle.std.specs.Prelude.{ℕ, suc, ◌≡◌, refl, nat_eq, Bool, true, false, ◌&&◌, ◌||◌, List, [], ◌++◌}
 use Rattle.std.proofs.Common.{ap, ◌∙◌, sym, subst, true≢false}
-use Rattle.std.proofs.lemmas.List.{append-nil}
 use Rattle.mini_model.specs.declared.kind.VariableDeclarationKind.{VariableDeclarationKind}
 use Rattle.mini_model.specs.declared.kind.VariableDeclarationKind.TheVariants.{Var, Let, Const}
 use Rattle.mini_model.specs.declared.name.Name.{Name}
 use Rattle.mini_model.specs.Paths.{append}
-use Rattle.mini_model.specs.Tree.{Tree, Trees, none, ◌▸◌, listed, is_absent, empty_statement}
+use Rattle.mini_model.specs.Tree.{Tree, Trees, none, ◌▸◌, listed}
 use Rattle.mini_laws.specs.DeclaredNames.{all_names, names_of}
-use Rattle.mini_laws.specs.Foreign.{any_has_number, has_number, own_lexical}
+use Rattle.mini_laws.specs.Foreign.{any_has_number, has_number}
 use Rattle.mini_laws.specs.Mentions.{is_among}
 use Rattle.mini_laws.specs.Naming.{is_lexical}
 use Rattle.mini_laws.specs.Resolved.{Environment}
 use Rattle.mini_laws.specs.ScopeList.{any_has_eval, by_symbol, has_eval}
 use Rattle.mini_laws.specs.Scopes.{opened, use_of}
 use Rattle.mini_laws.specs.Shared.{names_arguments}
-use Rattle.mini_laws.specs.declared.names.Use.{Use}
-use Rattle.mini_laws.specs.declared.names.Use.TheVariants.{Read, Hoisted}
-use Rattle.mini_shrink.specs.Facts.{Fact, Written, WrittenElsewhere, Given, GivenElsewhere, GivenByPattern, MentionedElsewhere, BoundElsewhere, IsLexical, IsSwitched, InPattern, UnderCatch, ByArguments, ByEval, AmongParameters, ReadEarly, question}
-use Rattle.mini_shrink.specs.Pace.{Pace, Ends, Silent, Reads, followed, ends_if, ends_after, AtMost, Setting, Question, pace, reads_if}
+use Rattle.mini_laws.specs.declared.names.Use.TheVariants.{Read}
+use Rattle.mini_shrink.specs.Facts.{Fact, question}
+use Rattle.mini_shrink.specs.Pace.{Pace, Ends, Silent, Reads, followed, ends_after, AtMost, Setting, Question, pace}
 use Rattle.mini_shrink.specs.Questions.{Own, asks, early}
 use Rattle.mini_shrink.proofs.Paces.{itself, both, ended, same}
 use Rattle.mini_rows.specs.Declarations.{binding, declarator}
-use Rattle.mini_rows.specs.Lists.{declaration, is_unscoped}
-use Rattle.mini_rows.specs.Sketches.{Asked, AsValue, AsWholeItem, Empty}
-use Rattle.mini_rows.specs.Unused.{resolved, names, any_names, declared_left, is_first, put_first}
+use Rattle.mini_rows.specs.Lists.{declaration}
+use Rattle.mini_rows.specs.Sketches.{Asked, AsWholeItem}
+use Rattle.mini_rows.specs.Unused.{resolved, names, any_names, is_first, put_first}
 use Rattle.mini_rows.proofs.ListKeptDeclarations.{all_both}
-use Rattle.mini_rows.proofs.Arranging.{All, Any, first_all, second_all, both_all}
+use Rattle.mini_rows.proofs.Arranging.{Any, first_all, second_all, both_all}
 use Rattle.mini_less.specs.Neighbours.{of_items, items_say}
-use Rattle.mini_less.specs.TellsLists.{Every, TellsLists}
-use Rattle.mini_less.proofs.ByLists.{ByLists, calm_lists, declared_use, declarator_lacks, kind_use, lacks_lists, lacks_var, names_lists, numbers_lists, spared_lists, valued_calm, valued_lacks, var_lacks, Declares}
-use Rattle.mini_less.proofs.Calm.{unseen}
+use Rattle.mini_less.specs.TellsLists.{TellsLists}
+use Rattle.mini_less.proofs.ByLists.{calm_lists, declared_use, declarator_lacks, kind_use, lacks_var, valued_calm, valued_lacks, var_lacks}
 use Rattle.mini_less.proofs.Drops.{DropsLess}
 use Rattle.mini_less.proofs.EachFact.{Unordered}
 use Rattle.mini_less.proofs.EntersLess.{reads_most, calm_ends, first_every, second_every}
 use Rattle.mini_less.proofs.Finding.{Lacks, lacks_local}
-use Rattle.mini_less.proofs.Flags.{none_of, unlike, numbers_local, spares_local}
-use Rattle.mini_less.proofs.HeadsOnce.{HeadLess}
-use Rattle.mini_less.proofs.LessRows.{Adds, evals_add, list_names, names_add, numbers_add, any_names as any_arguments}
+use Rattle.mini_less.proofs.Flags.{none_of, numbers_local, spares_local}
+use Rattle.mini_less.proofs.LessRows.{any_names as any_arguments}
 use Rattle.mini_less.proofs.ListHeads.{both_every}
-use Rattle.mini_less.proofs.ListRowsLess.{append_none}
 use Rattle.mini_less.proofs.Headed.{and_nothing}
 use Rattle.mini_less.proofs.ListMade.{SaysLess, one_says}
 use Rattle.mini_less.proofs.Listing.{with_belongs, say, to_lacks, of_lacks, none_ended, early_passes}
 use Rattle.mini_less.proofs.Neighbours.{appended}
-use Rattle.mini_less.proofs.Plainly.{is_ended, is_reads, split, join, Calmly, less_by, calm_local}
-use Rattle.mini_less.proofs.TellingLists.{among_both, by_lists, declaration_opens}
+use Rattle.mini_less.proofs.Plainly.{is_reads, Calmly, less_by, calm_local}
+use Rattle.mini_less.proofs.TellingLists.{by_lists, declaration_opens}
 use Rattle.mini_less.proofs.OnceInOrder.{calm_before, one_reads}
 use Rattle.mini_less.proofs.Once.{FewerDeclared, Flagged, Unended, another, apart, each_fewer, each_unended, evals_flagged, names_flagged, numbers_flagged, off_told, stays_declared, told_off, whole}
-use Rattle.mini_less.proofs.PutMade.{first_value, put_spared, put_there, puts_local, suits_all}
+use Rattle.mini_less.proofs.PutMade.{put_spared, put_there, puts_local, suits_all}
 use Rattle.mini_terms.specs.Reading.{is_plain_part}
 use Rattle.mini_model.specs.declared.shape.Shape.TheVariants as shape
 use Rattle.mini_laws.specs.declared.names.Declared.TheVariants as declared

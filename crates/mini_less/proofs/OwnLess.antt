@@ -15,12 +15,11 @@ use Rattle.mini_rows.specs.OwnArrows.{OwnArrow, OwnCode}
 use Rattle.mini_rows.specs.OwnParts.{OwnPart}
 use Rattle.mini_rows.specs.OwnPrograms.{OwnProgram}
 use Rattle.mini_rows.specs.Steady.{OwnRows, OwnFunctionRow, OwnFunction, SteadyRow}
-use Rattle.mini_rows.specs.PastBlocks.{PastBlocks}
 use Rattle.mini_rows.proofs.OwnLightens.{some_row}
 use Rattle.mini_rows.proofs.SteadyKept.{steady_own}
 use Rattle.mini_rows.proofs.SteadyLawful.{AnyRow}
 use Rattle.mini_less.specs.Families.{LessAt}
-use Rattle.mini_less.specs.Own.{OwnReadLess, SteadyReadsLess, PastBlocksReadLess}
+use Rattle.mini_less.specs.Own.{OwnReadLess, SteadyReadsLess}
 use Rattle.mini_less.proofs.BodyThisLess.{body_rows_of_this_less}
 use Rattle.mini_less.proofs.LessRows.{reads_less_by}
 use Rattle.mini_less.proofs.Steps.{steps_less}

@@ -1,14 +1,14 @@
 -- 71 past names that keep their value reads less in a block, in a case of a `switch`, and in the
 -- head of a `for`.
-use Rattle.std.specs.Prelude.{ℕ, ◌≡◌, ◌⊎◌, refl, Bool, true, false, ◌||◌}
-use Rattle.std.proofs.Common.{ap, ◌∙◌, sym, inl, inr}
+use Rattle.std.specs.Prelude.{ℕ, refl, false, ◌||◌}
+use Rattle.std.proofs.Common.{ap, inl, inr}
 use Rattle.mini_model.specs.declared.place.Position.{Position}
 use Rattle.mini_model.specs.declared.place.Position.TheVariants.{Stmt, Elsewhere}
-use Rattle.mini_model.specs.Tree.{Tree, none, ◌▸◌, listed}
+use Rattle.mini_model.specs.Tree.{Tree, none, listed}
 use Rattle.mini_kept.specs.Without.{Assured}
 use Rattle.mini_rows.specs.PastBlocks.{PastBlockRow, PastBlocks, PastCaseRow}
 use Rattle.mini_rows.specs.Switches.{Switches, without_vars}
-use Rattle.mini_rows.specs.Unused.{names, resolved, switch_around}
+use Rattle.mini_rows.specs.Unused.{switch_around}
 use Rattle.mini_rows.proofs.PastInsideKept.{of_behind}
 use Rattle.mini_kept.specs.KeepsShapes.{KeepsShapes}
 use Rattle.mini_kept.specs.Lifted.{KeepsNames}

@@ -1,15 +1,13 @@
 -- 71 past steady names reads less: in functions, arrow functions, modules, static blocks, and in
 -- blocks and their like.
-use Rattle.std.specs.Prelude.{ℕ, ◌≡◌, ◌⊎◌, refl, Bool, true, false, ◌||◌, List, [], ◌∷◌}
-use Rattle.std.proofs.Common.{ap, ◌∙◌, sym, subst, inl, inr, true≢false}
+use Rattle.std.specs.Prelude.{◌≡◌, false, ◌||◌}
 use Rattle.mini_model.specs.declared.place.Position.{Position}
 use Rattle.mini_model.specs.declared.place.Position.TheVariants.{Expr, Stmt, Method, Elsewhere}
 use Rattle.mini_model.specs.Tree.{Tree, Trees, none, ◌▸◌, listed}
 use Rattle.mini_laws.specs.ScopeList.{any_has_eval, has_eval}
-use Rattle.mini_kept.specs.Without.{Assured, BodySets}
-use Rattle.mini_shrink.specs.Facts.{ReadsLess}
+use Rattle.mini_kept.specs.Without.{BodySets}
 use Rattle.mini_rows.specs.Lists.{block}
-use Rattle.mini_rows.specs.Past.{PastFunction, PastFunctionRow, PastRow}
+use Rattle.mini_rows.specs.Past.{PastFunction, PastFunctionRow}
 use Rattle.mini_rows.specs.PastArrows.{PastArrow, PastArrowRow}
 use Rattle.mini_rows.specs.PastModules.{PastModule}
 use Rattle.mini_rows.specs.PastStatics.{PastStatic}

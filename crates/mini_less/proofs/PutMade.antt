@@ -1,5 +1,5 @@
--- What stands where a name was read: whatever holds by their parts of a head that reads the name
--- first, and of a value, holds of the head with the value in the place of the name.
+-- A value stands where a head read a name: what holds by parts of the head and of the value holds of
+-- the head with the value in it. Of `g(x)` and `f()` that is `g(f())`.
 use Rattle.std.specs.Prelude.{ℕ, zero, suc, ◌≡◌, ◌⊎◌, refl, Bool, true, false, ◌&&◌, ◌||◌, not, List, [], ◌∷◌, if◌then◌else◌}
 use Rattle.std.proofs.Common.{ap, ◌∙◌, sym, subst, inl, inr, true≢false}
 use Rattle.std.proofs.lemmas.Bool.{and_parts}
@@ -9,22 +9,22 @@ use Rattle.mini_model.specs.declared.kind.VariableDeclarationKind.TheVariants.{V
 use Rattle.mini_model.specs.declared.name.Name.{Name}
 use Rattle.mini_model.specs.declared.shape.Shape.{Shape}
 use Rattle.mini_model.specs.declared.shape.Shape.TheVariants as shape
-use Rattle.mini_model.specs.Tree.{Tree, Trees, node, none, ◌▸◌, listed, is_absent, identifier, shape_of}
+use Rattle.mini_model.specs.Tree.{Tree, Trees, node, none, ◌▸◌, is_absent, identifier, shape_of}
 use Rattle.mini_laws.specs.DeclaredNames.{names_of}
 use Rattle.mini_laws.specs.declared.names.Declared.TheVariants as declared
 use Rattle.mini_laws.specs.Naming.{is_lexical}
 use Rattle.mini_laws.specs.ScopeList.{any_has_eval, calls_eval, has_eval, is_eval, is_eval_call, is_eval_callee}
 use Rattle.mini_terms.specs.Reading.{is_plain_part}
-use Rattle.mini_rows.specs.Lists.{Each, EachIn, EachOf, each_loop, for_loop, declaration, is_unscoped, is_bare_var}
+use Rattle.mini_rows.specs.Lists.{Each, EachIn, EachOf, each_loop, for_loop, declaration, is_unscoped}
 use Rattle.mini_rows.specs.Declarations.{declarator}
 use Rattle.mini_rows.specs.Sketches.{Asked, AsValue, AsWholeItem, OfExpression, Return, Throw, If, shape_by}
 use Rattle.mini_rows.specs.declared.gathered.Gathered.{Gathered}
-use Rattle.mini_rows.specs.Unused.{names, any_names, is_childless, is_first, put_first, put_among, in_full, is_short, begins_bare, is_called_by_value, suits, is_reached, gathered_below, passes_at, are_passed_in, all_passed, evaluated, is_open_left, reads_first, reads_head}
+use Rattle.mini_rows.specs.Unused.{names, any_names, is_childless, is_first, put_first, put_among, in_full, is_short, is_called_by_value, suits, is_reached, gathered_below, passes_at, are_passed_in, all_passed, evaluated, is_open_left, reads_first, reads_head}
 use Rattle.mini_rows.specs.Past.{Kept, is_certain, passes_any_at, are_past_in, all_past}
 use Rattle.mini_rows.proofs.Arranging.{Any, Local}
 use Rattle.mini_rows.proofs.ArrangedValues.{is_value}
 use Rattle.mini_rows.proofs.ListKeptHeads.{Seat, Loop, Choice, seated}
-use Rattle.mini_rows.proofs.SingleUse.{Lead, Doing, Giving, Raising, Testing, Listing, Fielding, head_of, found_head, by_front, Stands, Step, ends_short, found, led, both_there, plain_there, Well, path, mentioned, Initial, Outside, Over, Begun, Heads, heads, swapped}
+use Rattle.mini_rows.proofs.SingleUse.{Lead, Doing, Giving, Raising, Testing, Listing, head_of, by_front, Stands, Step, ends_short, found, led, both_there, plain_there, Well, path, mentioned, Initial, Outside, Over, Begun, Heads, heads, swapped}
 use Rattle.mini_less.specs.Less.{AFor, AnIn, AnOf}
 use Rattle.mini_less.proofs.ByLists.{ByLists, value_lexical}
 use Rattle.mini_less.proofs.Flags.{none_of}

@@ -9,7 +9,7 @@ use Rattle.mini_model.specs.declared.name.Name.{Name}
 use Rattle.mini_model.specs.declared.shape.Shape.{Shape}
 use Rattle.mini_model.specs.declared.shape.Shape.TheVariants as shape
 use Rattle.mini_model.specs.Paths.{append}
-use Rattle.mini_model.specs.Tree.{Tree, Trees, node, none, ◌▸◌, listed, identifier}
+use Rattle.mini_model.specs.Tree.{Tree, Trees, node, none, ◌▸◌, listed}
 use Rattle.mini_laws.specs.declared.names.Declared.{Declared}
 use Rattle.mini_laws.specs.declared.names.Declared.TheVariants as declared
 use Rattle.mini_laws.specs.DeclaredNames.{names_of, body_names, has_inner}
@@ -20,17 +20,15 @@ use Rattle.mini_laws.specs.Scopes.{opened, scopes_by}
 use Rattle.mini_laws.specs.Shared.{names_arguments}
 use Rattle.mini_laws.specs.Symbols.{declared as declared_in}
 use Rattle.mini_laws.proofs.Changes.{twice}
-use Rattle.mini_node.specs.Children.{is_nameless}
 use Rattle.mini_node.specs.Kinds.{is_identifier}
 use Rattle.mini_shrink.specs.Facts.{Fact, question}
 use Rattle.mini_shrink.specs.Pace.{Pace, Silent, AtMost, followed, ends_after, in_turn, Setting, below, Question, pace, paces, reads_if}
 use Rattle.mini_shrink.specs.Questions.{asks}
-use Rattle.mini_shrink.proofs.Owns.{or_implied}
 use Rattle.mini_shrink.proofs.Paces.{itself, same, both, ended, through}
 use Rattle.mini_rows.specs.Lists.{Each, EachIn, EachOf, declaration, declarator, binding, each_loop, for_loop}
 use Rattle.mini_rows.specs.Sketches.{Property}
-use Rattle.mini_rows.specs.Unused.{resolved, names, any_names, can_be_full, has_symbol_of, holds_list, in_full, is_closed, is_first, is_short, leads, leads_to, may_hold, put_among, put_first, reads, declared_left}
-use Rattle.mini_rows.proofs.HiddenHeads.{ForLet, OverLet, Hidden}
+use Rattle.mini_rows.specs.Unused.{resolved, names, any_names, has_symbol_of, holds_list, in_full, is_closed, is_first, leads, leads_to, may_hold, put_among, put_first, reads, declared_left}
+use Rattle.mini_rows.proofs.HiddenHeads.{Hidden}
 use Rattle.mini_less.specs.Neighbours.{of_items, items_say}
 use Rattle.mini_less.proofs.ClosedTold.{closed_told}
 use Rattle.mini_less.proofs.Drops.{DropsLess}

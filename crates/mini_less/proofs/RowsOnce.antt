@@ -1,6 +1,6 @@
 -- 71 in a list: a declaration whose name is read once, right behind it.
-use Rattle.std.specs.Prelude.{ℕ, ◌≡◌, ◌⊎◌, refl, Bool, true, false, ◌&&◌, ◌||◌, not, List, [], ◌∷◌, ◌++◌}
-use Rattle.std.proofs.Common.{ap, ◌∙◌, sym, subst, inl, inr, true≢false}
+use Rattle.std.specs.Prelude.{ℕ, ◌≡◌, ◌⊎◌, refl, true, false, ◌&&◌, not, List, [], ◌++◌}
+use Rattle.std.proofs.Common.{ap, ◌∙◌, sym, inl, inr, true≢false}
 use Rattle.std.proofs.lemmas.Bool.{and_parts}
 use Rattle.mini_model.specs.declared.kind.VariableDeclarationKind.{VariableDeclarationKind}
 use Rattle.mini_model.specs.declared.kind.VariableDeclarationKind.TheVariants.{Var, Let, Const}
@@ -42,7 +42,7 @@ use Rattle.mini_less.proofs.ChildStands.{first_plain}
 use Rattle.mini_less.proofs.Drops.{DropsLess}
 use Rattle.mini_less.proofs.HeadsOnce.{HeadLess, spot_less}
 use Rattle.mini_less.proofs.ListMade.{no_bound}
-use Rattle.mini_less.proofs.Losing.{Lost, Loses}
+use Rattle.mini_less.proofs.Losing.{Loses}
 use Rattle.mini_less.proofs.LosingLists.{ListLess}
 use Rattle.mini_less.proofs.Once.{once_drops}
 use Rattle.mini_less.proofs.OnceNext.{next_drops}

@@ -1,13 +1,11 @@
 -- Rows of names that nothing mentions, or that are read once, read less in what holds the list of
 -- statements that declares them.
-use Rattle.std.specs.Prelude.{ℕ, ◌≡◌, ◌⊎◌, refl, Bool, true, false, ◌||◌, List, [], ◌∷◌, ◌++◌}
-use Rattle.std.proofs.Common.{ap, ◌∙◌, inl, inr, sym, subst}
-use Rattle.std.proofs.lemmas.Bool.{and_parts}
+use Rattle.std.specs.Prelude.{◌≡◌, refl, true, false, ◌||◌, [], ◌++◌}
+use Rattle.std.proofs.Common.{ap, ◌∙◌, inl, inr, sym}
 use Rattle.mini_model.specs.declared.kind.VariableDeclarationKind.{VariableDeclarationKind}
 use Rattle.mini_model.specs.declared.kind.VariableDeclarationKind.TheVariants.{Let}
 use Rattle.mini_model.specs.declared.name.Name.{Name}
 use Rattle.mini_model.specs.declared.place.Position.{Position}
-use Rattle.mini_model.specs.declared.place.Position.TheVariants.{Expr, Stmt, Method, Elsewhere}
 use Rattle.mini_model.specs.declared.shape.Shape.TheVariants as shape
 use Rattle.mini_model.specs.Paths.{append}
 use Rattle.mini_model.specs.Tree.{Tree, Trees, node, none, ◌▸◌, absent, listed, shape_of, expression_statement}
@@ -21,7 +19,7 @@ use Rattle.mini_rows.specs.Declarations.{declarator}
 use Rattle.mini_rows.specs.Lists.{block, declaration, switch}
 use Rattle.mini_rows.specs.Switches.{Switches, Liberties, without_vars}
 use Rattle.mini_rows.specs.declared.gathered.Gathered.TheVariants.{Values as OfValues}
-use Rattle.mini_rows.specs.Unused.{resolved, names, evaluated, put_first, declared_one, declared_among, declared_left, switch_around, Row72, Row72Idle, Row71, Row71Next, BlockRow, ArrowBodyRow, FunctionBodyRow, ModuleRow, StaticBlockRow, SwitchRow}
+use Rattle.mini_rows.specs.Unused.{resolved, names, evaluated, put_first, declared_one, declared_among, declared_left, switch_around, BlockRow, ArrowBodyRow, FunctionBodyRow, ModuleRow, StaticBlockRow, SwitchRow}
 use Rattle.mini_rows.proofs.DeclaredKept.{value_names, idle_names}
 use Rattle.mini_rows.proofs.HiddenHeads.{Taken, taken, hidden}
 use Rattle.mini_rows.proofs.HiddenKept.{taken_names}
@@ -33,7 +31,7 @@ use Rattle.mini_rows.proofs.UnusedKept.{NamesThere}
 use Rattle.mini_rows.proofs.UnusedLawful.{idle_vanishes}
 use Rattle.mini_rows.proofs.UnusedMeaning.{movable}
 use Rattle.mini_rows.proofs.UnusedNames.{declared_other}
-use Rattle.mini_rows.proofs.UnusedStretches.{Stretch, row_stretch, stretch, row_names}
+use Rattle.mini_rows.proofs.UnusedStretches.{row_stretch, stretch, row_names}
 use Rattle.mini_terms.specs.Reading.{is_plain_part}
 use Rattle.mini_less.specs.Families.{LessAt}
 use Rattle.mini_less.proofs.DroppedLess.{value_drops, idle_drops}

@@ -1,6 +1,6 @@
 -- A `switch` asks less where the statements of one of its cases lose a name.
-use Rattle.std.specs.Prelude.{ℕ, ◌+◌, ◌≤◌, ◌≡◌, refl, Bool, true, false, ◌||◌, List, []}
-use Rattle.std.proofs.Common.{ap, ◌∙◌, sym, subst}
+use Rattle.std.specs.Prelude.{ℕ, ◌≡◌, refl, true, false, ◌||◌, List, []}
+use Rattle.std.proofs.Common.{◌∙◌, sym, subst}
 use Rattle.mini_model.specs.declared.name.Name.{Name}
 use Rattle.mini_model.specs.declared.place.Position.{Position}
 use Rattle.mini_model.specs.declared.place.Position.TheVariants.{StatementList}
@@ -8,11 +8,8 @@ use Rattle.mini_model.specs.declared.shape.Shape.TheVariants as shape
 use Rattle.mini_model.specs.Paths.{append}
 use Rattle.mini_model.specs.Tree.{Tree, Trees, none, ◌▸◌, listed}
 use Rattle.mini_laws.specs.declared.names.Declared.TheVariants as declared
-use Rattle.mini_laws.specs.declared.names.Use.{Use}
 use Rattle.mini_laws.specs.Foreign.{has_number}
 use Rattle.mini_laws.specs.ScopeList.{has_eval, any_has_eval}
-use Rattle.mini_laws.specs.Symbols.{declared as declared_in, times}
-use Rattle.mini_kept.specs.Loosely.{symbol}
 use Rattle.mini_kept.specs.KeepsNames.{is_read}
 use Rattle.mini_shrink.proofs.Fitting.{Stood}
 use Rattle.mini_rows.specs.Cases.{switch_case}

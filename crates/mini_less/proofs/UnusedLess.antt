@@ -18,7 +18,7 @@ use Rattle.mini_less.specs.Unused.{UnusedReadLess}
 use Rattle.mini_less.proofs.FadedLess.{lets_read_less}
 use Rattle.mini_less.proofs.ForHeadLess.{for_row_less}
 use Rattle.mini_less.proofs.Joined.{reads_less_joins}
-use Rattle.mini_less.proofs.LessRows.{any_names, reads_less_by}
+use Rattle.mini_less.proofs.LessRows.{reads_less_by}
 use Rattle.mini_less.proofs.NamesLess.{names_read_less, catches_read_less}
 use Rattle.mini_less.proofs.NextHeads.{for_next_less}
 use Rattle.mini_less.proofs.RowsUnused.{arrow_row_less, block_row_less, function_row_less, module_row_less, static_row_less, switch_row_less}

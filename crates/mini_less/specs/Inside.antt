@@ -1,4 +1,6 @@
--- Rows 71 and 72 of a `var` further inside the body that it belongs to.
+-- Rows 71 and 72 of a `var` further inside the body that it belongs to: of
+-- `function f(a) { if (a) { var x = b(); return x.c; } }` is left
+-- `function f(a) { if (a) { ; return b().c; } }`.
 use Rattle.mini_shrink.specs.Facts.{ReadsLess}
 use Rattle.mini_rows.specs.Inside.{InsideContracts}
 use Rattle.mini_rows.specs.Switches.{Liberties}

@@ -1,7 +1,5 @@
 -- Rows that rest on what is known of a body, as they stand in its own code.
-use Rattle.mini_kept.specs.KeepsShapes.{KeepsShapes}
-use Rattle.mini_kept.specs.Lifted.{KeepsNames}
-use Rattle.mini_kept.specs.Without.{Assured, BodySets}
+use Rattle.mini_kept.specs.Without.{BodySets}
 use Rattle.mini_shrink.specs.Facts.{ReadsLess}
 use Rattle.mini_rows.specs.OwnArrows.{OwnArrow, OwnCode}
 use Rattle.mini_rows.specs.OwnParts.{OwnPart}
