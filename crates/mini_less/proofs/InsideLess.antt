@@ -16,7 +16,7 @@ use Rattle.mini_rows.proofs.UnusedMeaning.{all_join}
 use Rattle.mini_rows.proofs.UnusedNames.{all_avoided, all_unmentioned, or_parts}
 use Rattle.mini_rows.proofs.UnusedStretches.{item_in}
 use Rattle.std.specs.Prelude.{ℕ, ◌≡◌, refl, Bool, true, false, ◌||◌, List, [], ◌++◌, Some}
-use Rattle.std.proofs.Common.{ap, ◌∙◌, sym, subst, subst₂}
+use Rattle.std.proofs.Common.{ap, ◌∙◌, inl, sym, subst, subst₂}
 use Rattle.std.proofs.lemmas.List.{append-nil}
 use Rattle.mini_model.specs.declared.name.Name.{Name}
 use Rattle.mini_model.specs.declared.place.Position.{Position}
@@ -49,7 +49,7 @@ use Rattle.mini_less.proofs.Losing.{Loses}
 use Rattle.mini_less.proofs.LosingLists.{ListLess, arrow_drops, function_drops, list_wrote, module_drops, static_drops}
 use Rattle.mini_less.proofs.LosingNodes.{WroteIn, wrote_in}
 use Rattle.mini_less.proofs.PastLess.{named_parts, seen_parts, unseen_parts}
-use Rattle.mini_less.proofs.RowsOnce.{past_list, past_one_suits, past_unseen, past_var_drops}
+use Rattle.mini_less.proofs.RowsOnce.{past_list, past_one_suits, past_unseen, past_is_var, past_stretched}
 
 -- ---- what holds the body
 
@@ -186,7 +186,7 @@ module _ (V : Assured) (W : Liberties) (outside : Trees) where
       record {
         spares = record {
           spared = ap has_eval r.shape ∙ seen.inside;
-          wrote = subst₂ (WroteIn there.spelling there.symbol is_read) (sym r.shape) (sym r.written) (wrote_in there.spelling there.symbol is_read (listed r.list) (listed r.left) (list_wrote r.list r.left t (past_list V W o r.list r.left r.row) (past_var_drops V W o r.list r.left r.row r.var)));
+          wrote = subst₂ (WroteIn there.spelling there.symbol is_read) (sym r.shape) (sym r.written) (wrote_in there.spelling there.symbol is_read (listed r.list) (listed r.left) (list_wrote r.list r.left t (past_list V W o r.list r.left r.row) ((past_stretched V W o r.list r.left r.row).drops (inl (past_is_var V W o r.list r.left r.row r.var)))));
         };
         outer = there.outer;
         unseen = seen.outside;

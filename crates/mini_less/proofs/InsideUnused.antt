@@ -11,6 +11,7 @@ use Rattle.mini_model.specs.Tree.{Tree, Trees, node, none, ◌▸◌, absent, li
 use Rattle.mini_laws.specs.Congruence.{AllAvoid, Avoids}
 use Rattle.mini_laws.specs.DeclaredNames.{all_names, names_of}
 use Rattle.mini_laws.specs.Foreign.{any_has_number, has_number}
+use Rattle.mini_laws.specs.Naming.{is_lexical}
 use Rattle.mini_laws.specs.Path.{Path, plug}
 use Rattle.mini_laws.specs.ScopeList.{any_has_eval, has_eval}
 use Rattle.mini_laws.specs.Shared.{names_arguments}
@@ -64,30 +65,19 @@ use Rattle.mini_less.proofs.Plainly.{read as as_read}
 use Rattle.mini_less.proofs.PutMade.{passed_suits}
 use Rattle.mini_less.proofs.PutTold.{hidden_drops}
 use Rattle.mini_less.proofs.RowsOnce as once
-use Rattle.mini_less.proofs.RowsOnce.{put_unnamed, vars_lost}
-use Rattle.mini_less.proofs.RowsUnused.{unused_list, unused_unseen}
+use Rattle.mini_less.proofs.RowsOnce.{no_lexical, put_unnamed, vars_lost}
+use Rattle.mini_less.proofs.RowsUnused.{row_kind, unused_list, unused_stretched, unused_unseen}
 
 -- ---- a `var` in a list
 
+is_var : (W : Liberties) (n w : Tree) (r : BlockRow W n w) → declares_var r ≡ true → is_lexical (row_kind r) ≡ false
+is_var W n w (inl r) v = no_lexical (is_lexical r.kind) v
+is_var W n w (inr (inl r)) v = no_lexical (is_lexical r.kind) v
+is_var W n w (inr (inr (inl r))) v = no_lexical (is_lexical r.kind) v
+is_var W n w (inr (inr (inr r))) v = no_lexical (is_lexical r.kind) v
+
 var_drops : (W : Liberties) (p : Tree) (a b : Trees) (e : is_listed_shape (shape_of p) ≡ true) (r : BlockRow W (block (p ▸ a)) (block (p ▸ b))) → declares_var r ≡ true → let t = row_stretch W p a b e r in DropsLess (resolved t.spelling t.symbol) t.symbol t.d t.w
-unfolding row_stretch stretch
-var_drops W p a b e (inl r) v = value_drops r.spelling r.symbol r.kind r.init r.unused.initial
-var_drops W p a b e (inr (inl r)) v = idle_drops r.spelling r.symbol r.kind r.first r.init r.last r.unused.declared_earlier r.unused.declared_later
-var_drops W p a b e (inr (inr (inl r))) v = by (taken x r.init r.head r.taken)
-  where
-    x : Name
-    x = resolved r.spelling r.symbol
-
-    free : names x (put_first x r.init r.head) ≡ false
-    free = taken_unnamed x r.init r.head r.taken r.initial
-
-    by : Taken x r.init r.head → DropsLess x r.symbol (declared_among r.kind x r.first r.init none ▸ (r.head ▸ none)) (declared_left r.kind r.first ▸ (put_first x r.init r.head ▸ none))
-    by (inl (o, s)) =
-        once_drops r.spelling r.symbol r.first r.init r.head (put_first x r.init r.head) (once.head_less x r.init r.head (movable W.switches r.init r.moves) o (passed_suits x OfValues r.init (evaluated r.head) s)).0 r.kind (λ z. absurd (true≢false (sym v ∙ ap not z))) r.declared_earlier free
-    by (inr (c, (o, s))) = hidden_drops r.spelling r.symbol r.kind r.first r.init r.head c (hidden x r.head o) r.declared_earlier free
-var_drops W p a b e (inr (inr (inr r))) v =
-    let x = resolved r.spelling r.symbol in
-    next_drops r.spelling r.symbol r.first r.init r.binds r.value r.last r.once (movable W.switches r.init r.moves) (passed_suits x OfValues r.init r.value (value_passed x r.init r.value r.passed)) r.kind r.declared_earlier r.other (put_unnamed x r.value r.once r.init r.initial) r.declared_later
+var_drops W p a b e r v = (unused_stretched W p a b e r).drops (inl (is_var W (block (p ▸ a)) (block (p ▸ b)) r v))
 
 -- ---- in no list
 
