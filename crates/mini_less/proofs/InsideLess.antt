@@ -1,6 +1,22 @@
 -- A `var` further inside a body: whatever holds the body tells no more without it.
+use Rattle.mini_accept.specs.WellShaped.{Depth, each, fill}
+use Rattle.mini_laws.specs.Congruence.{AllAvoid, Avoids}
+use Rattle.mini_laws.specs.Substitution.{alone}
+use Rattle.mini_laws.specs.Value.{Declared}
+use Rattle.mini_laws.specs.declared.names.Binding.{Binding}
+use Rattle.mini_rows.specs.Inside.{same_way, Holder, Arrow, Function, Module, Static, above, is_way_to, over}
+use Rattle.mini_rows.proofs.InsideKept.{Keeping}
+use Rattle.mini_rows.proofs.InsideLoses.{declares, fits_there, leaves}
+use Rattle.mini_rows.proofs.InsideNames.{list_keeps, Losing}
+use Rattle.mini_rows.proofs.ListShapes.{append_fits, both_fit}
+use Rattle.mini_rows.proofs.NextEnds.{next_avoided, next_held, next_heading}
+use Rattle.mini_rows.proofs.PastInsideKept.{past_vars, of_behind, one_next}
+use Rattle.mini_rows.proofs.UnusedKept.{all_append}
+use Rattle.mini_rows.proofs.UnusedMeaning.{all_join}
+use Rattle.mini_rows.proofs.UnusedNames.{all_avoided, all_unmentioned, or_parts}
+use Rattle.mini_rows.proofs.UnusedStretches.{item_in}
 use Rattle.std.specs.Prelude.{ℕ, ◌≡◌, refl, Bool, true, false, ◌||◌, List, [], ◌++◌, Some}
-use Rattle.std.proofs.Common.{ap, ◌∙◌, sym, subst₂}
+use Rattle.std.proofs.Common.{ap, ◌∙◌, inl, sym, subst, subst₂}
 use Rattle.std.proofs.lemmas.List.{append-nil}
 use Rattle.mini_model.specs.declared.name.Name.{Name}
 use Rattle.mini_model.specs.declared.place.Position.{Position}
@@ -16,17 +32,13 @@ use Rattle.mini_kept.specs.Without.{Assured, BodySets}
 use Rattle.mini_node.specs.Children.{number_of}
 use Rattle.mini_rows.specs.declared.inside.Way.{Way}
 use Rattle.mini_rows.specs.declared.inside.Way.TheVariants as way
-use Rattle.mini_rows.specs.Inside.{Holder, Arrow, Function, Module, Static, above, is_way_to, over}
 use Rattle.mini_rows.specs.PastInside.{PastEnd, PastInside, PastOneEnd, known_below, past_ends}
 use Rattle.mini_laws.specs.declared.names.Use.TheVariants.{Read}
 use Rattle.mini_less.proofs.Drops.{DropsLess}
 use Rattle.mini_rows.specs.Switches.{Liberties}
 use Rattle.mini_rows.specs.Unused.{any_names, names, resolved}
 use Rattle.mini_rows.proofs.InsideLawful.{front, in_front}
-use Rattle.mini_rows.proofs.InsideNames.{Losing}
-use Rattle.mini_rows.proofs.PastInsideKept.{body_behind, heading_loses, held_loses, inside_behind, list_loses, next_loses, of_behind, one_next}
 use Rattle.mini_rows.proofs.PastStretches.{behind}
-use Rattle.mini_rows.proofs.UnusedNames.{or_parts}
 use Rattle.mini_less.specs.Families.{LessAt}
 use Rattle.mini_less.specs.Past.{PastInsideReadsLess}
 use Rattle.mini_less.proofs.Flags.{none_of}
@@ -37,7 +49,7 @@ use Rattle.mini_less.proofs.Losing.{Loses}
 use Rattle.mini_less.proofs.LosingLists.{ListLess, arrow_drops, function_drops, list_wrote, module_drops, static_drops}
 use Rattle.mini_less.proofs.LosingNodes.{WroteIn, wrote_in}
 use Rattle.mini_less.proofs.PastLess.{named_parts, seen_parts, unseen_parts}
-use Rattle.mini_less.proofs.RowsOnce.{past_list, past_one_suits, past_unseen, past_var_drops}
+use Rattle.mini_less.proofs.RowsOnce.{past_list, past_one_suits, past_unseen, past_is_var, past_stretched}
 
 -- ---- what holds the body
 
@@ -80,7 +92,7 @@ middle_off (p ▸ first) t last e f = let (a, b) = none_of (has_eval p) (any_has
 one_left : (sp : List ℕ) (k : ℕ) (xs ys : List Name) → Loses sp k xs ys → Loses sp k (xs ++ []) (ys ++ [])
 one_left sp k xs ys l = subst₂ (Loses sp k) (sym (append-nil xs)) (sym (append-nil ys)) l
 
-pub way_less : (o : Holder) (first : Trees) (place : Path) (last : Trees) (z : Way) (read put : Tree) → is_way_to z (Some way.Statement) place ≡ true → (t : Losing (append first (plug place read ▸ last)) (append first (plug place put ▸ last))) → t.d ≡ plug place read ▸ none → t.w ≡ plug place put ▸ none
+way_less : (o : Holder) (first : Trees) (place : Path) (last : Trees) (z : Way) (read put : Tree) → is_way_to z (Some way.Statement) place ≡ true → (t : Losing (append first (plug place read ▸ last)) (append first (plug place put ▸ last))) → t.d ≡ plug place read ▸ none → t.w ≡ plug place put ▸ none
     → EndTold t.spelling t.symbol z (over o absent ▸ (listed (append first (absent ▸ last)) ▸ above place)) read put → (p : Position) (n w : Tree) → n ≡ over o (listed (append first (plug place read ▸ last))) → w ≡ over o (listed (append first (plug place put ▸ last))) → LessAt p n w
 unfolding has_eval names_of
 way_less o first place last z read put there t d e told p n w f g =
@@ -100,6 +112,59 @@ way_less o first place last z read put there t d e told p n w f g =
       bound = ap (all_names declared.Bound) e ∙ ap (λ xs. xs ++ []) s.wrote.bound ∙ sym (ap (all_names declared.Bound) d);
     } in
     held_less o p _ _ t less (in_front x o held_free) (seen_front o held_spared) (middle_off first (plug place read) last list_spared s.spared) n w f g
+
+-- ---- the statements of the body lose it
+
+module _ (first : Trees) (place : Path) (last : Trees) (sp : List ℕ) (k : ℕ) (z : Way) (other : same_way z way.Statement ≡ false) (read put : Tree) (keeps : Keeping sp k z read put) (avoided : Avoids (alone (Declared k)) put) (there : is_way_to z (Some way.Statement) place ≡ true) (free : any_names (resolved sp k) (above place) ≡ false) (earlier : any_names (resolved sp k) first ≡ false) (later : any_names (resolved sp k) last ≡ false) where
+  abbrev way_losing : Losing (append first (plug place read ▸ last)) (append first (plug place put ▸ last))
+  way_losing =
+      let x = resolved sp k in
+      let d = plug place read ▸ none in
+      let w = plug place put ▸ none in
+      let l = leaves sp k z other read put keeps avoided place there free in
+      let bind : Binding = record { name = x; hoists = false } in
+      record {
+        spelling = sp;
+        symbol = k;
+        before = first;
+        after = last;
+        d = d;
+        w = w;
+        leaves = l;
+        declares = declares sp k z other read put keeps avoided place there free;
+        earlier = earlier;
+        later = later;
+        unmentioned = all_append bind first (append w last) (all_unmentioned x k refl first earlier) (all_append bind w last l.unmentioned (all_unmentioned x k refl last later));
+        fits = λ o strict e.
+            let (a, b) = both_fit strict (item_in o) first (append d last) e in
+            let (c, f) = both_fit strict (item_in o) d last b in
+            append_fits strict (item_in o) first (append w last) a (append_fits strict (item_in o) w last (fits_there sp k z other read put keeps avoided place there free o strict c) f);
+        read_is = refl;
+        written_is = refl;
+      }
+
+module _ (o : Holder) (first : Trees) (place : Path) (last : Trees) (read put : Tree) where
+  abbrev outside : Trees
+  outside = over o absent ▸ (listed (append first (absent ▸ last)) ▸ above place)
+
+  free_parts : (y : Name) → any_names y outside ≡ false → (any_names y (above place) ≡ false) × ((any_names y first ≡ false) × (any_names y last ≡ false))
+  free_parts y e =
+      let (a, rest) = or_parts (names y (over o absent)) (any_names y (listed (append first (absent ▸ last)) ▸ above place)) e in
+      let (b, c) = or_parts (any_names y (append first (absent ▸ last))) (any_names y (above place)) rest in
+      (c, apart first b)
+    where
+      apart : (ts : Trees) → any_names y (append ts (absent ▸ last)) ≡ false → (any_names y ts ≡ false) × (any_names y last ≡ false)
+      apart none f = (refl, (or_parts (names y absent) (any_names y last) f).1)
+      apart (t ▸ ts) f =
+          let (g, h) = or_parts (names y t) (any_names y (append ts (absent ▸ last))) f in
+          let (i, j) = apart ts h in
+          (ap (λ b. b || any_names y ts) g ∙ i, j)
+
+  -- what holds the body tells no more, where what stands at the end of the way loses the name
+  pub end_less : (sp : List ℕ) (k : ℕ) (z : Way) → same_way z way.Statement ≡ false → Keeping sp k z read put → Avoids (alone (Declared k)) put → EndTold sp k z outside read put → is_way_to z (Some way.Statement) place ≡ true → (p : Position) (n w : Tree) → n ≡ over o (listed (append first (plug place read ▸ last))) → w ≡ over o (listed (append first (plug place put ▸ last))) → LessAt p n w
+  end_less sp k z other keeps avoided told there =
+      let (above_free, (earlier, later)) = free_parts (resolved sp k) told.outer in
+      way_less o first place last z read put there (way_losing first place last sp k z other read put keeps avoided there above_free earlier later) refl refl told
 
 -- ---- past names that keep their value
 
@@ -121,7 +186,7 @@ module _ (V : Assured) (W : Liberties) (outside : Trees) where
       record {
         spares = record {
           spared = ap has_eval r.shape ∙ seen.inside;
-          wrote = subst₂ (WroteIn there.spelling there.symbol is_read) (sym r.shape) (sym r.written) (wrote_in there.spelling there.symbol is_read (listed r.list) (listed r.left) (list_wrote r.list r.left t (past_list V W o r.list r.left r.row) (past_var_drops V W o r.list r.left r.row r.var)));
+          wrote = subst₂ (WroteIn there.spelling there.symbol is_read) (sym r.shape) (sym r.written) (wrote_in there.spelling there.symbol is_read (listed r.list) (listed r.left) (list_wrote r.list r.left t (past_list V W o r.list r.left r.row) ((past_stretched V W o r.list r.left r.row).drops (inl (past_is_var V W o r.list r.left r.row r.var)))));
         };
         outer = there.outer;
         unseen = seen.outside;
@@ -155,14 +220,28 @@ module _ (S : BodySets) (W : Liberties) (o : Holder) (first : Trees) (place : Pa
   abbrev V : Assured
   V = S (number_of held)
 
+  -- what is known at the end of the way
+  abbrev known : Assured
+  known = known_below inner V
+
+  list_way : PastEnd known W (held ▸ inner) read put → is_way_to way.Statements (Some way.Statement) place ≡ true → (p : Position) (n w : Tree) → n ≡ over o (listed (append first (plug place read ▸ last))) → w ≡ over o (listed (append first (plug place put ▸ last))) → LessAt p n w
+  list_way r there =
+      let q = listed (held ▸ inner) in
+      let t = behind known W q r.list r.left r.row in
+      let D = alone (Declared t.symbol) in
+      let x = resolved t.spelling t.symbol in
+      let keeps = subst₂ (Keeping t.spelling t.symbol way.Statements) (sym r.shape) (sym r.written) (list_keeps r.list r.left (of_behind known W.writable q r.list r.left t) (past_vars known W q r.list r.left r.row r.var)) in
+      let left_avoids : AllAvoid D r.left = subst (AllAvoid D) (sym t.written_is) (all_join D t.before (append t.w t.after) (all_avoided x t.symbol refl t.before t.earlier) (all_join D t.w t.after t.avoids (all_avoided x t.symbol refl t.after t.later))) in
+      end_less o first place last read put t.spelling t.symbol way.Statements refl keeps (subst (Avoids D) (sym r.written) (tt, left_avoids)) (list_end known W (held ▸ inner) read put r) there
+
   past_way : (z : Way) (r : past_ends S W (held ▸ inner) z read put) (there : is_way_to z (Some way.Statement) place ≡ true) (p : Position) (n w : Tree) → n ≡ over o (listed (append first (plug place read ▸ last))) → w ≡ over o (listed (append first (plug place put ▸ last))) → LessAt p n w
-  unfolding inside_behind body_behind list_loses held_loses heading_loses next_loses
-  past_way way.Statements r there =
-      way_less o first place last way.Statements read put there (of_behind V W.writable (front o) _ _ (inside_behind S W held first place last way.Statements read put r there (front o) (λ y. in_front y o))) refl refl (list_end (known_below inner V) W (held ▸ inner) read put r)
+  past_way way.Statements r there = list_way r there
   past_way way.Held r there =
-      way_less o first place last way.Held read put there (of_behind V W.writable (front o) _ _ (inside_behind S W held first place last way.Held read put r there (front o) (λ y. in_front y o))) refl refl (held_end (known_below inner V) W (held ▸ inner) read put r)
+      let t = one_next known W (listed (held ▸ inner)) read put r.row r.var in
+      end_less o first place last read put t.spelling t.symbol way.Held refl (next_held t.spelling t.symbol read put t.next) (next_avoided t.spelling t.symbol read put t.next) (held_end known W (held ▸ inner) read put r) there
   past_way way.Head r there =
-      way_less o first place last way.Head read put there (of_behind V W.writable (front o) _ _ (inside_behind S W held first place last way.Head read put r there (front o) (λ y. in_front y o))) refl refl (heading_end (known_below inner V) W (held ▸ inner) read put r)
+      let t = one_next known W (listed (held ▸ inner)) read put r.row r.var in
+      end_less o first place last read put t.spelling t.symbol way.Head refl (next_heading t.spelling t.symbol read put t.next) (next_avoided t.spelling t.symbol read put t.next) (heading_end known W (held ▸ inner) read put r) there
   past_way z r there = absurd r
 
 pub past_inside_reads_less : PastInsideReadsLess

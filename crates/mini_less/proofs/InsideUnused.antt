@@ -11,6 +11,7 @@ use Rattle.mini_model.specs.Tree.{Tree, Trees, node, none, ◌▸◌, absent, li
 use Rattle.mini_laws.specs.Congruence.{AllAvoid, Avoids}
 use Rattle.mini_laws.specs.DeclaredNames.{all_names, names_of}
 use Rattle.mini_laws.specs.Foreign.{any_has_number, has_number}
+use Rattle.mini_laws.specs.Naming.{is_lexical}
 use Rattle.mini_laws.specs.Path.{Path, plug}
 use Rattle.mini_laws.specs.ScopeList.{any_has_eval, has_eval}
 use Rattle.mini_laws.specs.Shared.{names_arguments}
@@ -48,7 +49,7 @@ use Rattle.mini_less.specs.Inside.{InsideReadsLess}
 use Rattle.mini_less.proofs.Drops.{DropsLess}
 use Rattle.mini_less.proofs.DroppedLess.{head_less, head_told, idle_drops, value_drops}
 use Rattle.mini_less.proofs.Flags.{none_of, unlike}
-use Rattle.mini_less.proofs.InsideLess.{EndTold, way_less, weaker}
+use Rattle.mini_less.proofs.InsideLess.{EndTold, end_less, weaker}
 use Rattle.mini_less.proofs.InsideWays.{used_in}
 use Rattle.mini_less.proofs.InsideOnes.{single_wrote}
 use Rattle.mini_less.proofs.LessRows.{evals_add, names_add, numbers_add, reads_less_by, any_names as any_arguments}
@@ -64,30 +65,19 @@ use Rattle.mini_less.proofs.Plainly.{read as as_read}
 use Rattle.mini_less.proofs.PutMade.{passed_suits}
 use Rattle.mini_less.proofs.PutTold.{hidden_drops}
 use Rattle.mini_less.proofs.RowsOnce as once
-use Rattle.mini_less.proofs.RowsOnce.{put_unnamed, vars_lost}
-use Rattle.mini_less.proofs.RowsUnused.{unused_list, unused_unseen}
+use Rattle.mini_less.proofs.RowsOnce.{no_lexical, put_unnamed, vars_lost}
+use Rattle.mini_less.proofs.RowsUnused.{row_kind, unused_list, unused_stretched, unused_unseen}
 
 -- ---- a `var` in a list
 
+is_var : (W : Liberties) (n w : Tree) (r : BlockRow W n w) → declares_var r ≡ true → is_lexical (row_kind r) ≡ false
+is_var W n w (inl r) v = no_lexical (is_lexical r.kind) v
+is_var W n w (inr (inl r)) v = no_lexical (is_lexical r.kind) v
+is_var W n w (inr (inr (inl r))) v = no_lexical (is_lexical r.kind) v
+is_var W n w (inr (inr (inr r))) v = no_lexical (is_lexical r.kind) v
+
 var_drops : (W : Liberties) (p : Tree) (a b : Trees) (e : is_listed_shape (shape_of p) ≡ true) (r : BlockRow W (block (p ▸ a)) (block (p ▸ b))) → declares_var r ≡ true → let t = row_stretch W p a b e r in DropsLess (resolved t.spelling t.symbol) t.symbol t.d t.w
-unfolding row_stretch stretch
-var_drops W p a b e (inl r) v = value_drops r.spelling r.symbol r.kind r.init r.unused.initial
-var_drops W p a b e (inr (inl r)) v = idle_drops r.spelling r.symbol r.kind r.first r.init r.last r.unused.declared_earlier r.unused.declared_later
-var_drops W p a b e (inr (inr (inl r))) v = by (taken x r.init r.head r.taken)
-  where
-    x : Name
-    x = resolved r.spelling r.symbol
-
-    free : names x (put_first x r.init r.head) ≡ false
-    free = taken_unnamed x r.init r.head r.taken r.initial
-
-    by : Taken x r.init r.head → DropsLess x r.symbol (declared_among r.kind x r.first r.init none ▸ (r.head ▸ none)) (declared_left r.kind r.first ▸ (put_first x r.init r.head ▸ none))
-    by (inl (o, s)) =
-        once_drops r.spelling r.symbol r.first r.init r.head (put_first x r.init r.head) (once.head_less x r.init r.head (movable W.switches r.init r.moves) o (passed_suits x OfValues r.init (evaluated r.head) s)).0 r.kind (λ z. absurd (true≢false (sym v ∙ ap not z))) r.declared_earlier free
-    by (inr (c, (o, s))) = hidden_drops r.spelling r.symbol r.kind r.first r.init r.head c (hidden x r.head o) r.declared_earlier free
-var_drops W p a b e (inr (inr (inr r))) v =
-    let x = resolved r.spelling r.symbol in
-    next_drops r.spelling r.symbol r.first r.init r.binds r.value r.last r.once (movable W.switches r.init r.moves) (passed_suits x OfValues r.init r.value (value_passed x r.init r.value r.passed)) r.kind r.declared_earlier r.other (put_unnamed x r.value r.once r.init r.initial) r.declared_later
+var_drops W p a b e r v = (unused_stretched W p a b e r).drops (inl (is_var W (block (p ▸ a)) (block (p ▸ b)) r v))
 
 -- ---- in no list
 
@@ -136,58 +126,10 @@ module _ (W : Liberties) (o : Trees) (n w : Tree) (r : BlockRow W (block (listed
       let h = (held_row W (listed o) n w refl r v).0 in
       held_keeps t.spelling t.symbol n w lost.leaves lost.declares (subst₂ (VarThere x) these those vars) lost.fits h.simple h.simple_left
 
--- ---- so the statements of the body lose it
-
-module _ (first : Trees) (place : Path) (last : Trees) (sp : List ℕ) (k : ℕ) (z : Way) (other : same_way z way.Statement ≡ false) (read put : Tree) (keeps : Keeping sp k z read put) (avoided : Avoids (alone (Declared k)) put) (there : is_way_to z (Some way.Statement) place ≡ true) (free : any_names (resolved sp k) (above place) ≡ false) (earlier : any_names (resolved sp k) first ≡ false) (later : any_names (resolved sp k) last ≡ false) where
-  abbrev way_losing : Losing (append first (plug place read ▸ last)) (append first (plug place put ▸ last))
-  way_losing =
-      let x = resolved sp k in
-      let d = plug place read ▸ none in
-      let w = plug place put ▸ none in
-      let l = leaves sp k z other read put keeps avoided place there free in
-      let bind : Binding = record { name = x; hoists = false } in
-      record {
-        spelling = sp;
-        symbol = k;
-        before = first;
-        after = last;
-        d = d;
-        w = w;
-        leaves = l;
-        declares = declares sp k z other read put keeps avoided place there free;
-        earlier = earlier;
-        later = later;
-        unmentioned = all_append bind first (append w last) (all_unmentioned x k refl first earlier) (all_append bind w last l.unmentioned (all_unmentioned x k refl last later));
-        fits = λ o strict e.
-            let (a, b) = both_fit strict (item_in o) first (append d last) e in
-            let (c, f) = both_fit strict (item_in o) d last b in
-            append_fits strict (item_in o) first (append w last) a (append_fits strict (item_in o) w last (fits_there sp k z other read put keeps avoided place there free o strict c) f);
-        read_is = refl;
-        written_is = refl;
-      }
-
 -- whatever the end of the way is
 module _ (W : Liberties) (o : Holder) (first : Trees) (place : Path) (last : Trees) (read put : Tree) where
   abbrev outside : Trees
   outside = over o absent ▸ (listed (append first (absent ▸ last)) ▸ above place)
-
-  free_parts : (y : Name) → any_names y outside ≡ false → (any_names y (above place) ≡ false) × ((any_names y first ≡ false) × (any_names y last ≡ false))
-  free_parts y e =
-      let (a, rest) = or_parts (names y (over o absent)) (any_names y (listed (append first (absent ▸ last)) ▸ above place)) e in
-      let (b, c) = or_parts (any_names y (append first (absent ▸ last))) (any_names y (above place)) rest in
-      (c, apart first b)
-    where
-      apart : (ts : Trees) → any_names y (append ts (absent ▸ last)) ≡ false → (any_names y ts ≡ false) × (any_names y last ≡ false)
-      apart none f = (refl, (or_parts (names y absent) (any_names y last) f).1)
-      apart (t ▸ ts) f =
-          let (g, h) = or_parts (names y t) (any_names y (append ts (absent ▸ last))) f in
-          let (i, j) = apart ts h in
-          (ap (λ b. b || any_names y ts) g ∙ i, j)
-
-  end_less : (sp : List ℕ) (k : ℕ) (z : Way) → same_way z way.Statement ≡ false → Keeping sp k z read put → Avoids (alone (Declared k)) put → EndTold sp k z outside read put → is_way_to z (Some way.Statement) place ≡ true → (p : Position) (n w : Tree) → n ≡ over o (listed (append first (plug place read ▸ last))) → w ≡ over o (listed (append first (plug place put ▸ last))) → LessAt p n w
-  end_less sp k z other keeps avoided told there =
-      let (above_free, (earlier, later)) = free_parts (resolved sp k) told.outer in
-      way_less o first place last z read put there (way_losing first place last sp k z other read put keeps avoided there above_free earlier later) refl refl told
 
   list_less : ListEnd W outside read put → is_way_to way.Statements (Some way.Statement) place ≡ true → (p : Position) (n w : Tree) → n ≡ over o (listed (append first (plug place read ▸ last))) → w ≡ over o (listed (append first (plug place put ▸ last))) → LessAt p n w
   unfolding has_eval
@@ -199,7 +141,7 @@ module _ (W : Liberties) (o : Holder) (first : Trees) (place : Path) (last : Tre
       let keeps = subst₂ (Keeping t.spelling t.symbol way.Statements) (sym r.shape) (sym r.written) (list_keeps r.list r.left losing (row_vars W (listed outside) r.list r.left refl r.row r.var)) in
       let left_avoids : AllAvoid D r.left = subst (AllAvoid D) (sym t.written_is) (all_join D t.before (append t.w t.after) (all_avoided x t.symbol refl t.before t.earlier) (all_join D t.w t.after t.loses.avoids (all_avoided x t.symbol refl t.after t.later))) in
       let seen = unseen_parts (listed outside) r.list (unused_unseen W (block (listed outside ▸ r.list)) (block (listed outside ▸ r.left)) r.row) in
-      end_less t.spelling t.symbol way.Statements refl keeps (subst (Avoids D) (sym r.written) (tt, left_avoids)) (record {
+      end_less o first place last read put t.spelling t.symbol way.Statements refl keeps (subst (Avoids D) (sym r.written) (tt, left_avoids)) (record {
         spares = record {
           spared = ap has_eval r.shape ∙ seen.inside;
           wrote = subst₂ (WroteIn t.spelling t.symbol is_read) (sym r.shape) (sym r.written) (wrote_in t.spelling t.symbol is_read (listed r.list) (listed r.left) (list_wrote r.list r.left losing (unused_list W (listed outside) r.list r.left refl r.row) (var_drops W (listed outside) r.list r.left refl r.row r.var)));
@@ -211,7 +153,7 @@ module _ (W : Liberties) (o : Holder) (first : Trees) (place : Path) (last : Tre
   held_less : HeldEnd W outside read put → is_way_to way.Held (Some way.Statement) place ≡ true → (p : Position) (n w : Tree) → n ≡ over o (listed (append first (plug place read ▸ last))) → w ≡ over o (listed (append first (plug place put ▸ last))) → LessAt p n w
   held_less r there =
       let t = row_stretch W (listed outside) (read ▸ none) (put ▸ none) refl r.row in
-      end_less t.spelling t.symbol way.Held refl (one_keeps W outside read put r.row r.var) (lost W outside read put r.row r.var).avoids.0 (one_told W outside read put r.row r.var way.Held (one_wrote W outside read put r.row r.var)) there
+      end_less o first place last read put t.spelling t.symbol way.Held refl (one_keeps W outside read put r.row r.var) (lost W outside read put r.row r.var).avoids.0 (one_told W outside read put r.row r.var way.Held (one_wrote W outside read put r.row r.var)) there
 
   next_told : (r : HeadNextEnd W outside read put) → EndTold r.row.spelling r.row.symbol way.Head outside read put
   unfolding row_stretch stretch
@@ -224,7 +166,7 @@ module _ (W : Liberties) (o : Holder) (first : Trees) (place : Path) (last : Tre
       let s = r.row.spelling in
       let k = r.row.symbol in
       let next = heading_next W outside read put r in
-      end_less s k way.Head refl (next_heading s k read put next) (next_avoided s k read put next) (next_told r) there
+      end_less o first place last read put s k way.Head refl (next_heading s k read put next) (next_avoided s k read put next) (next_told r) there
 
   -- ---- 72 in what a `for` begins with
 
@@ -282,7 +224,7 @@ module _ (W : Liberties) (o : Holder) (first : Trees) (place : Path) (last : Tre
       }
 
   head_end_less : HeadEnd W outside read put → is_way_to way.Head (Some way.Statement) place ≡ true → (p : Position) (n w : Tree) → n ≡ over o (listed (append first (plug place read ▸ last))) → w ≡ over o (listed (append first (plug place put ▸ last))) → LessAt p n w
-  head_end_less r there = end_less r.spelling r.symbol way.Head refl (head_keeps W outside read put r) (head_avoided W outside read put r) (head_told_there r) there
+  head_end_less r there = end_less o first place last read put r.spelling r.symbol way.Head refl (head_keeps W outside read put r) (head_avoided W outside read put r) (head_told_there r) there
 
   inside_way : (z : Way) → EndRow z W outside read put → is_way_to z (Some way.Statement) place ≡ true → (p : Position) (n w : Tree) → n ≡ over o (listed (append first (plug place read ▸ last))) → w ≡ over o (listed (append first (plug place put ▸ last))) → LessAt p n w
   inside_way way.Statements r there = list_less r there

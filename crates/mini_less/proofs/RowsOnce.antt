@@ -1,5 +1,5 @@
 -- 71 in a list: a declaration whose name is read once, right behind it.
-use Rattle.std.specs.Prelude.{ℕ, ◌≡◌, ◌⊎◌, refl, true, false, ◌&&◌, not, List, [], ◌++◌}
+use Rattle.std.specs.Prelude.{Bool, false, ℕ, ◌≡◌, ◌⊎◌, refl, true, ◌&&◌, not, List, [], ◌++◌}
 use Rattle.std.proofs.Common.{ap, ◌∙◌, sym, inl, inr, true≢false}
 use Rattle.std.proofs.lemmas.Bool.{and_parts}
 use Rattle.mini_model.specs.declared.kind.VariableDeclarationKind.{VariableDeclarationKind}
@@ -48,15 +48,34 @@ use Rattle.mini_less.proofs.Once.{once_drops}
 use Rattle.mini_less.proofs.OnceNext.{next_drops}
 use Rattle.mini_less.proofs.PutMade.{Spot, past_suits, spot, suits_all}
 
--- statements that lose a name, wherever they stand in a list of statements
-pub record Stretched (sp : List ℕ) (k : ℕ) (d w : Trees) : Type 0 where
-  pub drops : (q : Position) → is_statement_list q ≡ true → (a before after : Trees) → a ≡ append before (append d after) → Stood q (listed a) → DropsLess (resolved sp k) k d w
+-- where statements stand in a list of statements
+pub record Neighbouring (d : Trees) : Type 0 where
+  pub position : Position
+  pub takes : is_statement_list position ≡ true
+  pub list : Trees
+  pub before : Trees
+  pub after : Trees
+  pub is : list ≡ append before (append d after)
+  pub stood : Stood position (listed list)
+
+-- statements stand in such a list, or somewhere, if the name that they declare is no lexical one
+abbrev pub Placed : Bool → Trees → Type 0
+Placed scoped d = (scoped ≡ false) ⊎ Neighbouring d
+
+-- statements that lose a name, which is a lexical one or isn't
+pub record Stretched (sp : List ℕ) (k : ℕ) (scoped : Bool) (d w : Trees) : Type 0 where
+  pub drops : Placed scoped d → DropsLess (resolved sp k) k d w
   pub lexical : Loses sp k (all_names declared.Lexical d) (all_names declared.Lexical w)
   pub hoisted : Loses sp k (all_names declared.Hoisted d) (all_names declared.Hoisted w)
   pub bound : all_names declared.Bound w ≡ all_names declared.Bound d
 
-pub in_list : (a b : Trees) (t : Losing a b) → Stretched t.spelling t.symbol t.d t.w → ListLess a b t
-in_list a b t s = record { drops = λ q l z. s.drops q l a t.before t.after t.read_is z; lexical = s.lexical; hoisted = s.hoisted; bound = s.bound }
+pub in_list : (scoped : Bool) (a b : Trees) (t : Losing a b) → Stretched t.spelling t.symbol scoped t.d t.w → ListLess a b t
+in_list scoped a b t s = record {
+  drops = λ q l z. s.drops (inr (record { position = q; takes = l; list = a; before = t.before; after = t.after; is = t.read_is; stood = z }));
+  lexical = s.lexical;
+  hoisted = s.hoisted;
+  bound = s.bound;
+}
 
 -- ---- names
 
@@ -106,8 +125,8 @@ module _ (sp : List ℕ) (k : ℕ) (K : VariableDeclarationKind) (first : Trees)
   wrote K = declared_left K first ▸ (put ▸ none)
 
   -- of such statements, however that is shown
-  pub drops_stretched : ((q : Position) → is_statement_list q ≡ true → (a before after : Trees) → a ≡ append before (append (read K) after) → Stood q (listed a) → DropsLess x k (read K) (wrote K)) → names_of declared.Bound put ≡ names_of declared.Bound head → any_names x first ≡ false
-      → (is_lexical K ≡ true → NamesThere x (read K) (wrote K)) → SameHead head put → Other x (names_of declared.Hoisted put) → Stretched sp k (read K) (wrote K)
+  pub drops_stretched : (Placed (is_lexical K) (read K) → DropsLess x k (read K) (wrote K)) → names_of declared.Bound put ≡ names_of declared.Bound head → any_names x first ≡ false
+      → (is_lexical K ≡ true → NamesThere x (read K) (wrote K)) → SameHead head put → Other x (names_of declared.Hoisted put) → Stretched sp k (is_lexical K) (read K) (wrote K)
   unfolding names_of
   drops_stretched drops bound earlier lexical same other =
       let lost = kind_lost sp k K read wrote lexical (head_vars x first init head put earlier other same) in
@@ -125,9 +144,14 @@ module _ (sp : List ℕ) (k : ℕ) (K : VariableDeclarationKind) (first : Trees)
       by : (K : VariableDeclarationKind) → all_names declared.Bound (wrote K) ≡ all_names declared.Bound (read K)
       by K = (λ j. left_bound K first j ++ (bound j ++ []))
 
-  pub head_stretched : HeadLess init head put → names_of declared.Bound put ≡ names_of declared.Bound head → any_names x first ≡ false → names x put ≡ false → (is_lexical K ≡ true → NamesThere x (read K) (wrote K)) → SameHead head put → Other x (names_of declared.Hoisted put) → Stretched sp k (read K) (wrote K)
+  -- the declarators that stay declare no lexical name themselves
+  plain_there : Placed (is_lexical K) (read K) → is_lexical K ≡ true → all_names declared.Lexical first ≡ []
+  plain_there (inl f) e = absurd (true≢false (sym e ∙ f))
+  plain_there (inr p) e = first_plain p.position p.takes p.list p.before K first (declarator (binding x) init ▸ none) (head ▸ none) p.after p.is p.stood
+
+  pub head_stretched : HeadLess init head put → names_of declared.Bound put ≡ names_of declared.Bound head → any_names x first ≡ false → names x put ≡ false → (is_lexical K ≡ true → NamesThere x (read K) (wrote K)) → SameHead head put → Other x (names_of declared.Hoisted put) → Stretched sp k (is_lexical K) (read K) (wrote K)
   head_stretched less bound earlier unnamed lexical same other =
-      drops_stretched (λ q l a before after is s. once_drops sp k first init head put less K (λ e. first_plain q l a before K first (declarator (binding x) init ▸ none) (head ▸ none) after is s) earlier unnamed) bound earlier lexical same other
+      drops_stretched (λ p. once_drops sp k first init head put less K (plain_there p) earlier unnamed) bound earlier lexical same other
 
 -- ---- the next declarator
 
@@ -144,12 +168,12 @@ module _ (sp : List ℕ) (k : ℕ) (K : VariableDeclarationKind) (first : Trees)
   abbrev wrote_next : VariableDeclarationKind → Trees
   wrote_next K = declaration K (append first (declarator id (put_first name init value) ▸ last)) ▸ none
 
-  pub next_stretched : is_first name false value ≡ true → is_plain_part init ≡ true → suits_all name init value ≡ true → any_names name first ≡ false → names name init ≡ false → names name id ≡ false → any_names name last ≡ false → (is_lexical K ≡ true → NamesThere name (read_next K) (wrote_next K)) → Stretched sp k (read_next K) (wrote_next K)
+  pub next_stretched : is_first name false value ≡ true → is_plain_part init ≡ true → suits_all name init value ≡ true → any_names name first ≡ false → names name init ≡ false → names name id ≡ false → any_names name last ≡ false → (is_lexical K ≡ true → NamesThere name (read_next K) (wrote_next K)) → Stretched sp k (is_lexical K) (read_next K) (wrote_next K)
   unfolding names_of
   next_stretched once plain suits earlier initial other later lexical =
       let lost = kind_lost sp k K read_next wrote_next lexical (next_vars name first init id value (put_first name init value) last earlier other later) in
       record {
-        drops = λ q l a before after is s. next_drops sp k first init id value last once plain suits K earlier other (put_unnamed name value once init initial) later;
+        drops = λ p. next_drops sp k first init id value last once plain suits K earlier other (put_unnamed name value once init initial) later;
         lexical = lost.0;
         hoisted = lost.1;
         bound = refl;
@@ -163,8 +187,13 @@ head_less x init head plain once suits =
     let s = spot x init plain (plain_value init plain) head once in
     (spot_less x init head s (s.suit suits), spot_bound x init head s)
 
+-- of what kind the declaration is
+abbrev pub past_kind : {V : Assured} {W : Liberties} {o : Tree} {a b : Trees} → PastRow V W o a b → VariableDeclarationKind
+past_kind (inl r) = r.kind
+past_kind (inr r) = r.kind
+
 -- past names that keep their value
-pub past_stretched : (V : Assured) (W : Liberties) (o : Tree) (a b : Trees) (r : PastRow V W o a b) → let t = behind V W o a b r in Stretched t.spelling t.symbol t.d t.w
+pub past_stretched : (V : Assured) (W : Liberties) (o : Tree) (a b : Trees) (r : PastRow V W o a b) → let t = behind V W o a b r in Stretched t.spelling t.symbol (is_lexical (past_kind r)) t.d t.w
 unfolding behind of_head of_next
 past_stretched V W o a b (inl r) =
     let x = resolved r.spelling r.symbol in
@@ -187,22 +216,15 @@ past_unseen V W o a b (inl r) = r.unseen
 past_unseen V W o a b (inr r) = r.unseen
 
 pub past_list : (V : Assured) (W : Liberties) (o : Tree) (a b : Trees) (r : PastRow V W o a b) → ListLess a b (of_behind V W.writable o a b (behind V W o a b r))
-past_list V W o a b r = in_list a b (of_behind V W.writable o a b (behind V W o a b r)) (past_stretched V W o a b r)
+past_list V W o a b r = in_list (is_lexical (past_kind r)) a b (of_behind V W.writable o a b (behind V W o a b r)) (past_stretched V W o a b r)
 
--- of a `var`, wherever it stands
-pub past_var_drops : (V : Assured) (W : Liberties) (o : Tree) (a b : Trees) (r : PastRow V W o a b) → passes_var r ≡ true → let t = behind V W o a b r in DropsLess (resolved t.spelling t.symbol) t.symbol t.d t.w
-unfolding behind of_head of_next
-past_var_drops V W o a b (inl r) v =
-    let x = resolved r.spelling r.symbol in
-    let plain = movable W.switches r.init r.moves in
-    let H = held V a r.before (is_lexical r.kind) r.first in
-    let (less, bound) = head_less x r.init r.head plain r.once (past_suits H x OfValues r.init (evaluated r.head) (and_parts (are_past_by_value H x r.init (evaluated r.head)) (fits_in r.init (evaluated r.head)) r.passed).0) in
-    once_drops r.spelling r.symbol r.first r.init r.head (put_first x r.init r.head) less r.kind (λ e. absurd (true≢false (sym v ∙ ap not e))) r.declared_earlier (head_unnamed x r.head r.once r.init r.initial)
-past_var_drops V W o a b (inr r) v =
-    let x = resolved r.spelling r.symbol in
-    let plain = movable W.switches r.init r.moves in
-    let H = held V a r.before (is_lexical r.kind) r.first in
-    next_drops r.spelling r.symbol r.first r.init r.binds r.value r.last r.once plain (past_suits H x OfValues r.init r.value (and_parts (are_past_by_value H x r.init r.value) (fits_in r.init r.value) r.passed).0) r.kind r.declared_earlier r.other (put_unnamed x r.value r.once r.init r.initial) r.declared_later
+pub no_lexical : (b : Bool) → not b ≡ true → b ≡ false
+no_lexical true e = absurd (true≢false (sym e))
+no_lexical false e = refl
+
+pub past_is_var : (V : Assured) (W : Liberties) (o : Tree) (a b : Trees) (r : PastRow V W o a b) → passes_var r ≡ true → is_lexical (past_kind r) ≡ false
+past_is_var V W o a b (inl r) v = no_lexical (is_lexical r.kind) v
+past_is_var V W o a b (inr r) v = no_lexical (is_lexical r.kind) v
 
 -- of one that stands alone
 pub past_one_suits : (V : Assured) (W : Liberties) (q n w : Tree) (r : PastRow V W q (n ▸ none) (w ▸ none)) (v : passes_var r ≡ true) → let t = one_next V W q n w r v in suits_all (resolved t.spelling t.symbol) t.next.init t.next.value ≡ true

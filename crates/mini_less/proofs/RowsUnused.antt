@@ -51,18 +51,25 @@ left_bound K (t ▸ ts) = refl
 
 -- ---- in a list
 
-pub unused_stretched : (W : Liberties) (p : Tree) (a b : Trees) (e : is_listed_shape (shape_of p) ≡ true) (r : BlockRow W (block (p ▸ a)) (block (p ▸ b))) → let t = row_stretch W p a b e r in Stretched t.spelling t.symbol t.d t.w
+-- of what kind the declaration is
+abbrev pub row_kind : {W : Liberties} {n w : Tree} → BlockRow W n w → VariableDeclarationKind
+row_kind (inl r) = r.kind
+row_kind (inr (inl r)) = r.kind
+row_kind (inr (inr (inl r))) = r.kind
+row_kind (inr (inr (inr r))) = r.kind
+
+pub unused_stretched : (W : Liberties) (p : Tree) (a b : Trees) (e : is_listed_shape (shape_of p) ≡ true) (r : BlockRow W (block (p ▸ a)) (block (p ▸ b))) → let t = row_stretch W p a b e r in Stretched t.spelling t.symbol (is_lexical (row_kind r)) t.d t.w
 unfolding row_stretch stretch names_of
 unused_stretched W p a b e (inl r) =
     let x = resolved r.spelling r.symbol in
     let lost = kind_lost r.spelling r.symbol r.kind (λ K. declared_one K x r.init ▸ none) (λ K. expression_statement r.init ▸ none) (value_names r.kind x r.symbol refl r.init r.unused.initial) (value_vars x r.init) in
-    record { drops = λ q l a before after is s. value_drops r.spelling r.symbol r.kind r.init r.unused.initial; lexical = lost.0; hoisted = lost.1; bound = refl }
+    record { drops = λ p. value_drops r.spelling r.symbol r.kind r.init r.unused.initial; lexical = lost.0; hoisted = lost.1; bound = refl }
 unused_stretched W p a b e (inr (inl r)) =
     let x = resolved r.spelling r.symbol in
     let earlier = r.unused.declared_earlier in
     let later = r.unused.declared_later in
     let lost = kind_lost r.spelling r.symbol r.kind (λ K. declared_among K x r.first r.init r.last ▸ none) (λ K. declared_left K (append r.first r.last) ▸ none) (idle_names r.kind x r.symbol refl r.first r.init r.last (idle_vanishes r.init r.idle) earlier later) (idle_vars x r.first r.init r.last earlier later) in
-    record { drops = λ q l a before after is s. idle_drops r.spelling r.symbol r.kind r.first r.init r.last earlier later; lexical = lost.0; hoisted = lost.1; bound = left_bound r.kind (append r.first r.last) }
+    record { drops = λ p. idle_drops r.spelling r.symbol r.kind r.first r.init r.last earlier later; lexical = lost.0; hoisted = lost.1; bound = left_bound r.kind (append r.first r.last) }
 unused_stretched W p a b e (inr (inr (inl r))) = by (taken x r.init r.head r.taken)
   where
     x : Name
@@ -83,13 +90,13 @@ unused_stretched W p a b e (inr (inr (inl r))) = by (taken x r.init r.head r.tak
     same : SameHead r.head put
     same = same_head x r.init r.head put (taken_names Let x r.symbol refl none r.init r.head plain r.initial refl r.taken refl)
 
-    by : Taken x r.init r.head → Stretched r.spelling r.symbol (declared_among r.kind x r.first r.init none ▸ (r.head ▸ none)) (declared_left r.kind r.first ▸ (put ▸ none))
+    by : Taken x r.init r.head → Stretched r.spelling r.symbol (is_lexical r.kind) (declared_among r.kind x r.first r.init none ▸ (r.head ▸ none)) (declared_left r.kind r.first ▸ (put ▸ none))
     by (inl (o, s)) =
         let (less, bound) = head_less x r.init r.head plain o (passed_suits x OfValues r.init (evaluated r.head) s) in
         head_stretched r.spelling r.symbol r.kind r.first r.init r.head less bound r.declared_earlier unnamed lexical same (declared_other x declared.Hoisted put unnamed)
     by (inr (c, (o, s))) =
         let h = hidden x r.head o in
-        drops_stretched r.spelling r.symbol r.kind r.first r.init r.head (λ q l a before after is s. hidden_drops r.spelling r.symbol r.kind r.first r.init r.head c h r.declared_earlier unnamed) ((hidden_told x r.init c r.head h).likewise.kept.names declared.Bound) r.declared_earlier lexical same (declared_other x declared.Hoisted put unnamed)
+        drops_stretched r.spelling r.symbol r.kind r.first r.init r.head (λ p. hidden_drops r.spelling r.symbol r.kind r.first r.init r.head c h r.declared_earlier unnamed) ((hidden_told x r.init c r.head h).likewise.kept.names declared.Bound) r.declared_earlier lexical same (declared_other x declared.Hoisted put unnamed)
 unused_stretched W p a b e (inr (inr (inr r))) =
     let x = resolved r.spelling r.symbol in
     next_stretched r.spelling r.symbol r.kind r.first r.init r.binds r.value r.last r.once (movable W.switches r.init r.moves) (passed_suits x OfValues r.init r.value (value_passed x r.init r.value r.passed)) r.declared_earlier r.initial r.other r.declared_later
@@ -99,7 +106,7 @@ abbrev losing : (W : Liberties) (p : Tree) (a b : Trees) (e : is_listed_shape (s
 losing W p a b e r = of_stretch W.writable p a b (row_stretch W p a b e r)
 
 pub unused_list : (W : Liberties) (p : Tree) (a b : Trees) (e : is_listed_shape (shape_of p) ≡ true) (r : BlockRow W (block (p ▸ a)) (block (p ▸ b))) → ListLess a b (losing W p a b e r)
-unused_list W p a b e r = in_list a b (losing W p a b e r) (unused_stretched W p a b e r)
+unused_list W p a b e r = in_list (is_lexical (row_kind r)) a b (losing W p a b e r) (unused_stretched W p a b e r)
 
 -- no direct eval stands in what is read
 pub unused_unseen : (W : Liberties) (n w : Tree) → BlockRow W n w → has_eval n ≡ false
