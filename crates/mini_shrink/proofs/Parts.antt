@@ -116,8 +116,8 @@ kind_of true = declared.Hoisted
 kind_of false = declared.Lexical
 
 module _ (k : ℕ) where
-  -- what spells the names that a part declares around it: a branch of an `if`, which stands alone, has
-  -- its lexical names for itself
+  -- what spells the names that a part declares around it: a branch of an `if`, which stands alone,
+  -- has its lexical names for itself
   abbrev declares : Use → Bool → Bool
   declares u true = true
   declares u false = not (is_alone u)
