@@ -44,7 +44,7 @@ TIMES = 10  # times the median that an input may take a byte
 LONG = 200_000  # bytes up to which lists are made longer
 SECONDS = 120  # that a run may take
 NOTE = re.compile(rb"refused: (BadShape|Unsupported|TooDeep|EarlyName|EarlyJump) at [^\n]*\n")
-MEMBERS = ["kept", "passes", "program", "settled", "steady", "symbols"]
+MEMBERS = ["kept", "passes", "program", "settled", "symbols"]
 TOKEN = re.compile(rb'"(?:[^"\\]|\\.)*"|[\w.+-]+|[^\w\s]')
 
 # ---- parts of programs
