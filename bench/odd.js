@@ -31,7 +31,7 @@ const GIVEN = {
 
 function answerText(source, after, said = {}) {
   const { kept, symbols, passes, settled, program } = outcomeOf(source, after, said);
-  return `{"kept":${kept},"passes":${passes},"program":${program},"settled":${settled},"steady":true,"symbols":${symbols}}\n`;
+  return `{"kept":${kept},"passes":${passes},"program":${program},"settled":${settled},"symbols":${symbols}}\n`;
 }
 
 // A run in which the calls of these numbers fail.

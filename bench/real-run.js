@@ -45,7 +45,6 @@ function* faultsOf(input, answer) {
   if (!areAmong(answer.symbols, countSymbols(input)) || answer.symbols.length !== countSymbols(after)) yield "symbols";
   if (text(written(after)) !== text(after)) yield "another field, or one too few";
   if (!answer.settled) yield "not settled";
-  if (!answer.steady) yield "not steady";
   if (weigh(after) + answer.passes - 1 > weigh(input)) yield `weighs ${weigh(after)}, and ${weigh(input)} before`;
   if (answer.passes === 1 && text(after) !== text(written(input))) yield "one pass, and a change";
 }

@@ -57,7 +57,7 @@ function rewritten(ast, json, options) {
  * @param {string} code its text
  * @param {object} options those of `minify`
  * @param {object[]} warnings takes in those of the adapter
- * @returns {{program: object, kept: number[], passes: number, settled: boolean, steady: boolean}}
+ * @returns {{program: object, kept: number[], passes: number, settled: boolean}}
  * @throws {Refusal}
  */
 function answerFor(ast, code, options, warnings) {

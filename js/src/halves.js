@@ -52,7 +52,6 @@ function joined(first, one, other) {
     kept: [...one.kept, ...other.kept.slice(1).map((number) => number + shift)],
     passes: Math.max(one.passes, other.passes),
     settled: one.settled && other.settled,
-    steady: one.steady && other.steady,
   };
 }
 

@@ -45,10 +45,10 @@ function changed(code, options, warnings) {
   const positions = options.sourceMap ? [] : null;
   const text = guarded(program, positions);
   const head = headOf(code, comments);
-  const { kept, passes, settled, steady } = answer;
+  const { kept, passes, settled } = answer;
   const parts = { code, ast, kept, program, text, positions, head };
   const map = options.sourceMap ? mapOf(parts, options, warnings) : null;
-  return { code: head + text, map, stats: { passes, settled, steady } };
+  return { code: head + text, map, stats: { passes, settled } };
 }
 
 function mapOf(parts, { file, inputMap }, warnings) {
@@ -86,8 +86,7 @@ function checkCall(code, options) {
  * @param {string} [options.program] where the program is (`MINI_APP`, crates/mini_app/out/mini_app)
  * @returns {{code: string, map: object | null, refused: Refusal | null, warnings: object[], stats:
  *   object}} `refused` says why `code` is as it was; a warning has `code`, `message`, `line` and
- *   `column`; `stats` has `bytesBefore`, `bytesAfter`, and of the answer `passes`, `settled` and
- *   `steady`
+ *   `column`; `stats` has `bytesBefore`, `bytesAfter`, and of the answer `passes` and `settled`
  * @throws {TypeError} where the call itself is wrong
  */
 function minify(code, options = {}) {

@@ -29,7 +29,7 @@ test("none that declares something outside functions is, and no module", () => {
 test("the numbers of the halves are those of the whole", () => {
   const whole = ofScript("'use strict'; a(function () { b(/c/); }); d(() => e`f`); g(class {});");
   const parts = halves(whole);
-  const answers = parts.map((program) => ({ program, kept: numbered(program).map((_, at) => at), passes: 1, settled: true, steady: true }));
+  const answers = parts.map((program) => ({ program, kept: numbered(program).map((_, at) => at), passes: 1, settled: true }));
   const { program, kept } = joined(parts[0], ...answers);
   assert.equal(print(program), print(whole));
   assert.deepEqual(kept, numbered(whole).map((_, at) => at));

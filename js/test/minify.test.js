@@ -7,7 +7,7 @@ test("the result has the code and what it took", () => {
   const { code, map, refused, warnings, stats } = minify("if (!a) b(); else c();");
   assert.equal(code, "a?c():b()");
   assert.deepEqual([map, refused, warnings], [null, null, []]);
-  assert.deepEqual(stats, { bytesBefore: 22, bytesAfter: 9, passes: 2, settled: true, steady: true });
+  assert.deepEqual(stats, { bytesBefore: 22, bytesAfter: 9, passes: 2, settled: true });
 });
 
 test("a refusal has its code, its place and what the program said", () => {

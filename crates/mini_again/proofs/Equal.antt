@@ -43,7 +43,7 @@ is_identifier_again ρ x (node h (y ∷ (z ∷ zs)) n ts) e = cc
 is_identifier_again ρ x (node h (y ∷ []) (suc n) ts) e = cc
 is_identifier_again ρ x (node h (y ∷ []) zero (t ▸ ts)) e = cc
 
-alike : (r q : Bool) → (r ≡ true → q ≡ true) → (q ≡ true → r ≡ true) → r ≡ q
+pub alike : (r q : Bool) → (r ≡ true → q ≡ true) → (q ≡ true → r ≡ true) → r ≡ q
 alike true q f g = sym (f refl)
 alike false true f g = absurd (false≢true (g refl))
 alike false false f g = refl

@@ -75,3 +75,11 @@ pub mod OwnAgain
 pub mod InsideAgain
 pub mod PastInsideAgain
 pub mod Bodies
+pub mod Writable
+pub mod LawForeignAgain
+pub mod LawSharedAgain
+pub mod Bindings
+pub mod MentionsAgain
+pub mod ForeignAgain
+pub mod BodiesAgain
+pub mod Carrying

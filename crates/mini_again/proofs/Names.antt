@@ -1,5 +1,5 @@
 -- A symbol that is renamed is there where the symbol is.
-use Rattle.std.specs.Prelude.{◌≡◌, refl, Bool, true, false, if◌then◌else◌, Option, Some, None, is_some, is_none}
+use Rattle.std.specs.Prelude.{◌≡◌, refl, Bool, true, false, if◌then◌else◌, Option, Some, None, is_some, is_none, List, map}
 use Rattle.mini_model.specs.declared.name.Name.{Name}
 use Rattle.mini_model.specs.declared.name.SymbolId.{SymbolId}
 use Rattle.mini_laws.specs.Renaming.{rename_name, rename_symbol}
@@ -31,6 +31,12 @@ if_again ρ false t u = refl
 pub if_all_again : (ρ : Renaming) (b : Bool) (ts us : Trees) → (if b then all_again ρ ts else all_again ρ us) ≡ all_again ρ (if b then ts else us)
 if_all_again ρ true ts us = refl
 if_all_again ρ false ts us = refl
+
+-- and of two lists of names
+
+pub if_names_again : (ρ : Renaming) (b : Bool) (xs ys : List Name) → (if b then map (rename_name ρ.symbol) xs else map (rename_name ρ.symbol) ys) ≡ map (rename_name ρ.symbol) (if b then xs else ys)
+if_names_again ρ true xs ys = refl
+if_names_again ρ false xs ys = refl
 
 -- the names whose other ones P holds of
 abbrev pub names_with_others : Renaming → (Name → Bool) → Name → Bool

@@ -1,11 +1,18 @@
 -- What the rows write for a node they write for the node that is read again.
-use Rattle.std.specs.Prelude.{◌≡◌, ◌⊎◌, ℕ}
+use Rattle.std.specs.Prelude.{◌≡◌, ◌⊎◌, ℕ, Bool, map}
+use Rattle.std.specs.List.{list_any}
 use Rattle.mini_model.specs.declared.place.Position.{Position}
 use Rattle.mini_model.specs.Tree.{Tree}
-use Rattle.mini_laws.specs.Renaming.{rename_variable}
+use Rattle.mini_laws.specs.Bodies.{Body, bodies_in}
+use Rattle.mini_laws.specs.Foreign.{is_foreign, is_write, all_writes, lexical_variables}
+use Rattle.mini_laws.specs.Mentions.{is_among}
+use Rattle.mini_laws.specs.Renaming.{rename_name, rename_variable, TellsApart}
+use Rattle.mini_laws.specs.Shared.{is_shared}
+use Rattle.mini_model.specs.declared.name.Name.{Name}
 use Rattle.mini_laws.specs.Value.{VariableSet, Variable}
 use Rattle.mini_rows.specs.Redex.{Rewrites, HasNoRedex}
 use Rattle.mini_kept.specs.Without.{Assured, BodySets}
+use Rattle.mini_laws.specs.Writable.{writable_in}
 use Rattle.mini_model.specs.Rewriting.{Everywhere}
 use Rattle.mini_rows.specs.Inside.{InsideContracts}
 use Rattle.mini_rows.specs.OwnArrows.{OwnCode}
@@ -19,7 +26,7 @@ use Rattle.mini_rows.specs.PastModules.{PastModule}
 use Rattle.mini_rows.specs.PastStatics.{PastStatic}
 use Rattle.mini_rows.specs.Steady.{OwnRows, SteadyRow, LexicalRows}
 use Rattle.mini_rows.specs.Switches.{Switches, Liberties, liberties}
-use Rattle.mini_again.specs.Again.{Renaming, again, with_others_in, assured_with_others, sets_with_others, liberties_with_others_in}
+use Rattle.mini_again.specs.Again.{Renaming, again, other_number, with_others_in, assured_with_others, sets_with_others, liberties_with_others_in}
 
 -- of all rows but those that rest on what is known of the body around
 abbrev pub RewritesSurvive : Type 0
@@ -74,3 +81,27 @@ abbrev pub NothingIsLeftInBodies : Type 0
 NothingIsLeftInBodies =
     (ρ : Renaming) (R S : BodySets) → HasOtherSets ρ R S → (o : Switches) (W V : VariableSet) → HasOthers ρ W V → (p : Position) (t : Tree)
     → Everywhere (λ q n. (w : Tree) → BodyRewrites S (liberties o V) q n w → ⊥) p (again ρ t) → Everywhere (λ q n. (w : Tree) → BodyRewrites R (liberties o W) q n w → ⊥) p t
+
+-- ---- what a program tells
+
+-- it lets a variable be written where the program that is read again lets the other one be
+abbrev pub WritableSurvives : Type 0
+WritableSurvives = (ρ : Renaming) (t : Tree) → HasOthers ρ (writable_in t) (writable_in (again ρ t))
+
+-- its bodies are those with other numbers and roots
+abbrev pub body_again : Renaming → Body → Body
+body_again ρ b = record { number = other_number ρ b.number; kind = b.kind; root = again ρ b.root; strict = b.strict; asks_this = b.asks_this }
+
+abbrev pub BodiesAgain : Type 0
+BodiesAgain = (ρ : Renaming) (t : Tree) → bodies_in (again ρ t) ≡ map (body_again ρ) (bodies_in t)
+
+-- Where numbers are told apart, a variable is shared with a body and foreign to it where the other
+-- one is with the body with the other number, and written and lexical where the other one is
+pub record ToldAgain (ρ : Renaming) (t : Tree) : Type 0 where
+  pub shared : (b : ℕ) (x : Name) → is_shared (again ρ t) (other_number ρ b) (rename_name ρ.symbol x) ≡ is_shared t b x
+  pub foreign : (b : ℕ) (x : Name) → is_foreign (again ρ t) (other_number ρ b) (rename_name ρ.symbol x) ≡ is_foreign t b x
+  pub written : (x : Name) → list_any (is_write (rename_name ρ.symbol x)) (all_writes (again ρ t)) ≡ list_any (is_write x) (all_writes t)
+  pub lexical : (b : Bool) (x : Name) → is_among (rename_name ρ.symbol x) (lexical_variables b (again ρ t)) ≡ is_among x (lexical_variables b t)
+
+abbrev pub ToldSurvives : Type 0
+ToldSurvives = (ρ : Renaming) → TellsApart ρ.number → (t : Tree) → ToldAgain ρ t

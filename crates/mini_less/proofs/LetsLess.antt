@@ -1,12 +1,11 @@
 -- A `let` and an assignment of a value after it ask less as one.
-use Rattle.std.specs.Prelude.{ℕ, ℤ, ◌≡◌, refl, nat_eq, pos, Bool, true, false, ◌||◌, ◌&&◌, List, [], ◌++◌}
+use Rattle.std.specs.Prelude.{ℕ, ℤ, ◌≡◌, refl, nat_eq, Bool, true, false, ◌||◌, ◌&&◌, List, [], ◌++◌}
 use Rattle.std.proofs.Common.{ap, ◌∙◌, arith, sym, true≢false}
 use Rattle.mini_model.specs.declared.kind.VariableDeclarationKind.TheVariants.{Var, Let, Const}
 use Rattle.mini_model.specs.declared.name.Name.{Name}
-use Rattle.mini_model.specs.declared.operator.UnaryOperator.TheVariants.{LogicalNot, Void}
 use Rattle.mini_model.specs.declared.shape.Shape.TheVariants as shape
 use Rattle.mini_model.specs.Paths.{append}
-use Rattle.mini_model.specs.Tree.{Tree, Trees, none, ◌▸◌, listed, absent, leaf}
+use Rattle.mini_model.specs.Tree.{Tree, Trees, none, ◌▸◌, listed, absent}
 use Rattle.mini_laws.specs.declared.names.Declared.{Declared}
 use Rattle.mini_laws.specs.declared.names.Declared.TheVariants as declared
 use Rattle.mini_laws.specs.declared.names.Use.{Use}
@@ -21,18 +20,16 @@ use Rattle.mini_laws.specs.Shared.{names_arguments}
 use Rattle.mini_laws.specs.Symbols.{declared as declared_in, times}
 use Rattle.mini_laws.specs.Value.{VariableSet}
 use Rattle.mini_shrink.specs.Facts.{Fact, question}
-use Rattle.mini_shrink.specs.Pace.{Silent, followed, ends_after, Setting, below, Question, pace, reads_if}
-use Rattle.mini_shrink.specs.Questions.{Own, asks, early}
+use Rattle.mini_shrink.specs.Pace.{Silent, followed, ends_after, Setting, pace}
 use Rattle.mini_shrink.proofs.Owns.{or_implied}
 use Rattle.mini_shrink.proofs.Paces.{same}
 use Rattle.mini_rows.specs.DeadCases.{Known, a_number, a_text, a_truth, a_null, undefined, known}
 use Rattle.mini_rows.specs.Lets.{Row70Let}
 use Rattle.mini_rows.specs.Lists.{EachIn, EachOf, Statement, Heading, Going, Declaring, Looping, Beginning, Alone, Init, Before, begun, begun_without, begins_well, binding, declarator, declaration, assigned, resolved, sequence, are_unscoped}
-use Rattle.mini_rows.specs.Sketches.{Null, Number, String, Unary}
+use Rattle.mini_rows.specs.Unused.{is_closed}
 use Rattle.mini_less.specs.Families.{NeighboursLess}
-use Rattle.mini_less.specs.Less.{TellsPlainly}
+use Rattle.mini_less.proofs.ClosedTold.{closed_silent}
 use Rattle.mini_less.proofs.DeclarationsLess.{IsRead, at, valued, root_silent, valued_says, absent_silent}
-use Rattle.mini_less.proofs.EachFact.{by_fact}
 use Rattle.mini_less.proofs.EntersLess.{alone_in_order, begun_parts}
 use Rattle.mini_less.proofs.LessTold.{Likewise, LessTold, over_less}
 use Rattle.mini_less.proofs.ListHeads.{first_fits, head_unscoped}
@@ -40,33 +37,6 @@ use Rattle.mini_less.proofs.ListMade.{ListMade, StretchLess, made_stretch, made_
 use Rattle.mini_less.proofs.StretchTold.{of_stretch, of_one, in_turn, stretch_told_less}
 
 -- ---- a value that is written out tells nothing
-
-abbrev Unspoken : Setting → Environment → Tree → Question → Type 0
-Unspoken c env t q = pace q c env t ≡ Silent
-
-found_silent : (o : Own) → TellsPlainly o → (c : Setting) (env : Environment) (k : Known) → Unspoken c env (known k) (asks o)
-unfolding pace scopes_by
-found_silent o t c env (a_number n) = ap (λ b. followed (reads_if b) Silent) (t.plain c env (Number n) none tt)
-found_silent o t c env (a_text s) = ap (λ b. followed (reads_if b) Silent) (t.plain c env (String s) none tt)
-found_silent o t c env a_null = ap (λ b. followed (reads_if b) Silent) (t.plain c env Null none tt)
-found_silent o t c env (a_truth true) =
-    λ j. followed (reads_if (t.plain c env (Unary LogicalNot) (leaf (shape.NumericLiteral (pos 0)) ▸ none) tt j)) (followed (ends_after false (followed (reads_if (t.plain (below false c (shape.UnaryExpression LogicalNot) 0 0) (env ++ []) (Number (pos 0)) none tt j)) Silent)) Silent)
-found_silent o t c env (a_truth false) =
-    λ j. followed (reads_if (t.plain c env (Unary LogicalNot) (leaf (shape.NumericLiteral (pos 1)) ▸ none) tt j)) (followed (ends_after false (followed (reads_if (t.plain (below false c (shape.UnaryExpression LogicalNot) 0 0) (env ++ []) (Number (pos 1)) none tt j)) Silent)) Silent)
-found_silent o t c env undefined =
-    λ j. followed (reads_if (t.plain c env (Unary Void) (leaf (shape.NumericLiteral (pos 0)) ▸ none) tt j)) (followed (ends_after false (followed (reads_if (t.plain (below false c (shape.UnaryExpression Void) 0 0) (env ++ []) (Number (pos 0)) none tt j)) Silent)) Silent)
-
-unread : (b s : ℕ) (c : Setting) (env : Environment) (k : Known) → Unspoken c env (known k) (early b s)
-unfolding pace scopes_by
-unread b s c env (a_number n) = refl
-unread b s c env (a_text t) = refl
-unread b s c env a_null = refl
-unread b s c env (a_truth true) = refl
-unread b s c env (a_truth false) = refl
-unread b s c env undefined = refl
-
-pub known_silent : (g : Fact) (b s : ℕ) (c : Setting) (env : Environment) (k : Known) → pace (question g b s) c env (known k) ≡ Silent
-known_silent g b s c env k = by_fact (Unspoken c env (known k)) (λ o t z. found_silent o t c env k) (λ b s. unread b s c env k) g b s
 
 -- whatever is so of each form of it
 each_known : (P : Tree → Type 0) → ((n : ℤ) → P (known (a_number n))) → ((s : List ℕ) → P (known (a_text s))) → P (known (a_truth true)) → P (known (a_truth false)) → P (known a_null) → P (known undefined) → (k : Known) → P (known k)
@@ -76,6 +46,9 @@ each_known P a b c d e f (a_truth true) = c
 each_known P a b c d e f (a_truth false) = d
 each_known P a b c d e f a_null = e
 each_known P a b c d e f undefined = f
+
+pub known_silent : (g : Fact) (b s : ℕ) (c : Setting) (env : Environment) (k : Known) → pace (question g b s) c env (known k) ≡ Silent
+known_silent g b s c env k = closed_silent g b s (known k) (each_known (λ t. is_closed t ≡ true) (λ n. refl) (λ s. refl) refl refl refl refl k) c env
 
 known_inner : (k : Known) → has_inner (known k) ≡ false
 unfolding has_inner

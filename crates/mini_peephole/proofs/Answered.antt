@@ -18,13 +18,20 @@ use Rattle.mini_peephole.specs.Answer.{IsWeighed}
 use Rattle.mini_peephole.specs.Minified.{IsAnswer, IsRewriting, IsWeighedAnswer}
 use Rattle.mini_peephole.specs.declared.minify.Weighed.{Weighed}
 use Rattle.mini_peephole.specs.declared.minify.Minified.{Minified}
+use Rattle.mini_peephole.specs.ComesBack.{ComesBack}
+use Rattle.mini_peephole.proofs.ComesBack.{comes_back}
+use Rattle.mini_peephole.proofs.Survives.{rewritten_survives}
 use Rattle.mini_peephole.proofs.Faith.{faithful, passes_bounded, weighs, weighs_after}
 
 pub answer_is_faithful : (d : Data) (o : CompressOptions) (t : Tree) (n : ℕ) (made : Result Minified MinifyError) → Fits d → program_at o.max_depth d ≡ Ok (t, n) → IfOk made (λ m. IsAnswer t o m) → IfOk made (λ m. Faithful d o m)
-answer_is_faithful d o t n made small read = IfOk-weaker {X = Minified} {Y = MinifyError} made _ _ (λ m a. faithful d o m t (o.max_depth, n, read) a.rewriting a.free (accepted_light d t (o.max_depth, n, read) small))
+answer_is_faithful d o t n made small read = IfOk-weaker {X = Minified} {Y = MinifyError} made _ _ (λ m a. faithful d o m t (o.max_depth, n, read) a.free a.rewriting (accepted_light d t (o.max_depth, n, read) small))
 
 pub answer_is_bounded : (d : Data) (o : CompressOptions) (t : Tree) (n : ℕ) (made : Result Minified MinifyError) → program_at o.max_depth d ≡ Ok (t, n) → IfOk made (λ m. IsAnswer t o m) → IfOk made (λ m. PassesBounded d o m)
-answer_is_bounded d o t n made read = IfOk-weaker {X = Minified} {Y = MinifyError} made _ _ (λ m a. passes_bounded d o m t (o.max_depth, n, read) a.rewriting)
+answer_is_bounded d o t n made read = IfOk-weaker {X = Minified} {Y = MinifyError} made _ _ (λ m a. passes_bounded d o m t (o.max_depth, n, read) a.free a.rewriting)
+
+-- a settled answer comes back
+pub answer_comes_back : (d : Data) (o : CompressOptions) (t : Tree) (n : ℕ) (made : Result Minified MinifyError) → Fits d → program_at o.max_depth d ≡ Ok (t, n) → IfOk made (λ m. IsAnswer t o m) → IfOk made (λ m. ComesBack o m)
+answer_comes_back d o t n made small read = IfOk-weaker {X = Minified} {Y = MinifyError} made _ _ (λ m a. comes_back rewritten_survives d o m t (o.max_depth, n, read) a.free a.rewriting (accepted_light d t (o.max_depth, n, read) small))
 
 weighed : (d : Data) (o : CompressOptions) (t : Tree) (n : ℕ) (w : Weighed) → Fits d → program_at o.max_depth d ≡ Ok (t, n) → IsWeighedAnswer t o w → IsWeighed d o w.minified w.before w.after
 weighed d o t n w small read a =
@@ -32,11 +39,11 @@ weighed d o t n w small read a =
     let light = accepted_light d t accepted small in
     let r = a.answer.rewriting in
     record {
-      faithful = faithful d o w.minified t accepted r a.answer.free light;
-      passes = passes_bounded d o w.minified t accepted r;
+      faithful = faithful d o w.minified t accepted a.answer.free r light;
+      passes = passes_bounded d o w.minified t accepted a.answer.free r;
       minified = record { input = t; accepted = accepted; answer = a.answer };
-      before_is = weighs d o w.minified t accepted r light w.before a.before;
-      after_is = weighs_after d o w.minified t accepted r light w.after a.after;
+      before_is = weighs d o w.minified t accepted a.answer.free r light w.before a.before;
+      after_is = weighs_after d o w.minified t accepted a.answer.free r light w.after a.after;
     }
 
 pub answer_is_weighed : (d : Data) (o : CompressOptions) (t : Tree) (n : ℕ) (made : Result Weighed MinifyError) → Fits d → program_at o.max_depth d ≡ Ok (t, n) → IfOk made (λ w. IsWeighedAnswer t o w) → IfOk made (λ w. IsWeighed d o w.minified w.before w.after)

@@ -31,30 +31,33 @@ use Rattle.mini_kept.specs.Declaring.{declared}
 use Rattle.mini_kept.specs.Frames.{frames_in}
 use Rattle.mini_kept.specs.ShownFrames.{KeyGivenUnder, gone_from, FramesShown}
 use Rattle.mini_laws.specs.Writable.{writable_by, writable_in}
-use Rattle.mini_kept.specs.Loosely.{symbol, LawfulWith, undeclared, ProgramIsKeptUnder}
+use Rattle.mini_kept.specs.Loosely.{symbol, undeclared, ProgramIsKeptUnder}
 use Rattle.mini_kept.specs.Rooted.{LawfulRooted}
-use Rattle.mini_kept.specs.Without.{BodySets, none_steady, Within, Steadies, Begins, Unseen, AlikeUnder}
+use Rattle.mini_kept.specs.Without.{BodySets, Within, Steadies, Begins, Unseen, AlikeUnder}
 use Rattle.mini_kept.proofs.Gone.{avoids}
-use Rattle.mini_kept.proofs.Loosely.{loose_is_steady}
-use Rattle.mini_kept.proofs.Rooted.{rooted_keeps, steady_is_rooted}
+use Rattle.mini_kept.proofs.Rooted.{rooted_keeps}
 use Rattle.mini_kept.proofs.ReadBack.{IsRead, IsReadBack, read_back}
 use Rattle.mini_kept.proofs.Refixed.{avoids_all, roots_avoid, refixed}
+use Rattle.mini_kept.proofs.SameEarly.{names_resolved}
 use Rattle.mini_kept.proofs.SameShape.{shaped_resolved}
 use Rattle.mini_kept.proofs.Texts.{text}
 use Rattle.mini_kept.proofs.Undeclared.{unshared, native}
-use Rattle.mini_kept.proofs.WithoutLists.{PartEach, none_part, each_itself, kept_stands}
+use Rattle.mini_kept.proofs.WithoutLists.{within_itself, kept_stands}
+use Rattle.mini_shrink.specs.Exact.{exactly_of}
 use Rattle.mini_writer.specs.Written.{program_data}
-use Rattle.mini_tree.specs.Passes.{MakesPasses}
-use Rattle.mini_peephole.specs.Environments.{name_of, shared_by, foreign_to, is_declared, initialised_for, asks_as, steady_in, environment_with}
+use Rattle.mini_tree.specs.Passes.{PassesReach, MakesPasses}
+use Rattle.mini_peephole.specs.Environments.{name_of, shared_by, foreign_to, is_declared, initialised_at, initialised_for, asks_as, steady_in, environment_with}
 use Rattle.mini_laws.specs.Foreign.{is_foreign}
 use Rattle.mini_laws.specs.Shared.{is_shared}
-use Rattle.mini_peephole.specs.AnyPasses.{EachBegins, SteadyPassesFaithful, NothingLeft}
+use Rattle.mini_shrink.specs.SameForeign.{DeclaresOnce}
+use Rattle.mini_peephole.specs.AnyPasses.{KeepsKnown, PassesFaithful, NothingLeft}
 use Rattle.mini_peephole.specs.Minified.{IsWritten}
 use Rattle.mini_rows.specs.Switches.{let_go}
 use Rattle.mini_peephole.specs.Faithful as faith
-use Rattle.mini_peephole.specs.Faithful.{switches, symbols_of, HasNoRepeat, BeginsWithProgram, AreNamed, IsSameBody, BodiesAreSame, IsFaithfulUnder, FaithfulWith}
+use Rattle.mini_peephole.specs.Faithful.{switches, symbols_of, HasNoRepeat, BeginsWithProgram, AreNamed, IsSameBody, BodiesAreSame, IsFaithfulWith, FaithfulWith}
 use Rattle.mini_peephole.specs.declared.minify.Minified.{Minified}
-use Rattle.mini_peephole.proofs.Chains.{Any, any_lawful, any_reach, each_begins, open_in}
+use Rattle.mini_peephole.proofs.Chains.{EachKnown, known_more, each_known, Any, any_lawful, any_reach, open_in}
+use Rattle.mini_peephole.proofs.Known.{known_is_so}
 use Rattle.mini_peephole.proofs.Repeats.{no_repeat}
 use Rattle.mini_peephole.proofs.Written.{is_read, free_of, read_again}
 
@@ -93,9 +96,9 @@ none_asks n (b ∷ bs) e c zero below at = ap (asks_as n) (sym at) ∙ (or_parts
 none_asks n (b ∷ bs) e c (suc i) below at = none_asks n bs (or_parts (asks_as n b) (list_any (asks_as n) bs) e).1 c i (omega (arith, below)) at
 
 -- what is known of a body of a program is so where it runs
-steadies : (u : Tree) (S : BodySets) → PartEach S (steady_in u) → (b c : Body) → Contains (bodies_in u) c → b.number ≡ c.number → b.asks_this ≡ c.asks_this → (fixed : Variable → Writing) → Steadies (S b.number) (record { shared = shared_by u c; foreign = foreign_to u c; fixed = fixed; asks_this = b.asks_this })
-steadies u S f b c (i, below, at) e asks fixed =
-    let known : Within (S b.number) (steady_in u c.number) = subst (λ n. Within (S b.number) (steady_in u n)) e (f b.number) in
+steadies : (u : Tree) (b c : Body) → Contains (bodies_in u) c → b.number ≡ c.number → b.asks_this ≡ c.asks_this → (fixed : Variable → Writing) → Steadies (steady_in u b.number) (record { shared = shared_by u c; foreign = foreign_to u c; fixed = fixed; asks_this = b.asks_this })
+steadies u b c (i, below, at) e asks fixed =
+    let known : Within (steady_in u b.number) (steady_in u c.number) = subst (λ n. Within (steady_in u b.number) (steady_in u n)) e (within_itself (steady_in u b.number)) in
     record {
       steady = λ x h. untold (is_declared x) (is_foreign u c.number (name_of x)) (known.steady x h);
       unshared = λ x h. untold (is_declared x) (is_shared u c.number (name_of x)) (known.unshared x h);
@@ -106,12 +109,12 @@ steadies u S f b c (i, below, at) e asks fixed =
     asked h = sym (ap (λ g. g && c.asks_this) (equal_itself c.number)) ∙ h
 
 -- and it starts where those are initialised
-begun : (u : Tree) (S : BodySets) → PartEach S (steady_in u) → (b c : Body) → b.number ≡ c.number → Begins (S b.number) (initialised_for u c)
-begun u S f b c e x h = (subst (λ n. Within (S b.number) (steady_in u n)) e (f b.number)).initial x h
+begun : (u : Tree) (b c : Body) → b.number ≡ c.number → Begins (steady_in u b.number) (initialised_for u c)
+begun u b c e x h = subst (λ n. initialised_at u n x ≡ true) e h
 
-module _ (K : Shape → Bool) (S : BodySets) where
-  same_body : (t u : Tree) → ProgramIsKeptUnder K (writable_by t) S t u → PartEach S (steady_in u) → Scoped Read [] t → Distinct (declared_symbols t) → Scoped Read [] u → (b c : Body) → Contains (bodies_in u) c → AlikeUnder (writable_by t) S (undeclared u) b c → IsSameBody t u b c
-  same_body t u kept part vt d v b c there a =
+module _ (K : Shape → Bool) where
+  same_body : (t u : Tree) → ProgramIsKeptUnder K (writable_by t) (steady_in u) t u → Scoped Read [] t → Distinct (declared_symbols t) → Scoped Read [] u → (b c : Body) → Contains (bodies_in u) c → AlikeUnder (writable_by t) (steady_in u) (undeclared u) b c → IsSameBody t u b c
+  same_body t u kept vt d v b c there a =
       let e = environment_with t (shared_by u c) (foreign_to u c) b in
       let f = environment_with u (shared_by u c) (foreign_to u c) c in
       let X = initialised_for u c in
@@ -124,26 +127,25 @@ module _ (K : Shape → Bool) (S : BodySets) where
         same = record {
           by = λ vars this answers turns i.
               let again = refixed e f.fixed (undeclared u) (λ x h. (λ k. fixed_in (a.strict k) t x) ∙ kept.fixities vt d c.strict x h) c.kind c.root root vars this answers turns ∙ (λ k. Run (modes k) c.kind c.root vars this answers turns) in
-              subst (λ r. (Run e b.kind b.root vars this answers turns ≡ None) ⊎ (Run e b.kind b.root vars this answers turns ≡ r)) again ((a.same e (record { unseen = record { shared = seen.shared; foreign = seen.foreign }; writable = λ x h. open_in b.strict t x h }) (steadies u S part b c there a.number a.asks_this (fixed_in b.strict t)) X (begun u S part b c a.number)).by vars this answers turns i);
+              subst (λ r. (Run e b.kind b.root vars this answers turns ≡ None) ⊎ (Run e b.kind b.root vars this answers turns ≡ r)) again ((a.same e (record { unseen = record { shared = seen.shared; foreign = seen.foreign }; writable = λ x h. open_in b.strict t x h }) (steadies u b c there a.number a.asks_this (fixed_in b.strict t)) X (begun u b c a.number)).by vars this answers turns i);
         };
       }
 
-  bodies_same : (t u : Tree) → ProgramIsKeptUnder K (writable_by t) S t u → PartEach S (steady_in u) → IsWellShaped t → Scoped Read [] t → Distinct (declared_symbols t) → BodiesAreSame t u
-  bodies_same t u kept part e v d c there =
-      let (b, stands, alike) = kept_stands (writable_by t) S (undeclared u) (bodies_in t) (bodies_in u) (kept.bodies v d) c there in
-      (b, stands, same_body t u kept part v d (kept.names.scoped e v) b c there alike)
+  bodies_same : (t u : Tree) → ProgramIsKeptUnder K (writable_by t) (steady_in u) t u → IsWellShaped t → Scoped Read [] t → Distinct (declared_symbols t) → BodiesAreSame t u
+  bodies_same t u kept e v d c there =
+      let (b, stands, alike) = kept_stands (writable_by t) (steady_in u) (undeclared u) (bodies_in t) (bodies_in u) (kept.bodies v d) c there in
+      (b, stands, same_body t u kept v d (kept.names.scoped e v) b c there alike)
 
 -- ---- the whole
 
--- t is read, its resolved form becomes v, and u is v read again; what S says is known of the bodies of v
-pub record Made (S : BodySets) (G : Tree → Position → Tree → Tree → Type 0) (D : Tree → Position → Tree → Type 0) (o : CompressOptions) (m : Minified) (t v u : Tree) : Type 0 where
+-- t is read, its resolved form becomes v, and u is v read again
+pub record Made (G : Tree → Position → Tree → Tree → Type 0) (D : Tree → Position → Tree → Type 0) (o : CompressOptions) (m : Minified) (t v u : Tree) : Type 0 where
   pub passes : MakesPasses G D (resolved_program t) v o.passes m.passes m.settled
   pub kept : m.kept ≡ 0 ∷ numbers v
   pub symbols : m.symbols ≡ symbol_numbers (declared_symbols v)
   pub back : IsReadBack t v u
   pub shaped : IsWellShaped (resolved_program t)
-  pub rewritten : ProgramIsKeptUnder (let_go (switches o)) (writable_by (resolved_program t)) S (resolved_program t) v
-  pub steady : PartEach S (steady_in v)
+  pub rewritten : ProgramIsKeptUnder (let_go (switches o)) (writable_by (resolved_program t)) (steady_in v) (resolved_program t) v
 
 named : (m : Minified) (t v u : Tree) → IsReadBack t v u → m.kept ≡ 0 ∷ numbers v → m.symbols ≡ symbol_numbers (declared_symbols v) → AreNamed m.kept m.symbols t u
 named m t v u r kept symbols = record {
@@ -155,12 +157,12 @@ named m t v u r kept symbols = record {
   symbols_once = subst HasNoRepeat (sym symbols) (no_repeat (symbol_numbers (declared_symbols v)) r.symbols_once);
 }
 
-module _ (S : BodySets) (G : Tree → Position → Tree → Tree → Type 0) (D : Tree → Position → Tree → Type 0) where
+module _ (G : Tree → Position → Tree → Tree → Type 0) (D : Tree → Position → Tree → Type 0) where
   -- the later program, in the earlier one's numbers and symbols, is what rewriting gave
-  pub later_is : (o : CompressOptions) (m : Minified) (t v u : Tree) → Made S G D o m t v u → faith.later m u ≡ v
+  pub later_is : (o : CompressOptions) (m : Minified) (t v u : Tree) → Made G D o m t v u → faith.later m u ≡ v
   later_is o m t v u made = (λ k. carried (made.kept k) (symbols_of (made.symbols k)) (resolved_program u)) ∙ made.back.later
 
-  pub faithful_trees : (o : CompressOptions) (m : Minified) (t v u : Tree) → early_fault t ≡ None → Made S G D o m t v u → IsFaithfulUnder S (NothingLeft D) o m t u
+  pub faithful_trees : (o : CompressOptions) (m : Minified) (t v u : Tree) → early_fault t ≡ None → Made G D o m t v u → IsFaithfulWith (NothingLeft D) o m t u
   faithful_trees o m t v u free made =
       let kept = made.rewritten in
       let whole = later_is o m t v u made in
@@ -171,8 +173,8 @@ module _ (S : BodySets) (G : Tree → Position → Tree → Tree → Type 0) (D 
         jumps = made.back.jumps (free_of t free).1;
         named = named m t v u made.back made.kept made.symbols;
         spelled = λ x c. kept.declared x (subst (λ w. Contains (declared w) x) whole c);
-        frames = subst (λ w. FramesShown (gone_from (let_go (switches o)) (undeclared w)) (KeyGivenUnder (writable_by (resolved_program t)) S (undeclared w) (bodies_in (resolved_program t))) (frames_in (resolved_program t)) (frames_in w)) (sym whole) (kept.frames (scoped Read [] 0 t) (resolved_distinct t));
-        bodies = subst (BodiesAreSame (resolved_program t)) (sym whole) (bodies_same (let_go (switches o)) S (resolved_program t) v kept made.steady made.shaped (scoped Read [] 0 t) (resolved_distinct t));
+        frames = subst (λ w. FramesShown (gone_from (let_go (switches o)) (undeclared w)) (KeyGivenUnder (writable_by (resolved_program t)) (steady_in w) (undeclared w) (bodies_in (resolved_program t))) (frames_in (resolved_program t)) (frames_in w)) (sym whole) (kept.frames (scoped Read [] 0 t) (resolved_distinct t));
+        bodies = subst (BodiesAreSame (resolved_program t)) (sym whole) (bodies_same (let_go (switches o)) (resolved_program t) v kept made.shaped (scoped Read [] 0 t) (resolved_distinct t));
         weight = subst (λ w. program_weight w ≤ program_weight (resolved_program t)) (sym whole) (omega (arith, some, less));
         some_pass = some;
         within = made.passes.within;
@@ -180,19 +182,36 @@ module _ (S : BodySets) (G : Tree → Position → Tree → Tree → Type 0) (D 
         unsettled = λ e. let (same, fell) = made.passes.stopped e in subst (λ w. program_weight w + max o.passes 1 ≤ program_weight (resolved_program t)) (sym whole) (omega (arith, same, fell));
       }
 
--- what is lawful where T says what is known of the bodies of each program, and S says all of that
-module _ (G : Tree → Position → Tree → Tree → Type 0) (D : Tree → Position → Tree → Type 0) (o : CompressOptions) (T : Tree → BodySets) (S : BodySets) (l : (q : Tree) → LawfulRooted (let_go (switches o)) (writable_in q) (T q) (G q)) (d : Data) (m : Minified) (t : Tree) (read : Accepts d t) (r : IsWritten G D (resolved_program t) o.passes m) (begins : EachBegins (λ q. PartEach (T q) S) r.passes.reached) (part : PartEach S (steady_in r.output)) where
+-- what is lawful by what is known of the bodies of each program, and keeps that
+module _ (G : Tree → Position → Tree → Tree → Type 0) (D : Tree → Position → Tree → Type 0) (o : CompressOptions) (l : (q : Tree) → DeclaresOnce q → LawfulRooted (let_go (switches o)) (writable_in q) (exactly_of q) (G q)) (stay : (q : Tree) → KeepsKnown (G q)) (d : Data) (m : Minified) (t : Tree) (read : Accepts d t) (free : early_fault t ≡ None) (r : IsWritten G D (resolved_program t) o.passes m) where
   pub start : IsRead t read.1
   start = is_read d read.0 read.1 t read.2
 
   shaped : IsWellShaped (resolved_program t)
   shaped = shaped_resolved t start.shaped
 
+  abbrev S : BodySets
+  S = steady_in r.output
+
+  resolved : DeclaresOnce (resolved_program t)
+  resolved = record { shaped = shaped; scoped = scoped Read [] 0 t; distinct = resolved_distinct t; once = names_resolved [] t ∙ (free_of t free).0 }
+
+  -- the names of each program at which a pass began are resolved
+  pub began : {k : ℕ} {w : Tree} → PassesReach G k (resolved_program t) w → DeclaresOnce w
+  began reach = (each_known G (let_go (switches o)) l stay reach resolved).0
+
+  -- all that was known as a pass began is so of the last program
+  begins : EachKnown G (let_go (switches o)) l stay S r.passes.reached
+  begins =
+      let K = let_go (switches o) in
+      let (e, known) = each_known G K l stay r.passes.reached resolved in
+      known_more G K l stay (exactly_of r.output) S (known_is_so r.output e) r.passes.reached known
+
   kept : ProgramIsKeptUnder (let_go (switches o)) (writable_by (resolved_program t)) S (resolved_program t) r.output
   kept =
       let K = let_go (switches o) in
       let v = resolved_program t in
-      rooted_keeps (Any G K T S l v) K (writable_by v) S (any_lawful G K T S l v) v r.output (any_reach G K T S l v shaped (scoped Read [] 0 t) (resolved_distinct t) r.passes.reached begins refl) shaped
+      rooted_keeps (Any G K l stay S v) K (writable_by v) S (any_lawful G K l stay S v) v r.output (any_reach G K l stay S v shaped (scoped Read [] 0 t) (resolved_distinct t) r.passes.reached begins refl) shaped
 
   pub again : (u : Tree) × Accepts (program_data r.output) u × (text u ≡ text r.output)
   again = read_again r.output (kept.names.shaped shaped)
@@ -203,43 +222,17 @@ module _ (G : Tree → Position → Tree → Tree → Type 0) (D : Tree → Posi
   pub written : Accepts (view m.program) again.0
   written = subst (λ w. Accepts w again.0) (sym r.written) again.1
 
-  pub made : Made S G D o m t r.output again.0
-  made = record { passes = r.passes; kept = r.kept; symbols = r.symbols; back = read_back t r.output again.0 read.1 again.1.1 start answer_read kept.names kept.root again.2; shaped = shaped; rewritten = kept; steady = part }
+  pub made : Made G D o m t r.output again.0
+  made = record { passes = r.passes; kept = r.kept; symbols = r.symbols; back = read_back t r.output again.0 read.1 again.1.1 start answer_read kept.names kept.root again.2; shaped = shaped; rewritten = kept }
 
   pub whole_is : faith.later m again.0 ≡ r.output
-  whole_is = later_is S G D o m t r.output again.0 made
+  whole_is = later_is G D o m t r.output again.0 made
 
-  pub faithful_there : early_fault t ≡ None → IsFaithfulUnder S (NothingLeft D) o m t again.0
-  faithful_there free = faithful_trees S G D o m t r.output again.0 free made
+  pub faithful_there : IsFaithfulWith (NothingLeft D) o m t again.0
+  faithful_there = faithful_trees G D o m t r.output again.0 free made
 
--- ---- where nothing rests on what is known of bodies
+  pub faithful_with : FaithfulWith (NothingLeft D) d o m
+  faithful_with = record { input = t; output = again.0; accepted = read; answered = written; faithful = faithful_there }
 
-none_in : (u : Tree) → PartEach none_steady (steady_in u)
-none_in u = none_part (steady_in u)
-
-module _ (G : Tree → Position → Tree → Tree → Type 0) (D : Tree → Position → Tree → Type 0) (o : CompressOptions) (l : (q : Tree) → LawfulWith (let_go (switches o)) (writable_in q) (G q)) (d : Data) (m : Minified) (t : Tree) (read : Accepts d t) (r : IsWritten G D (resolved_program t) o.passes m) where
-  anyway : (q : Tree) → LawfulRooted (let_go (switches o)) (writable_in q) none_steady (G q)
-  anyway q = steady_is_rooted (G q) (let_go (switches o)) (writable_in q) none_steady (loose_is_steady (G q) (let_go (switches o)) (writable_in q) none_steady (l q))
-
-  nothing_asked : EachBegins (λ q. PartEach none_steady none_steady) r.passes.reached
-  nothing_asked = each_begins (λ q. PartEach none_steady none_steady) (λ q. each_itself none_steady) r.passes.reached
-
-  abbrev again_of : (u : Tree) × Accepts (program_data r.output) u × (text u ≡ text r.output)
-  again_of = again G D o (λ q. none_steady) none_steady anyway d m t read r nothing_asked (none_in r.output)
-
-  pub passes_faithful : early_fault t ≡ None → FaithfulWith (NothingLeft D) d o m
-  passes_faithful free = record { input = t; output = again_of.0; accepted = read; answered = written G D o (λ q. none_steady) none_steady anyway d m t read r nothing_asked (none_in r.output); faithful = faithful_there G D o (λ q. none_steady) none_steady anyway d m t read r nothing_asked (none_in r.output) free }
-
--- ---- and where something does
-
-pub steady_passes_faithful : (G : CompressOptions → Tree → Position → Tree → Tree → Type 0) (D : CompressOptions → Tree → Position → Tree → Type 0) → SteadyPassesFaithful G D
-steady_passes_faithful G D l d o m t read free r begins =
-    let S = steady_in r.output in
-    let there = again (G o) (D o) o steady_in S (l o) d m t read r begins (each_itself S) in
-    record {
-      input = t;
-      output = there.0;
-      accepted = read;
-      answered = written (G o) (D o) o steady_in S (l o) d m t read r begins (each_itself S);
-      faithful = subst (λ w. IsFaithfulUnder (steady_in w) (NothingLeft (D o)) o m t there.0) (sym (whole_is (G o) (D o) o steady_in S (l o) d m t read r begins (each_itself S))) (faithful_there (G o) (D o) o steady_in S (l o) d m t read r begins (each_itself S) free);
-    }
+pub passes_faithful : (G : CompressOptions → Tree → Position → Tree → Tree → Type 0) (D : CompressOptions → Tree → Position → Tree → Type 0) → PassesFaithful G D
+passes_faithful G D l stay d o m t read free r = faithful_with (G o) (D o) o (l o) (stay o) d m t read free r

@@ -6,7 +6,7 @@ use Rattle.mini_model.specs.Tree.{Tree, Trees, node, none, ◌▸◌}
 use Rattle.mini_model.specs.declared.place.Position.{Position}
 use Rattle.mini_model.specs.declared.place.Position.TheVariants.{Elsewhere}
 use Rattle.mini_model.specs.declared.shape.Shape.{Shape}
-use Rattle.mini_model.specs.Rewriting.{Step, Reaches, done}
+use Rattle.mini_model.specs.Rewriting.{Step, Reaches, done, more}
 use Rattle.mini_accept.specs.WellShaped.{IsWellShaped}
 use Rattle.mini_laws.specs.declared.names.Use.TheVariants.{Read}
 use Rattle.mini_laws.specs.Congruence.{NoneIn, Avoids, AllAvoid}
@@ -16,17 +16,19 @@ use Rattle.mini_laws.specs.State.{Fixed, Writable, Constant, KeepsOld, Writing, 
 use Rattle.mini_laws.specs.Substitution.{alone}
 use Rattle.mini_laws.specs.Symbols.{declared_symbols, times, Distinct}
 use Rattle.mini_laws.specs.Value.{Variable, Declared, Global, variable_eq, variables, is_in, choose}
+use Rattle.mini_shrink.specs.Exact.{exactly_of}
 use Rattle.mini_tree.specs.Passes.{PassesReach, no_pass, one_more}
 use Rattle.mini_tree.specs.Wider.{reaches_of}
 use Rattle.mini_tree.proofs.Reaching.{reaches_trans}
 use Rattle.mini_laws.specs.Writable.{is_open, writable_by, writable_in, mentions, any_mentions}
 use Rattle.mini_kept.specs.Loosely.{symbol, LawfulUnder, undeclared, ProgramIsKeptUnder}
 use Rattle.mini_kept.specs.Rooted.{Inner, Outer, LawfulRooted}
-use Rattle.mini_kept.specs.Without.{BodySets}
+use Rattle.mini_kept.specs.Without.{Assured, BodySets, Within}
 use Rattle.mini_kept.proofs.Gone.{avoids}
 use Rattle.mini_kept.proofs.Rooted.{step_on, step_of, rooted_keeps, rooted_wider}
-use Rattle.mini_kept.proofs.WithoutLists.{Part, PartEach}
-use Rattle.mini_peephole.specs.AnyPasses.{EachBegins}
+use Rattle.mini_kept.proofs.WithoutLists.{Part, PartEach, each_itself}
+use Rattle.mini_shrink.specs.SameForeign.{DeclaresOnce}
+use Rattle.mini_peephole.specs.AnyPasses.{KeepsKnown}
 
 -- ---- what a program that has its names' symbols mentions it declares
 
@@ -82,42 +84,88 @@ written_open k Writable = refl
 written_open k Constant = refl
 written_open k KeepsOld = refl
 
-module _ (G : Tree → Position → Tree → Tree → Type 0) (K : Shape → Bool) (T : Tree → BodySets) (S : BodySets) (l : (q : Tree) → LawfulRooted K (writable_in q) (T q) (G q)) (t : Tree) where
-  -- what is made of a tree over some program in which nothing can be written that the first forbids to write, and nothing is steady but S
+-- what is known of one is known of a third, if so it is of a second
+pub within_through : (U V W : Assured) → Within U V → Within V W → Within U W
+within_through U V W f g = record {
+  steady = λ x h. g.steady x (f.steady x h);
+  unshared = λ x h. g.unshared x (f.unshared x h);
+  initial = λ x h. g.initial x (f.initial x h);
+  has_this = λ h. g.has_this (f.has_this h);
+}
+
+-- ---- what is known as passes begin
+
+module _ (G : Tree → Position → Tree → Tree → Type 0) (K : Shape → Bool) (l : (q : Tree) → DeclaresOnce q → LawfulRooted K (writable_in q) (exactly_of q) (G q)) (stay : (q : Tree) → KeepsKnown (G q)) where
+  -- a step leads to a program whose names are resolved, of whose bodies no less is known
+  abbrev Leads : Tree → Tree → Type 0
+  Leads t u = DeclaresOnce u × PartEach (exactly_of t) (exactly_of u)
+
+  resolved_on : (q t u : Tree) → ProgramIsKeptUnder K (writable_in q) (exactly_of q) t u → DeclaresOnce t → DeclaresOnce u
+  resolved_on q t u k e = record { shaped = k.names.shaped e.shaped; scoped = k.names.scoped e.shaped e.scoped; distinct = k.names.distinct e.shaped e.scoped e.distinct; once = k.names.once e.shaped e.once }
+
+  steps_lead : (q : Tree) → DeclaresOnce q → {p : Position} {t u : Tree} → Reaches (G q) p t u → p ≡ Elsewhere → DeclaresOnce t → Leads t u
+  steps_lead q d (done p t) f e = (e, each_itself (exactly_of t))
+  steps_lead q d (more p t u v s r) f e =
+      let st : Step (G q) Elsewhere t u = subst (λ o. Step (G q) o t u) f s in
+      let kept = rooted_keeps (G q) K (writable_in q) (exactly_of q) (l q d) t u (more Elsewhere t u u st (done Elsewhere u)) e.shaped in
+      let (after, further) = steps_lead q d r f (resolved_on q t u kept e) in
+      (after, λ b. within_through (exactly_of t b) (exactly_of u b) (exactly_of v b) (stay q t u st e b) (further b))
+
+  -- what holds of each program at which a pass begins: its names are resolved, and all that is known of its bodies is in S
+  abbrev pub EachKnown : BodySets → {k : ℕ} {s u : Tree} → PassesReach G k s u → Type 0
+  EachKnown S (no_pass s) = Unit {0}
+  EachKnown S (one_more k s u v r others) = EachKnown S r × (DeclaresOnce u × PartEach (exactly_of u) S)
+
+  pub known_more : (Q S : BodySets) → PartEach Q S → {k : ℕ} {s u : Tree} (r : PassesReach G k s u) → EachKnown Q r → EachKnown S r
+  known_more Q S f (no_pass s) h = tt
+  known_more Q S f (one_more k s u v r others) h = (known_more Q S f r h.0, (h.1.0, λ b. within_through (exactly_of u b) (Q b) (S b) (h.1.1 b) (f b)))
+
+  -- so all that is known of bodies as a pass begins is known of those of the last program
+  pub each_known : {k : ℕ} {s u : Tree} (r : PassesReach G k s u) → DeclaresOnce s → DeclaresOnce u × EachKnown (exactly_of u) r
+  each_known (no_pass s) e = (e, tt)
+  each_known (one_more k s u v r others) e =
+      let (there, before) = each_known r e in
+      let (after, known) = steps_lead u there others refl there in
+      (after, (known_more (exactly_of u) (exactly_of v) known r before, (there, known)))
+
+-- ---- passes as steps of one relation
+
+module _ (G : Tree → Position → Tree → Tree → Type 0) (K : Shape → Bool) (l : (q : Tree) → DeclaresOnce q → LawfulRooted K (writable_in q) (exactly_of q) (G q)) (stay : (q : Tree) → KeepsKnown (G q)) (S : BodySets) (t : Tree) where
+  -- a program whose names are resolved, in which nothing can be written that the first forbids to write, and of whose bodies nothing is known but S
+  abbrev Over : Type 0
+  Over = (q : Tree) × DeclaresOnce q × Part (writable_in q) (writable_by t) × PartEach (exactly_of q) S
+
+  -- what is made of a tree over such a program
   abbrev pub Any : Position → Tree → Tree → Type 0
-  Any p n w = (q : Tree) × Part (writable_in q) (writable_by t) × PartEach (T q) S × G q p n w
+  Any p n w = (i : Over) × G i.0 p n w
 
-  at_first : (q : Tree) → Part (writable_in q) (writable_by t) → PartEach (T q) S → LawfulRooted K (writable_by t) S (G q)
-  at_first q f g = rooted_wider (G q) K (writable_in q) (writable_by t) (T q) S f g (l q)
+  at_first : (i : Over) → LawfulRooted K (writable_by t) S (G i.0)
+  at_first (q, e, f, g) = rooted_wider (G q) K (writable_in q) (writable_by t) (exactly_of q) S f g (l q e)
 
-  each : {X : Position → Tree → Tree → Type 0} → ((q : Tree) (p : Position) (n w : Tree) → Inner (G q) p n w → X p n w) → (p : Position) (n w : Tree) → Inner Any p n w → X p n w
-  each f p n w r = f r.0.0 p n w (r.0.3, r.1)
+  each : {X : Position → Tree → Tree → Type 0} → ((i : Over) (p : Position) (n w : Tree) → Inner (G i.0) p n w → X p n w) → (p : Position) (n w : Tree) → Inner Any p n w → X p n w
+  each f p n w r = f r.0.0 p n w (r.0.1, r.1)
 
   inner_lawful : LawfulUnder K (writable_by t) S (Inner Any)
   inner_lawful = record {
-    shapes = record { fitting = each (λ q. (l q).inner.shapes.fitting); asked = each (λ q. (l q).inner.shapes.asked) };
+    shapes = record { fitting = each (λ i. (at_first i).inner.shapes.fitting); asked = each (λ i. (at_first i).inner.shapes.asked) };
     places = record {
-      names = record { places = each (λ q. (l q).inner.places.names.places); pieces = each (λ q. (l q).inner.places.names.pieces); keeps = each (λ q. (l q).inner.places.names.keeps) };
-      slots = each (λ q. (l q).inner.places.slots);
-      ports = each (λ q. (l q).inner.places.ports);
-      listed = λ p n w e r. (l r.0.0).inner.places.listed p n w e (r.0.3, r.1);
-      exported = each (λ q. (l q).inner.places.exported);
+      names = record { places = each (λ i. (at_first i).inner.places.names.places); pieces = each (λ i. (at_first i).inner.places.names.pieces); keeps = each (λ i. (at_first i).inner.places.names.keeps) };
+      slots = each (λ i. (at_first i).inner.places.slots);
+      ports = each (λ i. (at_first i).inner.places.ports);
+      listed = λ p n w e r. (at_first r.0.0).inner.places.listed p n w e (r.0.1, r.1);
+      exported = each (λ i. (at_first i).inner.places.exported);
     };
-    reads = each (λ q. (l q).inner.reads);
-    kind = each (λ q. (l q).inner.kind);
-    declared = each (λ q. (l q).inner.declared);
-    instances = λ p n w r. (at_first r.0.0 r.0.1 r.0.2).inner.instances p n w (r.0.3, r.1);
+    reads = each (λ i. (at_first i).inner.reads);
+    kind = each (λ i. (at_first i).inner.kind);
+    declared = each (λ i. (at_first i).inner.declared);
+    instances = each (λ i. (at_first i).inner.instances);
   }
 
-  -- a step over some program
-  abbrev Over : Type 0
-  Over = (q : Tree) × Part (writable_in q) (writable_by t) × PartEach (T q) S
-
   one_over : (p : Position) (n w : Tree) → Outer Any p n w → (i : Over) × Outer (G i.0) p n w
-  one_over p n w r = ((r.0.0, r.0.1, r.0.2), (r.0.3, r.1))
+  one_over p n w r = (r.0.0, (r.0.1, r.1))
 
   whole_kept : (n w : Tree) → Step (Outer Any) Elsewhere n w → IsWellShaped n → ProgramIsKeptUnder K (writable_by t) S n w
-  whole_kept n w s e = let (i, o) = step_of Over (λ i. Outer (G i.0)) (step_on one_over s) in (at_first i.0 i.1 i.2).whole n w o e
+  whole_kept n w s e = let (i, o) = step_of Over (λ i. Outer (G i.0)) (step_on one_over s) in (at_first i).whole n w o e
 
   -- what is lawful over every program is lawful over all together
   pub any_lawful : LawfulRooted K (writable_by t) S Any
@@ -137,13 +185,8 @@ module _ (G : Tree → Position → Tree → Tree → Type 0) (K : Shape → Boo
             sym (written_open k (fixed_by t (Declared k))) ∙ ap is_written (kept.fixities scoped distinct false (Declared k) (mentioned_is_declared u (kept.names.scoped shaped scoped) k m)) ∙ written_open k (fixed_by u (Declared k)) ∙ f
         by (Global s) h = absurd (true≢false (sym h))
 
-    pub any_reach : {k : ℕ} {s u : Tree} (r : PassesReach G k s u) → EachBegins (λ q. PartEach (T q) S) r → s ≡ t → Reaches Any Elsewhere t u
+    pub any_reach : {k : ℕ} {s u : Tree} (r : PassesReach G k s u) → EachKnown G K l stay S r → s ≡ t → Reaches Any Elsewhere t u
     any_reach (no_pass s) f e = subst (Reaches Any Elsewhere t) (sym e) (done Elsewhere t)
     any_reach (one_more k s u v r others) f e =
         let before = any_reach r f.0 e in
-        reaches_trans Any before (reaches_of (G u) Any (λ p n w g. (u, writable_still u before, f.1, g)) Elsewhere u v others)
-
--- where nothing is asked of the programs at which passes begin
-pub each_begins : (P : Tree → Type 0) → ((q : Tree) → P q) → {G : Tree → Position → Tree → Tree → Type 0} {k : ℕ} {s u : Tree} (r : PassesReach G k s u) → EachBegins P r
-each_begins P f (no_pass s) = tt
-each_begins P f (one_more k s u v r others) = (each_begins P f r, f u)
+        reaches_trans Any before (reaches_of (G u) Any (λ p n w g. ((u, f.1.0, writable_still u before, f.1.1), g)) Elsewhere u v others)

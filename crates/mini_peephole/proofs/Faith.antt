@@ -19,35 +19,34 @@ use Rattle.mini_accept.specs.Accept.{Accepts}
 use Rattle.mini_accept.proofs.Depths.{one_tree}
 use Rattle.mini_kept.specs.Rooted.{LawfulRooted}
 use Rattle.mini_kept.specs.Without.{BodySets}
-use Rattle.mini_kept.proofs.WithoutLists.{PartEach, none_part, each_itself}
 use Rattle.mini_kept.proofs.InPreorder.{preorder_same}
-use Rattle.mini_kept.proofs.ReadBack.{IsRead}
+use Rattle.mini_kept.proofs.ReadBack.{IsRead, IsReadBack}
 use Rattle.mini_kept.proofs.Texts.{text, text_resolved}
+use Rattle.mini_shrink.specs.Exact.{exactly_of}
 use Rattle.mini_writer.specs.Written.{program_data}
-use Rattle.mini_passes.specs.Passes.{GivesBoth, RestsBoth}
-use Rattle.mini_passes.specs.Staying.{StaysTold}
-use Rattle.mini_passes.proofs.Everywhere.{everywhere_with}
 use Rattle.mini_rows.specs.Switches.{let_go, Liberties}
 use Rattle.mini_rows.specs.Redex.{Rewrites, IsSettled}
 use Rattle.mini_steady.specs.Told.{told_in}
-use Rattle.mini_peephole.specs.AnyPasses.{EachBegins, NothingLeft}
-use Rattle.mini_peephole.specs.Environments.{steady_in}
-use Rattle.mini_peephole.specs.Minified.{IsWritten, IsRewriting}
-use Rattle.mini_peephole.specs.SteadyRows.{SteadyRewrites, IsSteadilySettled, IsSteadilyRewritten}
-use Rattle.mini_peephole.specs.Rules.{AllGives, AllRests, SteadyGives, SteadyRests}
+use Rattle.mini_shrink.specs.SameForeign.{DeclaresOnce}
+use Rattle.mini_peephole.specs.AnyPasses.{KeepsKnown, NothingLeft}
+use Rattle.mini_peephole.specs.Minified.{IsRewriting}
+use Rattle.mini_peephole.specs.SteadyRows.{SteadyRewrites, IsSteadilySettled}
+use Rattle.mini_peephole.specs.Rules.{AllGives, AllRests}
 use Rattle.mini_peephole.specs.Faithful as faith
-use Rattle.mini_peephole.specs.Faithful.{earlier, switches, IsFaithfulUnder, known_of, IsRewrittenBy, Faithful, PassesBounded}
+use Rattle.mini_peephole.specs.Faithful.{earlier, switches, IsFaithfulWith, IsRewritten, IsFaithful, Faithful, PassesBounded}
 use Rattle.mini_peephole.specs.declared.minify.Minified.{Minified}
 use Rattle.mini_peephole.proofs.AnyPasses as any
+use Rattle.mini_peephole.proofs.Everywhere.{everywhere_with}
 use Rattle.mini_peephole.proofs.Heaviest.{resolved_lighter}
-use Rattle.mini_peephole.proofs.Chains.{each_begins}
-use Rattle.mini_peephole.proofs.Rules.{all_contract, both_lawful, both_rest}
+use Rattle.mini_peephole.proofs.Lightest.{program_heavy}
+use Rattle.mini_peephole.proofs.ReadLess.{all_read_less}
+use Rattle.mini_peephole.proofs.Rules.{loose_contract, all_lawful, all_known, all_rest}
 use Rattle.mini_unused.specs.Allowed.{allowed_in}
 
 -- ---- a program in which nothing is left to rewrite stays
 
 module _ (R : Position → Tree → Tree → Type 0) where
-  abbrev ReadsNothing : Position → Tree → Type 0
+  abbrev pub ReadsNothing : Position → Tree → Type 0
   ReadsNothing p t = (w : Tree) → R p t w → ⊥
 
   mutual
@@ -64,62 +63,55 @@ module _ (R : Position → Tree → Tree → Type 0) where
   stays (more p t w u st r) f = absurd (no_step st f)
 
 -- a node on which the rows rest that rest on what is known of bodies is read by none of them
-read_by_none : (S : BodySets) (W : Liberties) (p : Position) (n : Tree) → IsSteadilySettled S W p n → IsSteadilySettled S W p n → ReadsNothing (SteadyRewrites S W) p n
-read_by_none S W p n x y w (inl (inl (inl (inl (inl c))))) = x.0.0.0.0.0 w c
-read_by_none S W p n x y w (inl (inl (inl (inl (inr c))))) = x.0.0.0.0.1 w c
-read_by_none S W p n x y w (inl (inl (inl (inr c)))) = x.0.0.0.1 w c
-read_by_none S W p n x y w (inl (inl (inr c))) = x.0.0.1 w c
-read_by_none S W p n x y w (inl (inr (inl (inl (inl c))))) = x.0.1.0.0.0 w c
-read_by_none S W p n x y w (inl (inr (inl (inl (inr c))))) = x.0.1.0.0.1 w c
-read_by_none S W p n x y w (inl (inr (inl (inr c)))) = x.0.1.0.1 w c
-read_by_none S W p n x y w (inl (inr (inr c))) = x.0.1.1 w c
-read_by_none S W p n x y w (inr (inl (inl (inl (inl c))))) = x.1.0.0.0.0 w c
-read_by_none S W p n x y w (inr (inl (inl (inl (inr c))))) = x.1.0.0.0.1 w c
-read_by_none S W p n x y w (inr (inl (inl (inr (inl c))))) = x.1.0.0.1.0 w c
-read_by_none S W p n x y w (inr (inl (inl (inr (inr c))))) = x.1.0.0.1.1 w c
-read_by_none S W p n x y w (inr (inl (inr (inl (inl (inl c)))))) = x.1.0.1.0.0.0 w c
-read_by_none S W p n x y w (inr (inl (inr (inl (inl (inr c)))))) = x.1.0.1.0.0.1 w c
-read_by_none S W p n x y w (inr (inl (inr (inl (inr c))))) = x.1.0.1.0.1 w c
-read_by_none S W p n x y w (inr (inl (inr (inr c)))) = x.1.0.1.1 w c
-read_by_none S W p n x y w (inr (inr (inl c))) = x.1.1.0 w c.row c.stands
-read_by_none S W p n x y w (inr (inr (inr c))) = x.1.1.1 w c.row c.stands
-
-nowhere_read : (o : CompressOptions) (u : Tree) → IsSteadilyRewritten o u → Everywhere (ReadsNothing (SteadyRewrites (told_in u) (allowed_in o u))) Elsewhere u
-nowhere_read o u f =
-    let settled = IsSteadilySettled (told_in u) (allowed_in o u) in
-    everywhere_with settled settled (ReadsNothing (SteadyRewrites (told_in u) (allowed_in o u))) (read_by_none (told_in u) (allowed_in o u)) Elsewhere u f f
+pub read_by_none : (S : BodySets) (W : Liberties) (p : Position) (n : Tree) → IsSteadilySettled S W p n → ReadsNothing (SteadyRewrites S W) p n
+read_by_none S W p n x w (inl (inl (inl (inl (inl c))))) = x.0.0.0.0.0 w c
+read_by_none S W p n x w (inl (inl (inl (inl (inr c))))) = x.0.0.0.0.1 w c
+read_by_none S W p n x w (inl (inl (inl (inr c)))) = x.0.0.0.1 w c
+read_by_none S W p n x w (inl (inl (inr c))) = x.0.0.1 w c
+read_by_none S W p n x w (inl (inr (inl (inl (inl c))))) = x.0.1.0.0.0 w c
+read_by_none S W p n x w (inl (inr (inl (inl (inr c))))) = x.0.1.0.0.1 w c
+read_by_none S W p n x w (inl (inr (inl (inr c)))) = x.0.1.0.1 w c
+read_by_none S W p n x w (inl (inr (inr c))) = x.0.1.1 w c
+read_by_none S W p n x w (inr (inl (inl (inl (inl c))))) = x.1.0.0.0.0 w c
+read_by_none S W p n x w (inr (inl (inl (inl (inr c))))) = x.1.0.0.0.1 w c
+read_by_none S W p n x w (inr (inl (inl (inr (inl c))))) = x.1.0.0.1.0 w c
+read_by_none S W p n x w (inr (inl (inl (inr (inr c))))) = x.1.0.0.1.1 w c
+read_by_none S W p n x w (inr (inl (inr (inl (inl (inl c)))))) = x.1.0.1.0.0.0 w c
+read_by_none S W p n x w (inr (inl (inr (inl (inl (inr c)))))) = x.1.0.1.0.0.1 w c
+read_by_none S W p n x w (inr (inl (inr (inl (inr c))))) = x.1.0.1.0.1 w c
+read_by_none S W p n x w (inr (inl (inr (inr c)))) = x.1.0.1.1 w c
+read_by_none S W p n x w (inr (inr (inl c))) = x.1.1.0 w c.row c.stands
+read_by_none S W p n x w (inr (inr (inr c))) = x.1.1.1 w c.row c.stands
 
 -- ---- the rules
 
-module _ (o : CompressOptions) (t : Tree) (f : IsRewrittenBy true o t) where
+module _ (o : CompressOptions) (t : Tree) (f : IsRewritten o t) where
   -- what reads something in it, were there anything
   abbrev AnyRow : Position → Tree → Tree → Type 0
   AnyRow = Either (Rewrites (switches o) (writable_in t)) (SteadyRewrites (told_in t) (allowed_in o t))
 
   neither : (p : Position) (n : Tree) → IsSettled (switches o) (writable_in t) p n → IsSteadilySettled (told_in t) (allowed_in o t) p n → ReadsNothing AnyRow p n
   neither p n g h w (inl c) = g (record { to = w; contracts = c })
-  neither p n g h w (inr r) = read_by_none (told_in t) (allowed_in o t) p n h h w r
+  neither p n g h w (inr r) = read_by_none (told_in t) (allowed_in o t) p n h w r
 
   nowhere : Everywhere (ReadsNothing AnyRow) Elsewhere t
   nowhere = everywhere_with (IsSettled (switches o) (writable_in t)) (IsSteadilySettled (told_in t) (allowed_in o t)) (ReadsNothing AnyRow) neither Elsewhere t f.0 f.1
 
-  made_by_row : (b : Bool) (v : Tree) (p : Position) (n w : Tree) → GivesBoth (AllGives o) (SteadyGives o) StaysTold b v t p n w → AnyRow p n w
-  made_by_row true v p n w (inl r) = inl (all_contract o t p n w r)
-  made_by_row true v p n w (inr r) = inr r.1
-  made_by_row false v p n w r = inl (all_contract o t p n w r)
+  made_by_row : (p : Position) (n w : Tree) → AllGives o t p n w → AnyRow p n w
+  made_by_row p n w (inl r) = inl (loose_contract o t p n w r)
+  made_by_row p n w (inr r) = inr r
 
   -- so passes over it leave it, one after another
-  no_pass_moves : (b : Bool) (v : Tree) {k : ℕ} {s u : Tree} → PassesReach (GivesBoth (AllGives o) (SteadyGives o) StaysTold b v) k s u → s ≡ t → u ≡ t
-  no_pass_moves b v (no_pass s) e = e
-  no_pass_moves b v (one_more k s u w r others) e =
-      let G = GivesBoth (AllGives o) (SteadyGives o) StaysTold b v in
-      let before = no_pass_moves b v r e in
-      let over : Reaches (G t) Elsewhere t w = subst (λ x. Reaches (G x) Elsewhere x w) before others in
-      stays AnyRow (reaches_of (G t) AnyRow (made_by_row b v) Elsewhere t w over) nowhere
+  pub no_pass_moves : {k : ℕ} {s u : Tree} → PassesReach (AllGives o) k s u → s ≡ t → u ≡ t
+  no_pass_moves (no_pass s) e = e
+  no_pass_moves (one_more k s u w r others) e =
+      let before = no_pass_moves r e in
+      let over : Reaches (AllGives o t) Elsewhere t w = subst (λ x. Reaches (AllGives o x) Elsewhere x w) before others in
+      stays AnyRow (reaches_of (AllGives o t) AnyRow made_by_row Elsewhere t w over) nowhere
 
 -- where the rules have nothing to do, nothing is left to rewrite
-nothing_left : (o : CompressOptions) (m : Minified) (t u : Tree) (S : BodySets) → weight Elsewhere (resolved_program t) < 2 ^ 32 → IsFaithfulUnder S (NothingLeft (RestsBoth (AllRests o) (SteadyRests o) m.steady)) o m t u → IsFaithfulUnder S (IsRewrittenBy m.steady o) o m t u
-nothing_left o m t u S light f = record {
+nothing_left : (o : CompressOptions) (m : Minified) (t u : Tree) → weight Elsewhere (resolved_program t) < 2 ^ 32 → IsFaithfulWith (NothingLeft (AllRests o)) o m t u → IsFaithful o m t u
+nothing_left o m t u light f = record {
   names = f.names;
   jumps = f.jumps;
   named = f.named;
@@ -129,59 +121,42 @@ nothing_left o m t u S light f = record {
   weight = f.weight;
   some_pass = f.some_pass;
   within = f.within;
-  settled = λ e. both_rest o m.steady (faith.later m u) (let less = f.weight in omega (arith, less, light)) (f.settled e);
+  settled = λ e. all_rest o (faith.later m u) (let less = f.weight in omega (arith, less, light)) (f.settled e);
   unsettled = f.unsettled;
 }
 
-known_part : (b : Bool) (u : Tree) → PartEach (known_of b u) (steady_in u)
-known_part true u = each_itself (steady_in u)
-known_part false u = none_part (steady_in u)
+module _ (d : Data) (o : CompressOptions) (m : Minified) (t : Tree) (read : Accepts d t) (free : early_fault t ≡ None) (r : IsRewriting (resolved_program t) o m) where
+  lawful : (q : Tree) → DeclaresOnce q → LawfulRooted (let_go (switches o)) (writable_in q) (exactly_of q) (AllGives o q)
+  lawful = all_lawful all_read_less o
 
-module _ (d : Data) (o : CompressOptions) (m : Minified) (t : Tree) (read : Accepts d t) (r : IsRewriting (resolved_program t) o m) where
-  -- what is known of the bodies of the last program, and the passes as those of one relation
-  abbrev S : BodySets
-  S = known_of m.steady r.output
+  known : (q : Tree) → KeepsKnown (AllGives o q)
+  known = all_known all_read_less o
 
-  abbrev G : Tree → Position → Tree → Tree → Type 0
-  G = GivesBoth (AllGives o) (SteadyGives o) StaysTold m.steady r.output
-
-  abbrev D : Tree → Position → Tree → Type 0
-  D = RestsBoth (AllRests o) (SteadyRests o) m.steady
-
-  abbrev made_by : IsWritten G D (resolved_program t) o.passes m
-  made_by = record { output = r.output; passes = r.passes.made; written = r.written; kept = r.kept; symbols = r.symbols }
-
-  lawful : (q : Tree) → LawfulRooted (let_go (switches o)) (writable_in q) S (G q)
-  lawful = both_lawful o r.output m.steady
-
-  begins : EachBegins (λ q. PartEach S S) r.passes.made.reached
-  begins = each_begins (λ q. PartEach S S) (λ q. each_itself S) r.passes.made.reached
-
-  abbrev again : (u : Tree) × Accepts (program_data r.output) u × (text u ≡ text r.output)
-  again = any.again G D o (λ q. S) S lawful d m t read made_by begins (known_part m.steady r.output)
+  abbrev pub again : (u : Tree) × Accepts (program_data r.output) u × (text u ≡ text r.output)
+  again = any.again (AllGives o) (AllRests o) o lawful known d m t read free r
 
   start : IsRead t read.1
-  start = any.start G D o (λ q. S) S lawful d m t read made_by begins (known_part m.steady r.output)
+  start = any.start (AllGives o) (AllRests o) o lawful known d m t read free r
 
-  answer_read : IsRead again.0 again.1.1
-  answer_read = any.answer_read G D o (λ q. S) S lawful d m t read made_by begins (known_part m.steady r.output)
+  pub answer_read : IsRead again.0 again.1.1
+  answer_read = any.answer_read (AllGives o) (AllRests o) o lawful known d m t read free r
 
-  written : Accepts (view m.program) again.0
-  written = any.written G D o (λ q. S) S lawful d m t read made_by begins (known_part m.steady r.output)
+  pub written : Accepts (view m.program) again.0
+  written = any.written (AllGives o) (AllRests o) o lawful known d m t read free r
 
-  whole_is : faith.later m again.0 ≡ r.output
-  whole_is = any.whole_is G D o (λ q. S) S lawful d m t read made_by begins (known_part m.steady r.output)
+  pub whole_is : faith.later m again.0 ≡ r.output
+  whole_is = any.whole_is (AllGives o) (AllRests o) o lawful known d m t read free r
 
-  faithful_there : early_fault t ≡ None → IsFaithfulUnder (known_of m.steady (faith.later m again.0)) (NothingLeft D) o m t again.0
-  faithful_there free = subst (λ w. IsFaithfulUnder (known_of m.steady w) (NothingLeft D) o m t again.0) (sym whole_is) (any.faithful_there G D o (λ q. S) S lawful d m t read made_by begins (known_part m.steady r.output) free)
+  pub back : IsReadBack t r.output again.0
+  back = (any.made (AllGives o) (AllRests o) o lawful known d m t read free r).back
 
-  pub faithful : early_fault t ≡ None → weight Elsewhere t < 2 ^ 32 → Faithful d o m
-  faithful free light = record {
+  pub faithful : weight Elsewhere t < 2 ^ 32 → Faithful d o m
+  faithful light = record {
     input = t;
     output = again.0;
     accepted = read;
     answered = written;
-    faithful = nothing_left o m t again.0 (known_of m.steady (faith.later m again.0)) (let a = resolved_lighter t start.unresolved in omega (arith, a, light)) (faithful_there free);
+    faithful = nothing_left o m t again.0 (let a = resolved_lighter t start.unresolved in omega (arith, a, light)) (any.faithful_there (AllGives o) (AllRests o) o lawful known d m t read free r);
   }
 
   settles : (b : Bool) → (b ≡ false → ⊥) → b ≡ true
@@ -196,34 +171,35 @@ module _ (d : Data) (o : CompressOptions) (m : Minified) (t : Tree) (read : Acce
   bounded v w a b =
       let x = input_weight v a in
       let y = ap (weight Elsewhere) (ap (faith.later m) (one_tree (view m.program) w again.0 b written) ∙ whole_is) in
-      let h = r.passes.made.lighter in
+      let h = r.passes.lighter in
       omega (arith, x, y, h)
 
-  enough : (v : Tree) → Accepts d v → program_weight (earlier v) < max o.passes 1 → m.settled ≡ true
-  enough v a h = settles m.settled (λ s. let (same, fell) = r.passes.made.stopped s in let x = input_weight v a in omega (arith, same, fell, x, h))
+  enough : (v : Tree) → Accepts d v → program_weight (earlier v) ≤ max o.passes 1 → m.settled ≡ true
+  enough v a h =
+      settles m.settled (λ s.
+          let all = (r.passes.stopped s).0 in
+          let (w, (k, reach), near, fell) = r.passes.last s in
+          -- the program at which the last pass began is no empty one, so that it weighs more than 1
+          let heavy = program_heavy w (any.began (AllGives o) (AllRests o) o lawful known d m t read free r reach).shaped (omega (arith, fell)) in
+          let x = input_weight v a in
+          omega (arith, all, near, heavy, x, h))
 
-  fixed : (v : Tree) → Accepts d v → IsRewrittenBy true o (earlier v) → Accepts (view m.program) v × (m.passes ≡ 1) × (m.settled ≡ true)
+  fixed : (v : Tree) → Accepts d v → IsRewritten o (earlier v) → Accepts (view m.program) v × (m.passes ≡ 1) × (m.settled ≡ true)
   fixed v a f =
       let one = one_tree d v t a read in
-      let same : r.output ≡ resolved_program t = no_pass_moves o (resolved_program t) (subst (λ w. IsRewrittenBy true o (resolved_program w)) one f) m.steady r.output r.passes.made.reached refl in
+      let same : r.output ≡ resolved_program t = no_pass_moves o (resolved_program t) (subst (λ w. IsRewritten o (resolved_program w)) one f) r.passes.reached refl in
       let w = ap (weight Elsewhere) same in
-      let some = r.passes.made.some_pass in
-      let h = r.passes.made.lighter in
+      let some = r.passes.some_pass in
+      let h = r.passes.lighter in
       let q = answer_read in
       let unchanged : again.0 ≡ t = preorder_same again.0 t again.1.1 read.1 q.preorder start.preorder q.unresolved start.unresolved q.shaped start.shaped (again.2 ∙ ap text same ∙ text_resolved t) in (
         subst (Accepts (view m.program)) (unchanged ∙ sym one) written,
         omega (arith, w, some, h),
-        settles m.settled (λ s. let (all, fell) = r.passes.made.stopped s in omega (arith, w, some, fell)),
+        settles m.settled (λ s. let (all, fell) = r.passes.stopped s in omega (arith, w, some, fell)),
       )
 
-  -- where it didn't stay, there was a step that rests on it
-  still : (v : Tree) → Accepts (view m.program) v → IsSteadilyRewritten o (faith.later m v) → m.steady ≡ true
-  still v a f =
-      let same : faith.later m v ≡ r.output = ap (faith.later m) (one_tree (view m.program) v again.0 a written) ∙ whole_is in
-      settles m.steady (λ s. let (w, moves) = (r.passes.lost s).1 in no_step (SteadyGives o r.output) moves.step (nowhere_read o r.output (subst (IsSteadilyRewritten o) same f)))
-
   pub passes_bounded : PassesBounded d o m
-  passes_bounded = record { settled = λ v w a b s. bounded v w a b; unsettled = λ s. (r.passes.made.stopped s).0; enough = enough; fixed = fixed; steady = still }
+  passes_bounded = record { settled = λ v w a b s. bounded v w a b; unsettled = λ s. (r.passes.stopped s).0; enough = enough; fixed = fixed }
 
   -- ---- what both weigh
 
@@ -238,7 +214,7 @@ module _ (d : Data) (o : CompressOptions) (m : Minified) (t : Tree) (read : Acce
   pub weighs_after : weight Elsewhere t < 2 ^ 32 → (n : ℕ) → n ≡ capped (program_weight r.output) → (w : Tree) → Accepts (view m.program) w → n ≡ program_weight (faith.later m w)
   weighs_after light n e w b =
       let less = resolved_lighter t start.unresolved in
-      let some = r.passes.made.some_pass in
-      let fell = r.passes.made.lighter in
+      let some = r.passes.some_pass in
+      let fell = r.passes.lighter in
       let y = ap (weight Elsewhere) (ap (faith.later m) (one_tree (view m.program) w again.0 b written) ∙ whole_is) in
       plain_number n (program_weight r.output) e (omega (arith, some, fell, less, light)) ∙ sym y

@@ -1,6 +1,19 @@
 mod Chains
+mod CodeLawful
+mod ComesBack
+mod Everywhere
+mod Known
+mod Lightest
+mod Own
+mod Placing
+mod ReadLess
 mod Rules
-mod ToldWithin
+mod SeenAgain
+mod SeenLater
+mod SteadyKnown
+mod Survives
+mod ToldExactly
+mod WrittenAlike
 pub mod AnswerFloats
 pub mod Answered
 pub mod AnyPasses

@@ -10,16 +10,14 @@ use Rattle.mini_model.specs.Redex as first
 use Rattle.mini_model.specs.Rewriting.{Everywhere, EverywhereIn}
 use Rattle.mini_tree.specs.declared.options.CompressOptions.{CompressOptions}
 use Rattle.mini_tree.specs.Rule.{Both, Either}
-use Rattle.mini_passes.specs.Passes.{Where, GivesBoth, RestsBoth}
-use Rattle.mini_passes.proofs.Everywhere.{everywhere_with}
 use Rattle.mini_laws.specs.Value.{VariableSet}
 use Rattle.mini_laws.specs.Writable.{writable_in}
-use Rattle.mini_kept.specs.Loosely.{LawfulWith, LawfulUnder}
-use Rattle.mini_kept.specs.Rooted.{Inner, Outer, LawfulRooted}
+use Rattle.mini_kept.specs.Loosely.{LawfulWith}
+use Rattle.mini_kept.specs.Rooted.{LawfulRooted}
 use Rattle.mini_kept.specs.Without.{BodySets, none_steady}
-use Rattle.mini_kept.proofs.Loosely.{loose_narrowed, loose_is_steady, steady_narrowed}
-use Rattle.mini_kept.proofs.Rooted.{step_on, step_of, steady_is_rooted, rooted_wider, rooted_join}
-use Rattle.mini_rows.specs.Switches.{Switches, let_go}
+use Rattle.mini_kept.proofs.Loosely.{loose_narrowed, loose_is_steady}
+use Rattle.mini_kept.proofs.Rooted.{steady_is_rooted, rooted_wider, rooted_join}
+use Rattle.mini_rows.specs.Switches.{Switches, Liberties, let_go}
 use Rattle.mini_rows.specs.Branches.{BranchRow}
 use Rattle.mini_rows.specs.Turns.{TurnRow}
 use Rattle.mini_rows.specs.Arrows.{ArrowRow}
@@ -30,14 +28,8 @@ use Rattle.mini_logic.specs.MinimizeBody as bodies
 use Rattle.mini_logic.proofs.Joined as logic
 use Rattle.mini_syntax.specs.SubstituteReturnStatement as returns
 use Rattle.mini_switch.specs.MinimizeSwitchStatements as switch
-use Rattle.mini_rows.proofs.OwnArrowLawful.{steady_code_lawful, lexical_code_lawful}
-use Rattle.mini_rows.proofs.OwnPartLawful.{steady_parts_lawful, lexical_parts_lawful}
-use Rattle.mini_rows.proofs.OwnProgramLawful.{steady_programs_lawful, lexical_programs_lawful}
 use Rattle.mini_rows.proofs.InsideLawful.{inside_loose}
 use Rattle.mini_rows.specs.Inside.{InsideContracts}
-use Rattle.mini_rows.specs.OwnArrows.{OwnCode, SteadyCode, LexicalCode}
-use Rattle.mini_rows.specs.OwnParts.{OwnPart, SteadyPart, LexicalPart}
-use Rattle.mini_rows.specs.OwnPrograms.{OwnProgram, SteadyProgram, LexicalProgram}
 use Rattle.mini_rows.specs.Past.{PastFunction}
 use Rattle.mini_rows.specs.PastArrows.{PastArrow}
 use Rattle.mini_rows.specs.PastBlocks.{PastBlocks}
@@ -46,18 +38,21 @@ use Rattle.mini_rows.specs.PastModules.{PastModule}
 use Rattle.mini_rows.specs.PastStatics.{PastStatic}
 use Rattle.mini_rows.specs.Steady.{SteadyRow, LexicalRows}
 use Rattle.mini_steady.specs.Told.{told_in}
+use Rattle.mini_shrink.specs.Exact.{exactly_of}
 use Rattle.mini_past.proofs.Lawful.{past_code_lawful}
-use Rattle.mini_rows.proofs.PastBlockLawful.{past_blocks_are_lawful, past_blocks_are_lawful_in_programs}
-use Rattle.mini_rows.proofs.PastPartLawful.{past_blocks_are_lawful_in_parts}
 use Rattle.mini_rows.proofs.PastInsideLawful.{past_inside_is_lawful}
 use Rattle.mini_rows.proofs.PastModuleLawful.{past_modules_are_lawful}
 use Rattle.mini_rows.proofs.PastStaticLawful.{past_statics_are_lawful}
-use Rattle.mini_peephole.specs.Environments.{steady_in}
-use Rattle.mini_peephole.specs.Faithful.{switches, known_of, IsRewrittenBy}
-use Rattle.mini_peephole.specs.SteadyRows.{InsideCode, AnyCode}
-use Rattle.mini_peephole.specs.Rules.{Gives, Rests, AllGives, AllRests, SteadyGives, SteadyRests}
-use Rattle.mini_passes.specs.Staying.{StaysTold, within_through}
-use Rattle.mini_peephole.proofs.ToldWithin.{told_within}
+use Rattle.mini_peephole.specs.AnyPasses.{LawfulFor, KnownStays}
+use Rattle.mini_peephole.specs.Faithful.{switches, IsRewritten}
+use Rattle.mini_peephole.specs.SteadyRows.{AnyCode, PastCode, InsideCode, SteadyRewrites}
+use Rattle.mini_peephole.specs.Rules.{Gives, Rests, LooseGives, LooseRests, SteadyGives, SteadyRests, AllGives, AllRests}
+use Rattle.mini_peephole.proofs.CodeLawful.{steady_code, lexical_code, block_code}
+use Rattle.mini_peephole.proofs.Everywhere.{everywhere_with}
+use Rattle.mini_peephole.proofs.Known.{less_is_known}
+use Rattle.mini_peephole.proofs.ReadLess.{AllReadLess, rewrites_read_less}
+use Rattle.mini_peephole.proofs.SteadyKnown.{known_join, known_narrowed, steady_known}
+use Rattle.mini_peephole.proofs.ToldExactly.{told_within}
 use Rattle.mini_unused.specs.Allowed.{allowed_in}
 
 -- the rows of the rules are among the rows
@@ -118,12 +113,12 @@ module _ (o : CompressOptions) (q : Tree) where
   gives_contract p t u (inr (inr (inr (inr (inr (inr (inr (inr (inr (inr (inr (inr (inr (inr (inr (inr (inr (inr (inl c))))))))))))))))))) = switches_contract p t u c
   gives_contract p t u (inr (inr (inr (inr (inr (inr (inr (inr (inr (inr (inr (inr (inr (inr (inr (inr (inr (inr (inr c))))))))))))))))))) = record { row = inr (inr (inr (inr (inr (inr (inr (inr (inr (inr (inr (inr (inr (inr (inr (inr (inr (inr c.row))))))))))))))))); lighter = c.lighter }
 
-  pub all_contract : (p : Position) (t u : Tree) → AllGives o q p t u → Rewrites (switches o) (writable_in q) p t u
-  all_contract p t u (inl r) = inl (gives_contract p t u r)
-  all_contract p t u (inr c) = inr c
+  pub loose_contract : (p : Position) (t u : Tree) → LooseGives o q p t u → Rewrites (switches o) (writable_in q) p t u
+  loose_contract p t u (inl r) = inl (gives_contract p t u r)
+  loose_contract p t u (inr c) = inr c
 
-  pub gives_lawful : LawfulWith (let_go (switches o)) (writable_in q) (AllGives o q)
-  gives_lawful = loose_narrowed (AllGives o q) (Rewrites (switches o) (writable_in q)) (let_go (switches o)) (writable_in q) all_contract (all_loose (switches o) (writable_in q))
+  pub loose_lawful : LawfulWith (let_go (switches o)) (writable_in q) (LooseGives o q)
+  loose_lawful = loose_narrowed (LooseGives o q) (Rewrites (switches o) (writable_in q)) (let_go (switches o)) (writable_in q) loose_contract (all_loose (switches o) (writable_in q))
 
   -- where all have nothing to do, nothing is to be rewritten, as far as the weight fits 64 bits
 
@@ -167,96 +162,64 @@ module _ (o : CompressOptions) (q : Tree) where
   settled p t u small r (inr (inr (inr (inr (inr (inr (inr (inr (inr (inr (inr (inr (inr (inr (inr (inr (inr (inl row)))))))))))))))))) less = r.1.1.1.1.1.1.1.1.1.1.1.1.1.1.1.1.1.0 small u (record { row = row; lighter = less })
   settled p t u small r (inr (inr (inr (inr (inr (inr (inr (inr (inr (inr (inr (inr (inr (inr (inr (inr (inr (inr row)))))))))))))))))) less = r.1.1.1.1.1.1.1.1.1.1.1.1.1.1.1.1.1.1.1 u row
 
-  all_settled : (p : Position) (t u : Tree) → weight p t < 2 ^ 64 → AllRests o q p t → Rewrites (switches o) (writable_in q) p t u → ⊥
-  all_settled p t u small r (inl c) = settled p t u small r.0 c.row c.lighter
-  all_settled p t u small r (inr (inl c)) = r.1.0 u c.row
-  all_settled p t u small r (inr (inr (inl c))) = r.1.1.0 u c.row
-  all_settled p t u small r (inr (inr (inr (inl c)))) = r.1.1.1.0 u c.row
-  all_settled p t u small r (inr (inr (inr (inr (inl c))))) = r.1.1.1.1.0 u c.row
-  all_settled p t u small r (inr (inr (inr (inr (inr c))))) = r.1.1.1.1.1 u c.row
+  loose_settled : (p : Position) (t u : Tree) → weight p t < 2 ^ 64 → LooseRests o q p t → Rewrites (switches o) (writable_in q) p t u → ⊥
+  loose_settled p t u small r (inl c) = settled p t u small r.0 c.row c.lighter
+  loose_settled p t u small r (inr (inl c)) = r.1.0 u c.row
+  loose_settled p t u small r (inr (inr (inl c))) = r.1.1.0 u c.row
+  loose_settled p t u small r (inr (inr (inr (inl c)))) = r.1.1.1.0 u c.row
+  loose_settled p t u small r (inr (inr (inr (inr (inl c))))) = r.1.1.1.1.0 u c.row
+  loose_settled p t u small r (inr (inr (inr (inr (inr c))))) = r.1.1.1.1.1 u c.row
 
-  rests_settle : (p : Position) (t : Tree) → weight p t < 2 ^ 64 → AllRests o q p t → IsSettled (switches o) (writable_in q) p t
-  rests_settle p t small r x = all_settled p t x.to small r x.contracts
+  rests_settle : (p : Position) (t : Tree) → weight p t < 2 ^ 64 → LooseRests o q p t → IsSettled (switches o) (writable_in q) p t
+  rests_settle p t small r x = loose_settled p t x.to small r x.contracts
 
   mutual
-    pub rests_everywhere : (p : Position) (t : Tree) → weight p t < 2 ^ 64 → Everywhere (AllRests o q) p t → HasNoRedex (switches o) (writable_in q) p t
+    pub rests_everywhere : (p : Position) (t : Tree) → weight p t < 2 ^ 64 → Everywhere (LooseRests o q) p t → HasNoRedex (switches o) (writable_in q) p t
     rests_everywhere p (node h xs n ts) small r = (rests_settle p (node h xs n ts) small r.0, rest_in (child_position h p (count ts)) ts (omega (arith, small)) r.1)
 
-    rest_in : (π : ℕ → Position) (ts : Trees) → weights π ts < 2 ^ 64 → EverywhereIn (AllRests o q) π ts → EverywhereIn (IsSettled (switches o) (writable_in q)) π ts
+    rest_in : (π : ℕ → Position) (ts : Trees) → weights π ts < 2 ^ 64 → EverywhereIn (LooseRests o q) π ts → EverywhereIn (IsSettled (switches o) (writable_in q)) π ts
     rest_in π none small r = tt
     rest_in π (t ▸ ts) small r = (rests_everywhere (π zero) t (omega (arith, small)) r.0, rest_in (λ i. π (suc i)) ts (omega (arith, small)) r.1)
 
 -- ---- of those that rest on what is known of bodies
 
--- what is made where P is so, of which that is all that is asked
-where_lawful : (P : Type 0) (R : Position → Tree → Tree → Type 0) (K : Shape → Bool) (W : VariableSet) (S : BodySets) → (P → LawfulUnder K W S R) → LawfulUnder K W S (Where P R)
-where_lawful P R K W S l = record {
-  shapes = record { fitting = λ p n w r. (l r.0).shapes.fitting p n w r.1; asked = λ p n w r. (l r.0).shapes.asked p n w r.1 };
-  places = record {
-    names = record { places = λ p n w r. (l r.0).places.names.places p n w r.1; pieces = λ p n w r. (l r.0).places.names.pieces p n w r.1; keeps = λ p n w r. (l r.0).places.names.keeps p n w r.1 };
-    slots = λ p n w r. (l r.0).places.slots p n w r.1;
-    ports = λ p n w r. (l r.0).places.ports p n w r.1;
-    listed = λ p n w e r. (l r.0).places.listed p n w e r.1;
-    exported = λ p n w r. (l r.0).places.exported p n w r.1;
-  };
-  reads = λ p n w r. (l r.0).reads p n w r.1;
-  kind = λ p n w r. (l r.0).kind p n w r.1;
-  declared = λ p n w r. (l r.0).declared p n w r.1;
-  instances = λ p n w r. (l r.0).instances p n w r.1;
-}
+steady_lawful : (K : Shape → Bool) (L : Liberties) (S : BodySets) → LawfulRooted K L.writable S (SteadyRewrites S L)
+steady_lawful K L S =
+    let W = L.writable in
+    let Past = Either (PastFunction S L) (PastArrow S L) in
+    let Others = Either (PastModule S L) (PastStatic S L) in
+    let Blocks = AnyCode (PastBlocks L.switches) S in
+    rooted_join (Either (AnyCode SteadyRow S) (AnyCode LexicalRows S)) (Either (PastCode S L) (InsideCode S L)) K W S (rooted_join (AnyCode SteadyRow S) (AnyCode LexicalRows S) K W S (steady_code K W S) (lexical_code K W S))
+    (rooted_join (PastCode S L) (InsideCode S L) K W S
+    (rooted_join (Either Past Others) Blocks K W S
+    (rooted_join Past Others K W S (steady_is_rooted Past K W S (past_code_lawful K L S)) (rooted_join (PastModule S L) (PastStatic S L) K W S (past_modules_are_lawful K L S) (past_statics_are_lawful K L S)))
+    (block_code L.switches K W S))
+    (rooted_join (InsideContracts L) (PastInside S L) K W S (steady_is_rooted (InsideContracts L) K W S (loose_is_steady (InsideContracts L) K W S (inside_loose K L))) (past_inside_is_lawful K L S)))
 
-where_rooted : (P : Type 0) (R : Position → Tree → Tree → Type 0) (K : Shape → Bool) (W : VariableSet) (S : BodySets) → (P → LawfulRooted K W S R) → LawfulRooted K W S (Where P R)
-where_rooted P R K W S l = record {
-  inner = steady_narrowed (Inner (Where P R)) (Where P (Inner R)) K W S (λ p n w r. (r.0.0, (r.0.1, r.1))) (where_lawful P (Inner R) K W S (λ h. (l h).inner));
-  whole = λ t u s e. let (h, o) = step_of P (λ h. Outer R) (step_on (λ p n w r. (r.0.0, (r.0.1, r.1))) s) in (l h).whole t u o e;
-}
+-- ---- all rules
 
-module _ (o : CompressOptions) (v : Tree) where
-  steady_lawful : (q : Tree) → StaysTold q v → LawfulRooted (let_go (switches o)) (writable_in q) (steady_in v) (SteadyGives o q)
-  steady_lawful q k =
-      let K = let_go (switches o) in
-      let L = allowed_in o q in
-      let W = L.writable in
-      let T = told_in q in
-      let Past = Either (PastFunction T L) (PastArrow T L) in
-      let Others = Either (PastModule T L) (PastStatic T L) in
-      let Rows = PastBlocks L.switches in
-      let Blocks = AnyCode Rows T in
-      rooted_wider (SteadyGives o q) K W W T (steady_in v) (λ x h. h) (λ b. within_through (told_in q b) (told_in v b) (steady_in v b) (k b) (told_within v b))
-      (rooted_join (Either (AnyCode SteadyRow T) (AnyCode LexicalRows T)) (Either (Either (Either Past Others) Blocks) (InsideCode T L)) K W T
-      (rooted_join (AnyCode SteadyRow T) (AnyCode LexicalRows T) K W T
-      (rooted_join (Either (SteadyCode T) (SteadyProgram T)) (SteadyPart T) K W T
-      (rooted_join (SteadyCode T) (SteadyProgram T) K W T (steady_is_rooted (SteadyCode T) K W T (steady_code_lawful K W T)) (steady_programs_lawful K W T))
-      (steady_parts_lawful K W T))
-      (rooted_join (Either (LexicalCode T) (LexicalProgram T)) (LexicalPart T) K W T
-      (rooted_join (LexicalCode T) (LexicalProgram T) K W T (steady_is_rooted (LexicalCode T) K W T (lexical_code_lawful K W T)) (lexical_programs_lawful K W T))
-      (lexical_parts_lawful K W T)))
-      (rooted_join (Either (Either Past Others) Blocks) (InsideCode T L) K W T
-      (rooted_join (Either Past Others) Blocks K W T
-      (rooted_join Past Others K W T (steady_is_rooted Past K W T (past_code_lawful K L T)) (rooted_join (PastModule T L) (PastStatic T L) K W T (past_modules_are_lawful K L T) (past_statics_are_lawful K L T)))
-      (rooted_join (Either (OwnCode Rows T) (OwnProgram Rows T)) (OwnPart Rows T) K W T
-      (rooted_join (OwnCode Rows T) (OwnProgram Rows T) K W T (past_blocks_are_lawful L.switches K W T) (past_blocks_are_lawful_in_programs L.switches K W T))
-      (past_blocks_are_lawful_in_parts L.switches K W T)))
-      (rooted_join (InsideContracts L) (PastInside T L) K W T (steady_is_rooted (InsideContracts L) K W T (loose_is_steady (InsideContracts L) K W T (inside_loose K L))) (past_inside_is_lawful K L T))))
+pub all_lawful : AllReadLess → LawfulFor AllGives
+all_lawful h o q e =
+    let K = let_go (switches o) in
+    let W = writable_in q in
+    let S = exactly_of q in
+    rooted_join (LooseGives o q) (SteadyGives o q) K W S (steady_is_rooted (LooseGives o q) K W S (loose_is_steady (LooseGives o q) K W S (loose_lawful o q)))
+    (rooted_wider (SteadyGives o q) K W W (told_in q) S (λ x k. k) (told_within h.exact q e) (steady_lawful K (allowed_in o q) (told_in q)))
 
-  -- what passes make on the way to v
-  pub both_lawful : (b : Bool) (q : Tree) → LawfulRooted (let_go (switches o)) (writable_in q) (known_of b v) (GivesBoth (AllGives o) (SteadyGives o) StaysTold b v q)
-  both_lawful true q =
-      let K = let_go (switches o) in
-      let W = writable_in q in
-      let S = steady_in v in
-      let still = Where (StaysTold q v) (SteadyGives o q) in
-      rooted_join (AllGives o q) still K W S (steady_is_rooted (AllGives o q) K W S (loose_is_steady (AllGives o q) K W S (gives_lawful o q))) (where_rooted (StaysTold q v) (SteadyGives o q) K W S (steady_lawful q))
-  both_lawful false q =
-      let K = let_go (switches o) in
-      let W = writable_in q in
-      steady_is_rooted (AllGives o q) K W none_steady (loose_is_steady (AllGives o q) K W none_steady (gives_lawful o q))
+-- they keep what is known of bodies
+pub all_known : AllReadLess → KnownStays AllGives
+all_known h o q =
+    let K = let_go (switches o) in
+    let W = writable_in q in
+    known_join (LooseGives o q) (SteadyGives o q)
+    (known_narrowed (LooseGives o q) (Rewrites (switches o) W) (loose_contract o q)
+    (less_is_known K W none_steady (Rewrites (switches o) W) (loose_is_steady (Rewrites (switches o) W) K W none_steady (all_loose (switches o) W)) (rewrites_read_less h (switches o) W)))
+    (steady_known h K (told_in q) (allowed_in o q))
 
 -- where they all rest nothing is left
-pub both_rest : (o : CompressOptions) (b : Bool) (u : Tree) → weight Elsewhere u < 2 ^ 64 → Everywhere (RestsBoth (AllRests o) (SteadyRests o) b u) Elsewhere u → IsRewrittenBy b o u
-both_rest o true u small r =
-    let each = Both (AllRests o u) (SteadyRests o u) in (
-      rests_everywhere o u Elsewhere u small (everywhere_with each each (AllRests o u) (λ p t x y. x.0) Elsewhere u r r),
+pub all_rest : (o : CompressOptions) (u : Tree) → weight Elsewhere u < 2 ^ 64 → Everywhere (AllRests o u) Elsewhere u → IsRewritten o u
+all_rest o u small r =
+    let each = AllRests o u in (
+      rests_everywhere o u Elsewhere u small (everywhere_with each each (LooseRests o u) (λ p t x y. x.0) Elsewhere u r r),
       everywhere_with each each (SteadyRests o u) (λ p t x y. x.1) Elsewhere u r r,
     )
-both_rest o false u small r = rests_everywhere o u Elsewhere u small r

@@ -38,7 +38,7 @@ free_of t e = free_by (early_names [] t) (early_jumps no_targets [] t) t e
 mutual
   unfolding renumbered without_symbols
 
-  same_text : (t : Tree) → bare t ≡ text t
+  pub same_text : (t : Tree) → bare t ≡ text t
   same_text (node h xs n ts) = λ k. node h (bare_names h xs) 0 (same_texts ts k)
 
   same_texts : (ts : Trees) → bares ts ≡ texts ts

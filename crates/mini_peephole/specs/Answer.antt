@@ -11,6 +11,7 @@ use Rattle.mini_tree.specs.declared.options.CompressOptions.{CompressOptions}
 use Rattle.mini_accept.specs.Accept.{program_at, Accepts}
 use Rattle.mini_scope.specs.Pointers.{early_fault}
 use Rattle.mini_model.specs.Faults.{Fault, fault_of, name_of_defect}
+use Rattle.mini_peephole.specs.ComesBack.{ComesBack}
 use Rattle.mini_peephole.specs.Faithful.{earlier, later, Faithful, PassesBounded}
 use Rattle.mini_peephole.specs.Minified.{IsMinified, HasDefect}
 use Rattle.mini_peephole.specs.declared.minify.Minified.{Minified}
@@ -43,10 +44,10 @@ numbers_data ns = array (items_of (map (λ n. number (unsigned n)) ns))
 
 -- what is told of an answer besides its program
 abbrev pub told_members : Minified → Members
-told_members m = member (codes "kept") (numbers_data m.kept) (member (codes "passes") (number (unsigned m.passes)) (member (codes "settled") (boolean m.settled) (member (codes "steady") (boolean m.steady) (member (codes "symbols") (numbers_data m.symbols) no_members))))
+told_members m = member (codes "kept") (numbers_data m.kept) (member (codes "passes") (number (unsigned m.passes)) (member (codes "settled") (boolean m.settled) (member (codes "symbols") (numbers_data m.symbols) no_members)))
 
 abbrev pub answer_data : Minified → Data
-answer_data m = object (member (codes "kept") (numbers_data m.kept) (member (codes "passes") (number (unsigned m.passes)) (member (codes "program") (view m.program) (member (codes "settled") (boolean m.settled) (member (codes "steady") (boolean m.steady) (member (codes "symbols") (numbers_data m.symbols) no_members))))))
+answer_data m = object (member (codes "kept") (numbers_data m.kept) (member (codes "passes") (number (unsigned m.passes)) (member (codes "program") (view m.program) (member (codes "settled") (boolean m.settled) (member (codes "symbols") (numbers_data m.symbols) no_members)))))
 
 -- what is written for an answer
 abbrev pub answer_text : Minified → List ℕ
@@ -69,13 +70,14 @@ abbrev pub IsNotJson : List ℕ → Type 0
 IsNotJson input = IsUtf8 input → read input ≡ None
 
 -- the bytes are JSON, of a program to which this answer is faithful, and from which it was made by
--- rewrites
+-- rewrites; given again, it comes back
 pub record HasAnswer (o : CompressOptions) (input : List ℕ) (m : Minified) : Type 0 where
   pub value : Data
   pub reads : read input ≡ Some value
   pub faithful : Faithful value o m
   pub passes : PassesBounded value o m
   pub minified : IsMinified value o m
+  pub again : ComesBack o m
 
 -- of a value this is an answer that is faithful and was made by rewrites, and its program and the
 -- answer's weigh this

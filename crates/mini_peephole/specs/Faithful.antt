@@ -2,7 +2,7 @@
 --
 -- Both are compared in the numbers and symbols of the earlier one: the later program is resolved,
 -- and each number and symbol in it is replaced by the one that it stands for.
-use Rattle.std.specs.Prelude.{◌≡◌, ℕ, suc, ◌+◌, ◌<◌, ◌≤◌, max, Bool, true, false, List, [], ◌∷◌, map, length, ◌⊎◌, Contains, Option, Some, None}
+use Rattle.std.specs.Prelude.{◌≡◌, ℕ, suc, ◌+◌, ◌≤◌, max, Bool, true, false, List, [], ◌∷◌, map, length, ◌⊎◌, Contains, Option, Some, None}
 use Rattle.serde_json.specs.Data.{Data}
 use Rattle.serde_json.specs.View.{view}
 use Rattle.mini_model.specs.declared.name.Name.{Name}
@@ -27,7 +27,6 @@ use Rattle.mini_kept.specs.Declaring.{declared}
 use Rattle.mini_kept.specs.Frames.{frames_in}
 use Rattle.mini_kept.specs.Loosely.{undeclared}
 use Rattle.mini_kept.specs.ShownFrames.{KeyGivenUnder, gone_from, FramesShown}
-use Rattle.mini_kept.specs.Without.{BodySets, none_steady}
 use Rattle.mini_rows.specs.Switches.{Switches, let_go}
 use Rattle.mini_rows.specs.Redex.{HasNoRedex}
 use Rattle.mini_peephole.specs.Environments.{shared_by, foreign_to, initialised_for, steady_in, environment_with}
@@ -96,9 +95,8 @@ pass_bound o = max o.passes 1
 abbrev pub switches : CompressOptions → Switches
 switches o = record { sequences = o.sequences; join_vars = o.join_vars; keep_function_names = o.keep_names.function; keep_class_names = o.keep_names.class }
 
--- what is said of the two trees, where Rests says of the later one that nothing is left to do, and
--- S what is known of each body
-pub record IsFaithfulUnder (S : BodySets) (Rests : Tree → Type 0) (o : CompressOptions) (m : Minified) (t u : Tree) : Type 0 where
+-- what is said of the two trees, where Rests says of the later one that nothing is left to do
+pub record IsFaithfulWith (Rests : Tree → Type 0) (o : CompressOptions) (m : Minified) (t u : Tree) : Type 0 where
   -- the answer has no early error
   pub names : early_names [] u ≡ []
   pub jumps : early_jumps no_targets [] u ≡ []
@@ -109,9 +107,10 @@ pub record IsFaithfulUnder (S : BodySets) (Rests : Tree → Type 0) (o : Compres
   -- what stands outside bodies is kept: each of its nodes with a number has the frame that the one
   -- had which it was, but for the brackets of keys which give one property and do nothing else,
   -- where the variables can be written that the earlier program lets be written, and that is so
-  -- which S says, and for the name of a function or a class expression that the later program
-  -- doesn't declare, so that nothing in it refers to that, where the options let it go
-  pub frames : FramesShown (gone_from (let_go (switches o)) (undeclared (later m u))) (KeyGivenUnder (writable_by (earlier t)) S (undeclared (later m u)) (bodies_in (earlier t))) (frames_in (earlier t)) (frames_in (later m u))
+  -- which is known of the bodies of the later one, and for the name of a function or a class
+  -- expression that the later program doesn't declare, so that nothing in it refers to that, where
+  -- the options let it go
+  pub frames : FramesShown (gone_from (let_go (switches o)) (undeclared (later m u))) (KeyGivenUnder (writable_by (earlier t)) (steady_in (later m u)) (undeclared (later m u)) (bodies_in (earlier t))) (frames_in (earlier t)) (frames_in (later m u))
   -- each body does what the one does that it was
   pub bodies : BodiesAreSame (earlier t) (later m u)
   -- it is no heavier
@@ -122,57 +121,32 @@ pub record IsFaithfulUnder (S : BodySets) (Rests : Tree → Type 0) (o : Compres
   pub settled : m.settled ≡ true → Rests (later m u)
   pub unsettled : m.settled ≡ false → program_weight (later m u) + pass_bound o ≤ program_weight (earlier t)
 
--- whatever is known of the bodies
-abbrev pub IsFaithfulWith : (Tree → Type 0) → CompressOptions → Minified → Tree → Tree → Type 0
-IsFaithfulWith = IsFaithfulUnder none_steady
-
--- the value is a program, the answer's value is one, and the later one is faithful to the earlier,
--- with what S says is known of the bodies of the later one
-pub record FaithfulUnder (S : Tree → BodySets) (Rests : Tree → Type 0) (d : Data) (o : CompressOptions) (m : Minified) : Type 0 where
+-- the value is a program, the answer's value is one, and the later one is faithful to the earlier
+pub record FaithfulWith (Rests : Tree → Type 0) (d : Data) (o : CompressOptions) (m : Minified) : Type 0 where
   pub input : Tree
   pub output : Tree
   pub accepted : Accepts d input
   pub answered : Accepts (view m.program) output
-  pub faithful : IsFaithfulUnder (S (later m output)) Rests o m input output
+  pub faithful : IsFaithfulWith Rests o m input output
 
--- whatever that is
-abbrev pub FaithfulWith : (Tree → Type 0) → Data → CompressOptions → Minified → Type 0
-FaithfulWith = FaithfulUnder (λ u. none_steady)
-
--- and where it is what the program says of its bodies
-abbrev pub FaithfulSteadily : (Tree → Type 0) → Data → CompressOptions → Minified → Type 0
-FaithfulSteadily = FaithfulUnder steady_in
-
--- that, where what was known of bodies stayed so, as an answer tells
-abbrev pub known_of : Bool → Tree → BodySets
-known_of true u = steady_in u
-known_of false u = none_steady
-
--- nothing is left to rewrite in a program, with the variables that it mentions and lets be written
+-- nothing is left to rewrite in a program: neither by what it mentions and lets be written, nor by
+-- what is known of its bodies
 abbrev pub IsRewritten : CompressOptions → Tree → Type 0
-IsRewritten o u = HasNoRedex (switches o) (writable_in u) Elsewhere u
-
--- nothing is left at all, where what was known of bodies stayed so, and otherwise nothing but what
--- rests on that
-abbrev pub IsRewrittenBy : Bool → CompressOptions → Tree → Type 0
-IsRewrittenBy true o u = IsRewritten o u × IsSteadilyRewritten o u
-IsRewrittenBy false o u = IsRewritten o u
+IsRewritten o u = HasNoRedex (switches o) (writable_in u) Elsewhere u × IsSteadilyRewritten o u
 
 -- of rewrites
 abbrev pub IsFaithful : CompressOptions → Minified → Tree → Tree → Type 0
-IsFaithful o m t u = IsFaithfulUnder (known_of m.steady (later m u)) (IsRewrittenBy m.steady o) o m t u
+IsFaithful o m t u = IsFaithfulWith (IsRewritten o) o m t u
 
 abbrev pub Faithful : Data → CompressOptions → Minified → Type 0
-Faithful d o m = FaithfulUnder (known_of m.steady) (IsRewrittenBy m.steady o) d o m
+Faithful d o m = FaithfulWith (IsRewritten o) d o m
 
 -- bounds on the passes, which tell more than Faithful does
 pub record PassesBounded (d : Data) (o : CompressOptions) (m : Minified) : Type 0 where
   -- each pass but a last one that finds nothing makes the program lighter
   pub settled : (t u : Tree) → Accepts d t → Accepts (view m.program) u → m.settled ≡ true → program_weight (later m u) + m.passes ≤ program_weight (earlier t) + 1
   pub unsettled : m.settled ≡ false → m.passes ≡ pass_bound o
-  -- a bound above the program's weight always settles
-  pub enough : (t : Tree) → Accepts d t → program_weight (earlier t) < pass_bound o → m.settled ≡ true
+  -- a bound that is no less than the program's weight always settles
+  pub enough : (t : Tree) → Accepts d t → program_weight (earlier t) ≤ pass_bound o → m.settled ≡ true
   -- a program in which nothing is left to rewrite stays as it is, after one pass
-  pub fixed : (t : Tree) → Accepts d t → IsRewrittenBy true o (earlier t) → Accepts (view m.program) t × (m.passes ≡ 1) × (m.settled ≡ true)
-  -- where nothing that rests on what is known of bodies is left, that stayed so
-  pub steady : (u : Tree) → Accepts (view m.program) u → IsSteadilyRewritten o (later m u) → m.steady ≡ true
+  pub fixed : (t : Tree) → Accepts d t → IsRewritten o (earlier t) → Accepts (view m.program) t × (m.passes ≡ 1) × (m.settled ≡ true)

@@ -4,4 +4,5 @@ pub mod Rules
 pub mod Minified
 pub mod Faithful
 pub mod AnyPasses
+pub mod ComesBack
 pub mod Answer

@@ -15,10 +15,8 @@ use Rattle.mini_model.specs.Faults.{Fault, fault_of}
 use Rattle.mini_model.specs.declared.error.MinifyError.{MinifyError}
 use Rattle.mini_estree.specs.Reads.{fault_told}
 use Rattle.mini_tree.specs.Passes.{MakesPasses}
-use Rattle.mini_passes.specs.Passes.{MakesBoth}
 use Rattle.mini_kept.specs.Carried.{numbers, symbol_numbers}
-use Rattle.mini_peephole.specs.Rules.{AllGives, AllRests, SteadyGives, SteadyRests}
-use Rattle.mini_passes.specs.Staying.{StaysTold}
+use Rattle.mini_peephole.specs.Rules.{AllGives, AllRests}
 use Rattle.mini_model.specs.Weight.{capped, program_weight}
 use Rattle.mini_peephole.specs.declared.minify.Minified.{Minified}
 use Rattle.mini_peephole.specs.declared.minify.Weighed.{Weighed}
@@ -33,14 +31,9 @@ pub record IsWritten (G : Tree → Position → Tree → Tree → Type 0) (D : T
   pub kept : m.kept ≡ 0 ∷ numbers output
   pub symbols : m.symbols ≡ symbol_numbers (declared_symbols output)
 
--- Passes of the rules, as the options have them, lead from the tree to the one that was written: of
--- those that rest on what is known of bodies where that stayed so to the end, as is told
-pub record IsRewriting (input : Tree) (o : CompressOptions) (m : Minified) : Type 0 where
-  pub output : Tree
-  pub passes : MakesBoth (AllGives o) (SteadyGives o) (AllRests o) (SteadyRests o) StaysTold input output o.passes m.passes m.settled m.steady
-  pub written : view m.program ≡ program_data output
-  pub kept : m.kept ≡ 0 ∷ numbers output
-  pub symbols : m.symbols ≡ symbol_numbers (declared_symbols output)
+-- those of all rules, as the options have them
+abbrev pub IsRewriting : Tree → CompressOptions → Minified → Type 0
+IsRewriting input o m = IsWritten (AllGives o) (AllRests o) input o.passes m
 
 -- the tree has no early error, and is resolved and rewritten
 pub record IsAnswer (input : Tree) (o : CompressOptions) (m : Minified) : Type 0 where

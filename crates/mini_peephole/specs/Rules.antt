@@ -43,16 +43,22 @@ abbrev pub Rests : CompressOptions → Tree → Position → Tree → Type 0
 Rests o q = Both logic.Rests (Both bodies.Rests (Both returns.Rests (Both spellings.Rests (Both (lists.RestsUnder o q) (Both keys.Rests (Both choices.Rests (Both declarations.Rests (Both folding.Rests (Both arrows.Rests (Both constants.Rests (Both held.Rests (Both booleans.Rests (Both de_morgan.Rests (Both sequences.Rests (Both operands.Rests (Both negation.Rests (Both templates.Rests (Both switches.Rests (loop_guards.LoopsRest o q)))))))))))))))))))
 
 -- and of those besides that drop names that nothing mentions, or write names that can be written
-abbrev pub AllGives : CompressOptions → Tree → Position → Tree → Tree → Type 0
-AllGives o q = Either (Gives o q) (Either (unused.Gives o q) (Either (names.Gives o q) (Either CatchContracts (Either (writes.Gives o q) (lets.Gives o q)))))
+abbrev pub LooseGives : CompressOptions → Tree → Position → Tree → Tree → Type 0
+LooseGives o q = Either (Gives o q) (Either (unused.Gives o q) (Either (names.Gives o q) (Either CatchContracts (Either (writes.Gives o q) (lets.Gives o q)))))
 
-abbrev pub AllRests : CompressOptions → Tree → Position → Tree → Type 0
-AllRests o q = Both (Rests o q) (Both (unused.Rests o q) (Both (names.RestsUnder o q) (Both catches.Rests (Both (writes.Rests q) (lets.Rests q)))))
+abbrev pub LooseRests : CompressOptions → Tree → Position → Tree → Type 0
+LooseRests o q = Both (Rests o q) (Both (unused.Rests o q) (Both (names.RestsUnder o q) (Both catches.Rests (Both (writes.Rests q) (lets.Rests q)))))
 
--- and of those that rest on what is known of the bodies of the program, which act where no other
--- does
+-- of those that rest on what is known of the bodies of the program
 abbrev pub SteadyGives : CompressOptions → Tree → Position → Tree → Tree → Type 0
 SteadyGives o q = SteadyRewrites (told_in q) (allowed_in o q)
 
 abbrev pub SteadyRests : CompressOptions → Tree → Position → Tree → Type 0
 SteadyRests o q = IsSteadilySettled (told_in q) (allowed_in o q)
+
+-- of all
+abbrev pub AllGives : CompressOptions → Tree → Position → Tree → Tree → Type 0
+AllGives o q = Either (LooseGives o q) (SteadyGives o q)
+
+abbrev pub AllRests : CompressOptions → Tree → Position → Tree → Type 0
+AllRests o q = Both (LooseRests o q) (SteadyRests o q)

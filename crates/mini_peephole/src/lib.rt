@@ -7,7 +7,7 @@ mod minify;
 mod named;
 mod running;
 
-pub use laws::lawful_passes_are_faithful;
+pub use laws::{known_stays, lawful_passes_are_faithful};
 pub use mini_estree::{MinifyError, Pointer};
 pub use mini_tree::{CompressOptions, KeepNames, Numbers, OutOfMemory};
 pub use minify::{Minified, minify_estree, minify_value};

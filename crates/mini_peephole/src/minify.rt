@@ -10,6 +10,7 @@ ghost use Rattle.mini_laws.specs.Resolved.{symbols};
 ghost use Rattle.mini_laws.specs.declared.names.Use.TheVariants as variant;
 ghost use Rattle.mini_scope.specs.Pointers.{early_fault};
 ghost use Rattle.mini_model.specs.Faults.{fault_of};
+ghost use Rattle.mini_peephole.specs.ComesBack.{ComesBack};
 ghost use Rattle.mini_peephole.specs.Faithful.{Faithful, PassesBounded};
 ghost use Rattle.mini_peephole.specs.Answer.{IsWeighed};
 ghost use Rattle.mini_peephole.specs.Minified.{IsAnswer, IsWeighedAnswer, IsMinified, IsRewriting, IsRefusal};
@@ -25,7 +26,6 @@ use mini_logic::{
     MinimizeBodies, MinimizeConditional, MinimizeIf, MinimizeInBooleanContext, MinimizeNegations,
     MinimizeUnary, MinimizeVoid,
 };
-use mini_passes::{SteadyPasses, run_steady_passes};
 use mini_past::{
     PastNamesInBlocks, SubstitutePast, SubstitutePastArrows, SubstitutePastInside,
     SubstitutePastModules, SubstitutePastStatics,
@@ -37,7 +37,9 @@ use mini_syntax::{
     SubstituteArrows, SubstituteDeclarations, SubstituteKeys, SubstitutePropertyKeys,
     SubstituteReturns, SubstituteSpellings,
 };
-use mini_tree::{CompressOptions, Numbers, OutOfMemory, Position, Program, Then, discard, weight};
+use mini_tree::{
+    CompressOptions, Numbers, OutOfMemory, Passes, Position, Program, Then, discard, run_passes, weight,
+};
 use mini_unused::{RemoveUnusedNames, SubstituteCatches};
 use mini_writer::write_program;
 use serde_json::Value;
@@ -56,9 +58,6 @@ pub struct Minified {
     pub passes: u32,
     /// Whether the last pass found nothing to rewrite.
     pub settled: bool,
-    /// Whether what was known of the bodies of functions as each pass began stayed so to the end.
-    /// Where it didn't, no rewrite that rests on that was made.
-    pub steady: bool,
 }
 
 /// An answer, and what its program weighs before and after.
@@ -195,8 +194,8 @@ const KEEPING_RULES: Then<Logic, Then<MinimizeBodies, Spellings>> = Then {
     },
 };
 
-// These keep each name; after them come the rules of names that nothing mentions, and of names that
-// can be written.
+// Rules that keep each name come before those of names that nothing mentions, and of names that can
+// be written.
 type Keeping = Then<Logic, Then<MinimizeBodies, Spellings>>;
 
 type Naming = Then<
@@ -204,7 +203,9 @@ type Naming = Then<
     Then<RemoveUnusedNames, Then<SubstituteCatches, Then<MinimizeWrites, JoinLets>>>,
 >;
 
-const RULES: Then<Keeping, Naming> = Then {
+type Loose = Then<Keeping, Naming>;
+
+const LOOSE_RULES: Loose = Then {
     first: KEEPING_RULES,
     second: Then {
         first: RemoveUnusedDeclarations,
@@ -221,7 +222,7 @@ const RULES: Then<Keeping, Naming> = Then {
     },
 };
 
-// And those that rest on what is known of bodies, which act where no other does.
+// Rules that rest on what is known of bodies act where no other does.
 type AnyCode<W> = Then<Then<Then<InFunctions<W>, InArrows<W>>, InPrograms<W>>, InParts<W>>;
 
 const MEMBERS: AnyCode<SteadyMembers> = Then {
@@ -273,7 +274,7 @@ type Past = Then<
 // Of a `var` further inside a body.
 type Inside = Then<RemoveInside, SubstitutePastInside>;
 
-// And those of blocks further inside a body. Of names that are read once or not at all.
+// Rules of names that are read once or not at all, those of blocks further inside a body among them.
 type Once = Then<Then<Past, AnyCode<PastNamesInBlocks>>, Inside>;
 
 const PAST: Past = Then {
@@ -311,7 +312,9 @@ const IN_BLOCKS: AnyCode<PastNamesInBlocks> = Then {
     },
 };
 
-const STEADY_RULES: Then<OwnRules, Once> = Then {
+type Steady = Then<OwnRules, Once>;
+
+const STEADY_RULES: Steady = Then {
     first: Then {
         first: MEMBERS,
         second: LEXICAL,
@@ -323,6 +326,11 @@ const STEADY_RULES: Then<OwnRules, Once> = Then {
         },
         second: INSIDE,
     },
+};
+
+const RULES: Then<Loose, Steady> = Then {
+    first: LOOSE_RULES,
+    second: STEADY_RULES,
 };
 
 // The answer for a resolved tree, which is rewritten in place.
@@ -337,11 +345,7 @@ fn rewritten(
     ensures made { IfOk result (λ m. (r : IsRewriting tree.old options.now m) × (r.output ≡ tree.new)) }
     ensures plain { IfOk result (λ m. has_float (view m.program) ≡ false) }
 {
-    let SteadyPasses {
-        passes,
-        settled,
-        steady,
-    } = run_steady_passes(&RULES, &STEADY_RULES, alloc, tree, options.passes, context)?;
+    let Passes { passes, settled } = run_passes(&RULES, alloc, tree, options.passes, context)?;
     let program = write_program(alloc, tree)?;
     let kept = numbers_of(alloc, tree)?;
     let symbols = symbols_of(alloc, tree)?;
@@ -351,7 +355,6 @@ fn rewritten(
         symbols,
         passes,
         settled,
-        steady,
     })
 }
 
@@ -409,6 +412,7 @@ pub fn minify_estree(
     ensures faithful { IfOk result (λ m. Faithful (view program.now) options.now m) }
     ensures passes { IfOk result (λ m. PassesBounded (view program.now) options.now m) }
     ensures rewritten { IfOk result (λ m. IsMinified (view program.now) options.now m) }
+    ensures again { IfOk result (λ m. ComesBack options.now m) }
     ensures plain { IfOk result (λ m. has_float (view m.program) ≡ false) }
     ensures refused { IfErr result (λ e. IsRefusal (view program.now) options.now e) }
 {
@@ -428,6 +432,7 @@ pub fn minify_value(
     ensures faithful { IfOk result (λ m. Faithful (view program) options.now m) }
     ensures passes { IfOk result (λ m. PassesBounded (view program) options.now m) }
     ensures rewritten { IfOk result (λ m. IsMinified (view program) options.now m) }
+    ensures again { IfOk result (λ m. ComesBack options.now m) }
     ensures plain { IfOk result (λ m. has_float (view m.program) ≡ false) }
     ensures refused { IfErr result (λ e. IsRefusal (view program) options.now e) }
 {

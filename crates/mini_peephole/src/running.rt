@@ -115,7 +115,6 @@ fn told(alloc: Global, minified: &Minified) -> Result<Map<String, Value>, AllocE
         "settled",
         Value::Bool(minified.settled),
     )?;
-    put(&mut members, alloc, "steady", Value::Bool(minified.steady))?;
     put_numbers(alloc, &mut members, "symbols", &minified.symbols)?;
     Ok(members)
 }

@@ -1,6 +1,6 @@
 -- Where each binder is spelled in a scope of its body, a tree whose scopes declare no symbol binds
 -- none: neither for a `var` nor otherwise, as far as what is spelled around it is no name of it.
-use Rattle.std.specs.Prelude.{ℕ, zero, suc, ◌+◌, ◌≡◌, ◌⊎◌, refl, Bool, true, false, ◌&&◌, ◌||◌, List, [], ◌∷◌, ◌++◌, Option, Some, None, if◌then◌else◌}
+use Rattle.std.specs.Prelude.{ℕ, suc, ◌+◌, ◌≡◌, ◌⊎◌, refl, Bool, true, false, ◌&&◌, ◌||◌, List, [], ◌∷◌, ◌++◌, Option, Some, None, if◌then◌else◌}
 use Rattle.std.specs.List.{list_any, list_all}
 use Rattle.std.proofs.Common.{ap, ◌∙◌, sym, subst, arith, inl, inr, true≢false}
 use Rattle.mini_model.specs.declared.name.Name.{Name}
@@ -11,10 +11,9 @@ use Rattle.mini_model.specs.Tree.{Tree, Trees, node, none, ◌▸◌}
 use Rattle.mini_model.specs.Weight.{same_text}
 use Rattle.mini_accept.specs.WellShaped.{is_same_flag}
 use Rattle.mini_laws.specs.declared.names.Use.{Use}
-use Rattle.mini_laws.specs.declared.names.Use.TheVariants.{Read, Hoisted, Headed}
+use Rattle.mini_laws.specs.declared.names.Use.TheVariants.{Hoisted, Headed}
 use Rattle.mini_laws.specs.declared.names.Binding.{Binding}
-use Rattle.mini_laws.specs.declared.names.Declared.TheVariants as declared
-use Rattle.mini_laws.specs.DeclaredNames.{names_of, all_names, is_spelled}
+use Rattle.mini_laws.specs.DeclaredNames.{names_of, is_spelled}
 use Rattle.mini_laws.specs.Foreign.{own_pattern_names}
 use Rattle.mini_laws.specs.Mentions.{same_variable, is_among}
 use Rattle.mini_laws.specs.Resolved.{Environment, serves, is_for, or_else, own_symbol, symbol_of}
@@ -52,7 +51,7 @@ module _ (k : ℕ) where
       by s None e = refl
       by s (Some z) e = e
 
-  -- a list of symbols begins with another
+  -- a list in which a symbol doesn't stand begins with another
   split_times : (z y : Option SymbolId) (n : ℕ) → (if is_same z y then 1 else 0) + n ≡ 0 → (is_same z y ≡ false) × (n ≡ 0)
   split_times z y n e = by (is_same z y) refl
     where
@@ -60,7 +59,7 @@ module _ (k : ℕ) where
       by true q = let f : 1 + n ≡ 0 = sym (ap (λ c. (if c then 1 else 0) + n) q) ∙ e in absurd (omega (arith, f))
       by false q = let f : 0 + n ≡ 0 = sym (ap (λ c. (if c then 1 else 0) + n) q) ∙ e in (q, omega (arith, f))
 
-  -- there is a symbol, and it is another
+  -- a name has a symbol, and another than this
   abbrev Another : Option SymbolId → Type 0
   Another None = ⊥
   Another (Some y) = is_same (symbol k) (Some y) ≡ false
@@ -117,7 +116,7 @@ module _ (k : ℕ) where
   abbrev pub Far : Bool → Spellings → Environment → Type 0
   Far v spells env = (s : List ℕ) → spells v s ≡ true → is_same (symbol k) (symbol_of (use_if v) s env) ≡ false
 
-  -- scopes that don't declare it
+  -- scopes all of whose names have symbols, and none has this
   abbrev pub Free : List Binding → Type 0
   Free bs = (times None (symbols_in bs) ≡ 0) × (times (symbol k) (symbols_in bs) ≡ 0)
 
@@ -167,7 +166,7 @@ module _ (k : ℕ) where
       by rest (inl g) = ap (λ r. is_same (symbol k) (symbol_of (use_if v) r env)) (sym (same_texts y.spelling s g)) ∙ ap (is_same (symbol k)) (sym (found_as u v e y.spelling env) ∙ sym a.0) ∙ same_by y o.0
       by rest (inr g) = rest g
 
-  -- the names of which one is not the variable
+  -- names among which the variable isn't
   pub none_among : (ys : List Name) → is_among x ys ≡ false → Other k ys
   none_among [] e = tt
   none_among (y ∷ ys) e = by (none_among ys) (same_variable x y) refl e
@@ -221,7 +220,7 @@ module _ (k : ℕ) where
   own_scoped u env shape.BindingIdentifier xs ts a = a
   own_scoped u env h xs ts a = tt
 
-  -- nothing in a tree declares it, and all that is declared has a symbol
+  -- no scope of a tree declares the symbol, and each name that one declares has a symbol
   abbrev pub Undeclared : Use → Tree → Type 0
   Undeclared u t = (times None (declared_in u t) ≡ 0) × (times (symbol k) (declared_in u t) ≡ 0)
 

@@ -1,8 +1,8 @@
 -- Each program is covered: a walk over the slots of each shape, on which all that a tree declares
 -- for what stands around it is spelled there.
-use Rattle.std.specs.Prelude.{ℕ, zero, suc, nat_le, ◌≡◌, ◌⊎◌, refl, Bool, true, false, ◌&&◌, ◌||◌, not, List, [], ◌∷◌, ◌++◌, length, Option, Some, None, if◌then◌else◌}
+use Rattle.std.specs.Prelude.{ℕ, zero, suc, nat_le, ◌≡◌, ◌⊎◌, refl, Bool, true, false, ◌&&◌, ◌||◌, not, List, [], ◌∷◌, length, Option, Some, None, if◌then◌else◌}
 use Rattle.std.specs.List.{list_all}
-use Rattle.std.proofs.Common.{ap, ◌∙◌, sym, subst, true≢false, inl, inr}
+use Rattle.std.proofs.Common.{ap, ◌∙◌, sym, true≢false, inl, inr}
 use Rattle.mini_model.specs.declared.kind.VariableDeclarationKind.TheVariants.{Var}
 use Rattle.mini_model.specs.declared.name.Name.{Name}
 use Rattle.mini_model.specs.declared.operator.AssignmentOperator.TheVariants.{Assign}
@@ -12,7 +12,7 @@ use Rattle.mini_model.specs.Tree.{Tree, Trees, node, none, ◌▸◌, count}
 use Rattle.mini_model.specs.Weight.{same_text}
 use Rattle.mini_accept.specs.WellShaped.{Tagging, Class, a_program, Slot, one, one_or_absent, many, many_or_holes, many_and_rest, many_or_holes_and_rest, quasis, these, each, each_or_last, filling_by, slots_of, class_of, is_function_body, has_names, has_its_number, has_plain_fields, has_its_parts, is_whole, is_strict_in, is_last, is_quasi, are_quasis, fits, fill}
 use Rattle.mini_laws.specs.declared.names.Use.{Use}
-use Rattle.mini_laws.specs.declared.names.Use.TheVariants.{Read, Write, Alone}
+use Rattle.mini_laws.specs.declared.names.Use.TheVariants.{Read, Write}
 use Rattle.mini_laws.specs.declared.names.Binding.{Binding}
 use Rattle.mini_laws.specs.declared.names.Declared.{Declared}
 use Rattle.mini_laws.specs.declared.names.Declared.TheVariants as declared
@@ -24,7 +24,8 @@ use Rattle.mini_kept.proofs.Expressions.{refused_here}
 use Rattle.mini_kept.proofs.Unbound.{bound_at}
 use Rattle.mini_shrink.specs.Cover.{is_hoisting, Spellings, no_spellings, with_scope, begins_body, spelled_first, is_covered, are_covered, ProgramsAreCovered}
 use Rattle.mini_shrink.proofs.Debts.{Debt, of, of_body, owed, may_owe, slot_owes, is_body, handles, is_no_branch, may_be_alone, may_be_alone_slot, parts, owes_little, is_settled, is_settled_slot, are_settled, holds_nothing, holds_nothing_slot, settles, slots_settle}
-use Rattle.mini_shrink.proofs.Provided.{SpellsAs, Owes, Provided, ProvidedBy, Standing, begun, zero_number, provided}
+use Rattle.mini_shrink.proofs.Either.{not_true, refuted, of_either, of_either_if}
+use Rattle.mini_shrink.proofs.Provided.{SpellsAs, Owes, Provided, ProvidedBy, begun, zero_number, provided}
 use Rattle.mini_shrink.proofs.Silence.{slot_holds, silent}
 use Rattle.mini_shrink.proofs.Spelled.{in_first, in_second, Spells, still_spelled, less_spelled}
 
@@ -90,15 +91,11 @@ alone_by u h i e = inl e
 
 -- ---- what a child owes
 
-nothing_owed : (d : Debt) (u : Use) (spells : Spellings) (xs : List Name) → xs ≡ [] → SpellsAs d u spells xs
+pub nothing_owed : (d : Debt) (u : Use) (spells : Spellings) (xs : List Name) → xs ≡ [] → SpellsAs d u spells xs
 nothing_owed (of declared.Bound) u spells xs e = λ s f. absurd (true≢false (sym f ∙ ap (is_spelled s) e))
 nothing_owed (of declared.Lexical) u spells xs e = λ a s f. absurd (true≢false (sym f ∙ ap (is_spelled s) e))
 nothing_owed (of declared.Hoisted) u spells xs e = λ s f. absurd (true≢false (sym f ∙ ap (is_spelled s) e))
 nothing_owed of_body u spells xs e = λ s f. absurd (true≢false (sym f ∙ ap (is_spelled s) e))
-
-not_true : (b : Bool) → not b ≡ true → b ≡ false
-not_true true e = absurd (true≢false (sym e))
-not_true false e = refl
 
 settled_of : (d : Debt) (h : Shape) (i : ℕ) (s : Slot) → is_settled h i s ≡ true → (handles d h i || not (slot_owes d s)) ≡ true
 settled_of (of declared.Bound) h i s e = left (handles (of declared.Bound) h i || not (slot_owes (of declared.Bound) s)) _ e
@@ -111,11 +108,8 @@ settled_of of_body h i s e =
     (right (handles (of declared.Lexical) h i || not (slot_owes (of declared.Lexical) s)) _ (right (handles (of declared.Bound) h i || not (slot_owes (of declared.Bound) s)) _ e))
 
 child_owes : (strict : Bool) (h : Shape) (i : ℕ) (s : Slot) (u : Use) (spells : Spellings) (t : Tree) → is_settled_slot h i s ≡ true → fits strict s t ≡ true → ((d : Debt) → handles d h i ≡ true → SpellsAs d u spells (owed d t)) → Owes u spells t
-child_owes strict h i s u spells t k e f d = by (handles d h i) (not (slot_owes d s)) (settled_of d h i s (left (is_settled h i s) _ k)) (f d) (λ g. nothing_owed d u spells (owed d t) (silent strict d s t (slot_holds h i s k) (not_true (slot_owes d s) g) e))
-  where
-    by : (a b : Bool) → (a || b) ≡ true → (a ≡ true → SpellsAs d u spells (owed d t)) → (b ≡ true → SpellsAs d u spells (owed d t)) → SpellsAs d u spells (owed d t)
-    by true b g p q = p refl
-    by false b g p q = q g
+child_owes strict h i s u spells t k e f d =
+    of_either (handles d h i) (not (slot_owes d s)) (SpellsAs d u spells (owed d t)) (f d) (λ g. nothing_owed d u spells (owed d t) (silent strict d s t (slot_holds h i s k) (not_true (slot_owes d s) g) e)) (settled_of d h i s (left (is_settled h i s) _ k))
 
 alone_there : (h : Shape) (i : ℕ) (s : Slot) (u : Use) → is_settled_slot h i s ≡ true → (is_alone u ≡ true → is_alone (use_of h Read i) ≡ true) → is_alone u ≡ true → may_be_alone_slot s ≡ true
 alone_there h i s u k f e = by (is_alone (use_of h Read i)) (f e) (left (not (is_alone (use_of h Read i)) || may_be_alone_slot s) _ (right (is_settled h i s) _ k))
@@ -154,10 +148,6 @@ as_many strict (s ∷ ss) (t ▸ ts) e = ap suc (as_many strict ss ts (right (fi
 abbrev pub MayBeAlone : Use → Slot → Type 0
 MayBeAlone u s = is_alone u ≡ true → may_be_alone_slot s ≡ true
 
-not_alone : (b : Bool) → (b ≡ true → ⊥) → b ≡ false
-not_alone true f = absurd (f refl)
-not_alone false f = refl
-
 -- what of a node's slots the walk goes on with
 abbrev Goes : Bool → Use → Spellings → Shape → ℕ → Trees → Type 0
 Goes strict u spells h n ts =
@@ -177,7 +167,7 @@ node_by strict c u spells h xs n ts (Some ss) k e w a f g =
     let fields = right (has_names h xs) _ w in
     let number = left (has_its_number c h n) _ fields in
     let whole = right (has_plain_fields h) (has_its_parts c h ts) (right (has_its_number c h n) _ fields) in
-    let branch = λ (b : is_no_branch h ≡ true). not_alone (is_alone u) (λ i. true≢false (sym (both (is_no_branch h) (may_be_alone c) b (a i)) ∙ open_there)) in
+    let branch = λ (b : is_no_branch h ≡ true). refuted (is_alone u) (λ i. true≢false (sym (both (is_no_branch h) (may_be_alone c) b (a i)) ∙ open_there)) in
     let used = λ (i : ℕ) (j : is_alone (use_of h u i) ≡ true). used_so i (alone_by u h i j) branch in
     let enough = ap (nat_le (parts h)) (as_many strict ss ts e) ∙ long in
     both _ _ (own_covered u spells h xs n ts f) (g ss settled e used (λ d. provided d c u spells h xs n ts (record { owes = f; number = number; whole = whole; enough = enough; branch = branch })))
@@ -215,16 +205,6 @@ list_begins s xs n ts w i =
 
 never : (u : Use) → (is_alone u ≡ true → false ≡ true) → (s : Slot) → MayBeAlone u s
 never u f s e = absurd (true≢false (sym (f e)))
-
-covered_either : (a l b c : Bool) → (a ≡ true → c ≡ true) → (b ≡ true → c ≡ true) → (a || (l && b)) ≡ true → c ≡ true
-covered_either true l b c f g e = f refl
-covered_either false true b c f g e = g e
-covered_either false false b c f g e = absurd (true≢false (sym e))
-
-body_either : (a l b : Bool) (xs : List Name) → (a ≡ true → xs ≡ []) → (b ≡ true → xs ≡ []) → (a || (l && b)) ≡ true → xs ≡ []
-body_either true l b xs f g e = f refl
-body_either false true b xs f g e = g e
-body_either false false b xs f g e = absurd (true≢false (sym e))
 
 mutual
   unfolding is_covered scopes_by names_of
@@ -278,8 +258,8 @@ mutual
   each_or_last_covered strict s r u begins first i spells (t ▸ ts) l k m o e b a f =
       let inner = with_scope (if begins i then first else spells) [] in
       let own = left (fits strict s t || (is_last ts && fits strict r t)) (fill strict (each_or_last s r) ts) e in
-      let debts = item_debts u spells first (begins i) t ts (b i) f (body_either (fits strict s t) (is_last ts) (fits strict r t) (owed of_body t) (silent strict of_body s t l k) (silent strict of_body r t m o) own) in
-      both (is_covered u inner t) (are_covered (λ j. []) (λ j. u) begins first (suc i) inner ts) (covered_either (fits strict s t) (is_last ts) (fits strict r t) (is_covered u inner t) (λ g. covered strict s u inner t l g (never u a s) debts) (λ g. covered strict r u inner t m g (never u a r) debts) own)
+      let debts = item_debts u spells first (begins i) t ts (b i) f (of_either_if (fits strict s t) (is_last ts) (fits strict r t) (owed of_body t ≡ []) (silent strict of_body s t l k) (silent strict of_body r t m o) own) in
+      both (is_covered u inner t) (are_covered (λ j. []) (λ j. u) begins first (suc i) inner ts) (of_either_if (fits strict s t) (is_last ts) (fits strict r t) (is_covered u inner t ≡ true) (λ g. covered strict s u inner t l g (never u a s) debts) (λ g. covered strict r u inner t m g (never u a r) debts) own)
       (each_or_last_covered strict s r u begins first (suc i) inner ts l k m o (right (fits strict s t || (is_last ts && fits strict r t)) (fill strict (each_or_last s r) ts) e) b a (λ d. items_owe d u spells first (begins i) t ts (b i) (f d)))
 
 -- a program owes nothing

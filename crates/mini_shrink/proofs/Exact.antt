@@ -23,7 +23,8 @@ use Rattle.mini_shrink.specs.Facts.{ReadsLess}
 use Rattle.mini_shrink.specs.Told.{is_foreign_name, is_steady}
 use Rattle.mini_shrink.specs.ToldOn.{told_of, ShowsLess}
 use Rattle.mini_shrink.specs.Exact.{exactly_of, ExactIsSo, ExactWithin}
-use Rattle.mini_shrink.proofs.ToldOn.{not_true, false_not, either, steady_there, gone, still_native, later, shrunk, lexical_on}
+use Rattle.mini_shrink.proofs.Either.{not_true, false_not, either}
+use Rattle.mini_shrink.proofs.ToldOn.{steady_there, gone, still_native, later, shrunk, lexical_on}
 use Rattle.mini_shrink.proofs.Within.{told_within}
 use Rattle.mini_shrink.proofs.Tops.{shows_less}
 

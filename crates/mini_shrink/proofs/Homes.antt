@@ -1,6 +1,6 @@
 -- All binders of one symbol stand in one body, but for those in patterns: `var x; var x;` binds x
 -- twice in a body, and in another body another scope declares it, which is another symbol.
-use Rattle.std.specs.Prelude.{ℕ, zero, suc, ◌+◌, ◌≤◌, ◌≡◌, ◌⊎◌, refl, Bool, true, false, ◌&&◌, ◌||◌, not, List, [], ◌∷◌, ◌++◌, map, Some, None, if◌then◌else◌}
+use Rattle.std.specs.Prelude.{ℕ, zero, suc, ◌≤◌, ◌≡◌, ◌⊎◌, refl, Bool, true, false, ◌&&◌, ◌||◌, not, List, [], ◌∷◌, ◌++◌, map, None, if◌then◌else◌}
 use Rattle.std.specs.List.{list_any, list_all}
 use Rattle.std.proofs.Common.{ap, ◌∙◌, sym, subst, true≢false, arith, inl, inr}
 use Rattle.mini_model.specs.declared.name.Name.{Name}
@@ -28,8 +28,9 @@ use Rattle.mini_kept.proofs.Bools.{left, right}
 use Rattle.mini_kept.proofs.Unbound.{bound_at, Other, Unbound, AllUnbound}
 use Rattle.mini_shrink.specs.Cover.{Spellings, no_spellings, with_scope, is_numbered_by, begins_body, spelled_first, is_hoisting, is_covered, are_covered}
 use Rattle.mini_shrink.specs.Told.{is_bound_elsewhere}
-use Rattle.mini_shrink.proofs.Covered.{Far, Free, Undeclared, Unpatterned, AllUnpatterned, further, far_if, far_scope, first_far, far_names, own_scoped, none_among, covered_unbound, all_covered_unbound, unbound_both, all_unbound_both}
+use Rattle.mini_shrink.proofs.Covered.{Far, Free, Undeclared, Unpatterned, AllUnpatterned, further, far_if, far_scope, first_far, far_names, own_scoped, covered_unbound, all_covered_unbound, unbound_both, all_unbound_both}
 use Rattle.mini_shrink.proofs.Covering.{programs_are_covered}
+use Rattle.mini_shrink.proofs.Either.{or_parts, of_either}
 use Rattle.mini_shrink.proofs.Finding.{any_both}
 
 -- ---- what is around the children of a node
@@ -39,7 +40,7 @@ unnumbered_around Body r n e = absurd (true≢false e)
 unnumbered_around Carried r n e = absurd (true≢false e)
 unnumbered_around Unnumbered r n e = refl
 
--- the first child stands in what is around the node, or a body begins with it
+-- the first child stands in what is around its node, or a body begins with it
 around_first : (h : Shape) (r : Around) (n : ℕ) → begins_body h n 0 ≡ false → around_child h r n 0 ≡ r
 around_first (shape.Function true g ds) r n e = refl
 around_first (shape.Function false g ds) r n e = absurd (true≢false e)
@@ -47,7 +48,7 @@ around_first (shape.Class true) r n e = refl
 around_first (shape.Class false) r n e = unnumbered_around (numbering_of (shape.Class false) n) r n e
 around_first h r n e = unnumbered_around (numbering_of h n) r n e
 
--- and each other child in what is around the one before
+-- each later child stands in what is around the child before it, or a body begins with it
 around_next : (h : Shape) (r : Around) (n i : ℕ) → begins_body h n (suc i) ≡ false → around_child h r n (suc i) ≡ around_child h r n i
 around_next (shape.Function true g ds) r n zero e = absurd (true≢false e)
 around_next (shape.Function true g ds) r n (suc i) e = refl
@@ -88,7 +89,7 @@ module _ (k : ℕ) where
   abbrev AllUndeclared : (ℕ → List Binding) → (ℕ → Use) → ℕ → Trees → Type 0
   AllUndeclared sc us i ts = (times None (declared_from sc us i ts) ≡ 0) × (times (symbol k) (declared_from sc us i ts) ≡ 0)
 
-  -- of the first child and its scope, and of the others
+  -- what some children don't declare, the first, its scope and the others don't
   undeclared_parts : (sc : ℕ → List Binding) (us : ℕ → Use) (i : ℕ) (t : Tree) (ts : Trees) → AllUndeclared sc us i (t ▸ ts) → Free k (sc i) × (Undeclared k (us i) t × AllUndeclared sc us (suc i) ts)
   unfolding declared_in
   undeclared_parts sc us i t ts d =
@@ -96,7 +97,7 @@ module _ (k : ℕ) where
       let own = times_three (symbol k) (symbols_in (sc i)) (declared_in (us i) t) (declared_from sc us (suc i) ts) in
       ((omega (arith, some, d.0), omega (arith, own, d.1)), ((omega (arith, some, d.0), omega (arith, own, d.1)), (omega (arith, some, d.0), omega (arith, own, d.1))))
 
-  all_unbound : (sc : ℕ → List Binding) (us : ℕ → Use) (begins : ℕ → Bool) (first : Spellings) (i : ℕ) (spells : Spellings) (env : Environment) (ts : Trees) → are_covered sc us begins first i spells ts ≡ true → AllScoped sc us i env ts → AllUndeclared sc us i ts → AllUnpatterned k ts
+  pub all_unbound : (sc : ℕ → List Binding) (us : ℕ → Use) (begins : ℕ → Bool) (first : Spellings) (i : ℕ) (spells : Spellings) (env : Environment) (ts : Trees) → are_covered sc us begins first i spells ts ≡ true → AllScoped sc us i env ts → AllUndeclared sc us i ts → AllUnpatterned k ts
       → ((v : Bool) → Far k v (if begins i then first else spells) env) → ((v : Bool) → Far k v first env) → AllUnbound k ts
   all_unbound sc us begins first i spells env ts c s d p f g =
       all_unbound_both k us i ts (all_covered_unbound k true sc us begins first i spells env ts c s d p (f true) (g true)) (all_covered_unbound k false sc us begins first i spells env ts c s d p (f false) (g false))
@@ -218,17 +219,13 @@ module _ (k : ℕ) where
   abbrev binds_in : (Around → Bool) → Mention → Bool
   binds_in p m = same_variable x m.name && m.binds && p m.around
 
-  or_parts : (a b c : Bool) → (a ≡ true → c ≡ true) → (b ≡ true → c ≡ true) → (a || b) ≡ true → c ≡ true
-  or_parts true b c f g e = f refl
-  or_parts false b c f g e = g e
-
   own_other : (p : Around → Bool) (c : Bool) (u : Use) (r : Around) (ys : List Name) → Other k ys → list_any (binds_in p) (map (λ y. record { name = y; used = u; binds = true; around = r }) ys) ≡ true → c ≡ true
   own_other p c u r [] o e = absurd (true≢false (sym e))
   own_other p c u r (y ∷ ys) o e = own_other p c u r ys o.1 (sym (ap (λ b. (b && true && p r) || list_any (binds_in p) (map (λ z. record { name = z; used = u; binds = true; around = r }) ys)) o.0) ∙ e)
 
   own_there : (p : Around → Bool) (u : Use) (r : Around) (ys : List Name) → list_any (binds_in p) (map (λ y. record { name = y; used = u; binds = true; around = r }) ys) ≡ true → p r ≡ true
   own_there p u r [] e = absurd (true≢false (sym e))
-  own_there p u r (y ∷ ys) e = or_parts (same_variable x y && true && p r) _ (p r) (λ f. right (same_variable x y && true) (p r) f) (λ f. own_there p u r ys f) e
+  own_there p u r (y ∷ ys) e = of_either (same_variable x y && true && p r) _ (p r ≡ true) (λ f. right (same_variable x y && true) (p r) f) (λ f. own_there p u r ys f) e
 
   own_unbinding : (p : Around → Bool) (u : Use) (r : Around) (ys : List Name) → list_any (binds_in p) (map (λ y. record { name = y; used = u; binds = false; around = r }) ys) ≡ false
   own_unbinding p u r [] = refl
@@ -251,30 +248,26 @@ module _ (k : ℕ) where
     binder_at p a u r (node h xs n ts) f e =
         let own = own_mentions u r h xs in
         let under = mentions_from (use_of h u) (around_child h r n) 0 ts in
-        or_parts (list_any (binds_in p) own) (list_any (binds_in p) under) (p a) (own_at p a u r h xs f.0) (all_binders_at p a (use_of h u) (around_child h r n) 0 ts f.1) (sym (any_both (binds_in p) own under) ∙ e)
+        of_either (list_any (binds_in p) own) (list_any (binds_in p) under) (p a ≡ true) (own_at p a u r h xs f.0) (all_binders_at p a (use_of h u) (around_child h r n) 0 ts f.1) (sym (any_both (binds_in p) own under) ∙ e)
 
     all_binders_at : (p : Around → Bool) (a : Around) (us : ℕ → Use) (rs : ℕ → Around) (i : ℕ) (ts : Trees) → AllBoundAt a rs i ts → list_any (binds_in p) (mentions_from us rs i ts) ≡ true → p a ≡ true
     all_binders_at p a us rs i none f e = absurd (true≢false (sym e))
     all_binders_at p a us rs i (t ▸ ts) f e =
         let here = mentions (us i) (rs i) t in
         let rest = mentions_from us rs (suc i) ts in
-        or_parts (list_any (binds_in p) here) (list_any (binds_in p) rest) (p a) (binder_at p a (us i) (rs i) t f.0) (all_binders_at p a us rs (suc i) ts f.1) (sym (any_both (binds_in p) here rest) ∙ e)
+        of_either (list_any (binds_in p) here) (list_any (binds_in p) rest) (p a ≡ true) (binder_at p a (us i) (rs i) t f.0) (all_binders_at p a us rs (suc i) ts f.1) (sym (any_both (binds_in p) here rest) ∙ e)
 
   -- ---- a program
-
-  neither_any : (a b : Bool) → (a || b) ≡ false → (a ≡ false) × (b ≡ false)
-  neither_any true b e = absurd (true≢false e)
-  neither_any false b e = (refl, e)
 
   mutual
     unfolding pattern_names
 
     pub unpatterned : (t : Tree) → is_among x (pattern_names t) ≡ false → Unpatterned k t
-    unpatterned (node h xs n ts) e = let (f, g) = neither_any (is_among x (own_pattern_names h n ts)) (is_among x (all_pattern_names ts)) (sym (any_both (same_variable x) (own_pattern_names h n ts) (all_pattern_names ts)) ∙ e) in (f, all_unpatterned ts g)
+    unpatterned (node h xs n ts) e = let (f, g) = or_parts (is_among x (own_pattern_names h n ts)) (is_among x (all_pattern_names ts)) (sym (any_both (same_variable x) (own_pattern_names h n ts) (all_pattern_names ts)) ∙ e) in (f, all_unpatterned ts g)
 
     all_unpatterned : (ts : Trees) → is_among x (all_pattern_names ts) ≡ false → AllUnpatterned k ts
     all_unpatterned none e = tt
-    all_unpatterned (t ▸ ts) e = let (f, g) = neither_any (is_among x (pattern_names t)) (is_among x (all_pattern_names ts)) (sym (any_both (same_variable x) (pattern_names t) (all_pattern_names ts)) ∙ e) in (unpatterned t f, all_unpatterned ts g)
+    all_unpatterned (t ▸ ts) e = let (f, g) = or_parts (is_among x (pattern_names t)) (is_among x (all_pattern_names ts)) (sym (any_both (same_variable x) (pattern_names t) (all_pattern_names ts)) ∙ e) in (unpatterned t f, all_unpatterned ts g)
 
   program_home : (t : Tree) → IsWellShaped t → Scoped Read [] t → Distinct (declared_symbols t) → is_among x (pattern_names t) ≡ false → Home outermost t
   program_home t w s d p = home Read no_spellings [] outermost t (programs_are_covered t w) s (omega (arith, d None), d (symbol k)) (unpatterned t p) (λ v r e. absurd (true≢false (sym e)))

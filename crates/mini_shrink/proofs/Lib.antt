@@ -1,4 +1,5 @@
 pub mod Paces
+pub mod Either
 pub mod Fitting
 pub mod Lifting
 pub mod Finding
@@ -27,6 +28,12 @@ mod Covered
 mod Parts
 mod Slotted
 mod Items
+pub mod Always
 pub mod SameForeign
 pub mod Homes
 mod Bodies
+mod Outside
+mod Inside
+pub mod Functions
+mod Around
+mod EarlyMoments

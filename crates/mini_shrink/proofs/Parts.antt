@@ -1,7 +1,7 @@
 -- A part of a program that declares no symbol, neither in its scopes nor for what stands around it,
 -- binds none; and none lexically, whatever it hoists.
-use Rattle.std.specs.Prelude.{ℕ, zero, suc, ◌+◌, ◌≡◌, ◌⊎◌, refl, Bool, true, false, not, ◌&&◌, ◌||◌, List, [], ◌∷◌, ◌++◌, None, if◌then◌else◌}
-use Rattle.std.proofs.Common.{ap, ◌∙◌, sym, subst, arith, inl, inr}
+use Rattle.std.specs.Prelude.{ℕ, suc, ◌≡◌, ◌⊎◌, refl, Bool, true, false, not, ◌&&◌, ◌||◌, List, [], ◌∷◌, ◌++◌, if◌then◌else◌}
+use Rattle.std.proofs.Common.{ap, subst, inl, inr}
 use Rattle.std.proofs.lemmas.List.{append-nil}
 use Rattle.mini_model.specs.declared.kind.VariableDeclarationKind.TheVariants.{Var, Let, Const}
 use Rattle.mini_model.specs.declared.name.Name.{Name}
@@ -19,23 +19,24 @@ use Rattle.mini_laws.specs.DeclaredNames.{names_of, first_names, all_names, is_s
 use Rattle.mini_laws.specs.Foreign.{is_body_by, own_lexical, lexical_variables, all_lexical_variables}
 use Rattle.mini_laws.specs.Resolved.{Environment, symbol_of}
 use Rattle.mini_laws.specs.Scoped.{NamesScoped, Scoped, AllScoped}
-use Rattle.mini_laws.specs.Scopes.{use_of, is_alone, name_if, lexical_scope, scopes_by, opening_of, at_or_empty, opened}
-use Rattle.mini_laws.specs.Symbols.{symbols_in, declared as declared_in, declared_from, is_same, times}
+use Rattle.mini_laws.specs.Scopes.{use_of, is_alone, name_if, lexical_scope, scopes_by, at_or_empty, opened}
+use Rattle.mini_laws.specs.Symbols.{is_same}
 use Rattle.mini_kept.specs.Loosely.{symbol}
 use Rattle.mini_kept.proofs.Bools.{left, right, or_second, both as and_both}
 use Rattle.mini_kept.proofs.Hoisting.{bound_scoped, hoisted_scoped}
 use Rattle.mini_kept.proofs.Unbound.{Other, both, Unbound}
-use Rattle.mini_shrink.specs.Cover.{Spellings, is_hoisting, use_if, is_covered}
-use Rattle.mini_shrink.specs.Regular.{is_regular, all_regular}
-use Rattle.mini_shrink.proofs.Covered.{Far, Undeclared, Unpatterned, AllUnpatterned, UnboundIn, AllUnboundIn, spelled_far, flagged, covered_unbound, unbound_both}
+use Rattle.mini_shrink.specs.Cover.{Spellings, is_hoisting, use_if}
+use Rattle.mini_shrink.specs.Regular.{is_regular}
+use Rattle.mini_shrink.proofs.Covered.{Far, Undeclared, Unpatterned, UnboundIn, AllUnboundIn, spelled_far, flagged, covered_unbound, unbound_both}
 use Rattle.mini_shrink.proofs.Covering.{part_covered}
 use Rattle.mini_shrink.proofs.Debts.{may_be_alone_slot, holds_nothing_slot}
 use Rattle.mini_shrink.proofs.Moments.{or_either}
-use Rattle.mini_shrink.proofs.Spelled.{Spells, or_first}
+use Rattle.mini_shrink.proofs.Provided.{same_flag}
+use Rattle.mini_shrink.proofs.Spelled.{or_first}
 
 -- ---- the lexical names that a scoped tree declares around it have the symbols of the scopes there
 
-all_scoped : (u : Use) (env : Environment) (xs ys : List Name) → NamesScoped u env xs → NamesScoped u env ys → NamesScoped u env (xs ++ ys)
+pub all_scoped : (u : Use) (env : Environment) (xs ys : List Name) → NamesScoped u env xs → NamesScoped u env ys → NamesScoped u env (xs ++ ys)
 all_scoped u env [] ys a b = b
 all_scoped u env (x ∷ xs) ys a b = (a.0, all_scoped u env xs ys a.1 b)
 
@@ -115,17 +116,14 @@ kind_of true = declared.Hoisted
 kind_of false = declared.Lexical
 
 module _ (k : ℕ) where
-  -- what spells the names of a part, which alone are to be other ones
+  -- what spells the names that a part declares around it: a branch of an `if`, which stands alone,
+  -- has its lexical names for itself
   abbrev declares : Use → Bool → Bool
   declares u true = true
   declares u false = not (is_alone u)
 
   abbrev around : Use → Tree → Spellings
   around u t v s = (is_same_flag v (is_hoisting u) && is_spelled s (names_of declared.Bound t)) || (declares u v && is_spelled s (names_of (kind_of v) t))
-
-  same_flag : (v : Bool) → is_same_flag v v ≡ true
-  same_flag true = refl
-  same_flag false = refl
 
   not_alone : (u : Use) → not (is_alone u) ≡ true → is_alone u ≡ false
   not_alone u e = by (is_alone u) e

@@ -1,6 +1,6 @@
 -- What a child declares for what stands around it the node spells in a scope of its own, or hands
 -- on to what is spelled around the node.
-use Rattle.std.specs.Prelude.{ℕ, zero, suc, ◌≤◌, nat_eq, nat_le, ◌≡◌, refl, Bool, true, false, ◌&&◌, ◌||◌, not, List, [], ◌∷◌, ◌++◌, if◌then◌else◌}
+use Rattle.std.specs.Prelude.{ℕ, zero, suc, ◌≤◌, nat_eq, nat_le, ◌≡◌, refl, Bool, true, false, ◌||◌, not, List, [], if◌then◌else◌}
 use Rattle.std.specs.List.{list_any}
 use Rattle.std.proofs.Common.{ap, ◌∙◌, sym, subst, true≢false, arith}
 use Rattle.std.proofs.lemmas.Bool.{eqb-true}
@@ -16,14 +16,15 @@ use Rattle.mini_laws.specs.declared.names.Binding.{Binding}
 use Rattle.mini_laws.specs.declared.names.Declared.{Declared}
 use Rattle.mini_laws.specs.declared.names.Declared.TheVariants as declared
 use Rattle.mini_laws.specs.declared.names.Opening.TheVariants as opening
-use Rattle.mini_laws.specs.DeclaredNames.{names_of, first_names, all_names, is_statement_list, body_names, all_body_names, bound_names, lexical_names, has_inner, is_spelled}
+use Rattle.mini_laws.specs.DeclaredNames.{names_of, all_names, body_names, all_body_names, bound_names, lexical_names, has_inner, is_spelled}
 use Rattle.mini_laws.specs.Foreign.{own_pattern_names}
 use Rattle.mini_laws.specs.Resolved.{is_for}
-use Rattle.mini_laws.specs.Scopes.{hoisted_by, use_of, is_alone, lexical_scope, body_scope, merged, name_if, opening_of, scopes_by, at_or_empty, opened}
+use Rattle.mini_laws.specs.Scopes.{hoisted_by, use_of, is_alone, lexical_scope, body_scope, merged, name_if, scopes_by, at_or_empty, opened}
 use Rattle.mini_kept.proofs.Bools.{both, or_second}
 use Rattle.mini_shrink.specs.Cover.{is_hoisting, use_if, Spellings, with_scope, begins_body, spelled_first}
 use Rattle.mini_shrink.proofs.Debts.{Debt, of, of_body, owed, handles, is_no_branch, parts}
-use Rattle.mini_shrink.proofs.Spelled.{or_first, of_either, spelled_both, in_first, in_second, lexical_spelled, body_spelled, Spells, still_spelled, spelled_there, less_spelled}
+use Rattle.mini_shrink.proofs.Either.{of_either}
+use Rattle.mini_shrink.proofs.Spelled.{or_first, spelled_both, in_first, in_second, lexical_spelled, body_spelled, Spells, still_spelled, spelled_there, less_spelled}
 
 -- ---- what is owed
 
@@ -66,13 +67,13 @@ mutual
   lexical_in_bodies : (s : List ℕ) (ts : Trees) → is_spelled s (all_names declared.Lexical ts) ≡ true → is_spelled s (all_body_names ts) ≡ true
   lexical_in_bodies s none e = e
   lexical_in_bodies s (t ▸ ts) e =
-      of_either (is_spelled s (names_of declared.Lexical t)) (is_spelled s (all_names declared.Lexical ts)) (is_spelled s (all_body_names (t ▸ ts))) (λ f. in_first s (body_names t) (all_body_names ts) (lexical_in_body s t f)) (λ f. in_second s (body_names t) (all_body_names ts) (lexical_in_bodies s ts f))
+      of_either (is_spelled s (names_of declared.Lexical t)) (is_spelled s (all_names declared.Lexical ts)) (is_spelled s (all_body_names (t ▸ ts)) ≡ true) (λ f. in_first s (body_names t) (all_body_names ts) (lexical_in_body s t f)) (λ f. in_second s (body_names t) (all_body_names ts) (lexical_in_bodies s ts f))
       (sym (spelled_both s (names_of declared.Lexical t) (all_names declared.Lexical ts)) ∙ e)
 
 mutual
   unfolding names_of body_names
 
-  hoisted_in_body : (s : List ℕ) (t : Tree) → is_spelled s (names_of declared.Hoisted t) ≡ true → is_spelled s (body_names t) ≡ true
+  pub hoisted_in_body : (s : List ℕ) (t : Tree) → is_spelled s (names_of declared.Hoisted t) ≡ true → is_spelled s (body_names t) ≡ true
   hoisted_in_body s (node shape.Listed xs n ts) e = hoisted_in_bodies s ts e
   hoisted_in_body s (node shape.FunctionBody xs n ts) e = hoisted_in_bodies s ts e
   hoisted_in_body s (node h xs n ts) e = in_second s (names_of declared.Lexical (node h xs n ts)) (names_of declared.Hoisted (node h xs n ts)) e
@@ -80,10 +81,10 @@ mutual
   hoisted_in_bodies : (s : List ℕ) (ts : Trees) → is_spelled s (all_names declared.Hoisted ts) ≡ true → is_spelled s (all_body_names ts) ≡ true
   hoisted_in_bodies s none e = e
   hoisted_in_bodies s (t ▸ ts) e =
-      of_either (is_spelled s (names_of declared.Hoisted t)) (is_spelled s (all_names declared.Hoisted ts)) (is_spelled s (all_body_names (t ▸ ts))) (λ f. in_first s (body_names t) (all_body_names ts) (hoisted_in_body s t f)) (λ f. in_second s (body_names t) (all_body_names ts) (hoisted_in_bodies s ts f))
+      of_either (is_spelled s (names_of declared.Hoisted t)) (is_spelled s (all_names declared.Hoisted ts)) (is_spelled s (all_body_names (t ▸ ts)) ≡ true) (λ f. in_first s (body_names t) (all_body_names ts) (hoisted_in_body s t f)) (λ f. in_second s (body_names t) (all_body_names ts) (hoisted_in_bodies s ts f))
       (sym (spelled_both s (names_of declared.Hoisted t) (all_names declared.Hoisted ts)) ∙ e)
 
-list_in_body : (s : List ℕ) (t : Tree) → is_spelled s (owed of_body t) ≡ true → is_spelled s (body_names t) ≡ true
+pub list_in_body : (s : List ℕ) (t : Tree) → is_spelled s (owed of_body t) ≡ true → is_spelled s (body_names t) ≡ true
 unfolding names_of body_names
 list_in_body s (node shape.FunctionBody xs n ts) e = lexical_in_bodies s ts e
 list_in_body s (node h xs n ts) e = absurd (true≢false (sym e))
@@ -96,14 +97,14 @@ merged_bound s t e = by (has_inner t) e
     by false f = f
 
 -- the scope of a program's or a static block's body, of a function's parameters, and of its body
-in_whole_body : (spells : Spellings) (v : Bool) (xs ys : List Name) → ((s : List ℕ) → is_spelled s ys ≡ true → is_spelled s xs ≡ true) → Spells (with_scope spells (body_scope [] xs)) v ys
+pub in_whole_body : (spells : Spellings) (v : Bool) (xs ys : List Name) → ((s : List ℕ) → is_spelled s ys ≡ true → is_spelled s xs ≡ true) → Spells (with_scope spells (body_scope [] xs)) v ys
 in_whole_body spells v xs ys f = spelled_there spells (body_scope [] xs) v ys (λ s e. body_spelled s v [] xs (f s e))
 
-in_body : (spells : Spellings) (v : Bool) (params : Tree) (xs ys : List Name) → ((s : List ℕ) → is_spelled s ys ≡ true → is_spelled s xs ≡ true) → Spells (with_scope (with_scope spells (body_scope [] (bound_names params))) (body_scope (merged params) xs)) v ys
+pub in_body : (spells : Spellings) (v : Bool) (params : Tree) (xs ys : List Name) → ((s : List ℕ) → is_spelled s ys ≡ true → is_spelled s xs ≡ true) → Spells (with_scope (with_scope spells (body_scope [] (bound_names params))) (body_scope (merged params) xs)) v ys
 in_body spells v params xs ys f s e =
     let outer = with_scope spells (body_scope [] (bound_names params)) v s in
     let inner = list_any (is_for (use_if v) s) (body_scope (merged params) xs) in
-    of_either (is_spelled s (merged params)) inner (outer || inner)
+    of_either (is_spelled s (merged params)) inner ((outer || inner) ≡ true)
     (λ g. or_first outer inner (in_whole_body spells v (bound_names params) (bound_names params) (λ r i. i) s (merged_bound s params g)))
     (λ g. or_second outer inner g) (body_spelled s v (merged params) xs (f s e))
 

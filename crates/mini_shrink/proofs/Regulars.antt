@@ -17,6 +17,7 @@ use Rattle.mini_kept.proofs.Bools.{left, right, both}
 use Rattle.mini_kept.proofs.Expressions.{refused_here}
 use Rattle.mini_shrink.specs.Regular.{declares_in_order, declares_alone, all_declare_alone, items_of, imports_no, is_regular, all_regular, ProgramsAreRegular}
 use Rattle.mini_shrink.proofs.Alone.{lone_slots, slots_alone, pattern_alone, nothing_there}
+use Rattle.mini_shrink.proofs.Either.{of_either_if}
 use Rattle.mini_shrink.proofs.Finding.{any_both}
 
 -- ---- what stands below the top
@@ -42,7 +43,7 @@ deep_slots [] = true
 deep_slots (s ∷ ss) = deep_slot s && deep_slots ss
 
 -- the slots of a `catch`: its parameter is no list
-abbrev catch_slots : List Slot → Bool
+abbrev pub catch_slots : List Slot → Bool
 catch_slots (one_or_absent a_pattern ∷ ss) = lone_slots ss
 catch_slots ss = false
 
@@ -287,11 +288,6 @@ module _ (k : ℕ) where
   deep_node strict c h xs n ts d e f =
       node_regular (is_strict_in strict h) h xs n ts (slots_of strict c h) (slots_right strict c h d) (import_absent strict c h xs n ts d e) (right (is_whole c h xs n ts) (fill (is_strict_in strict h) (filling_by (slots_of strict c h)) ts) e) f
 
-  of_either : (a l b c : Bool) → (a ≡ true → c ≡ true) → (b ≡ true → c ≡ true) → (a || (l && b)) ≡ true → c ≡ true
-  of_either true l b c f g e = f refl
-  of_either false true b c f g e = g e
-  of_either false false b c f g e = absurd (true≢false (sym e))
-
   mutual
     unfolding is_regular
 
@@ -323,7 +319,7 @@ module _ (k : ℕ) where
     each_or_last_regular : (strict : Bool) (s r : Slot) (ts : Trees) → deep_slot s ≡ true → deep_slot r ≡ true → fill strict (each_or_last s r) ts ≡ true → all_regular k ts ≡ true
     each_or_last_regular strict s r none d f e = refl
     each_or_last_regular strict s r (t ▸ ts) d f e =
-        both (is_regular k t) (all_regular k ts) (of_either (fits strict s t) (is_last ts) (fits strict r t) (is_regular k t) (deep_regular strict s t d) (deep_regular strict r t f) (left (fits strict s t || (is_last ts && fits strict r t)) (fill strict (each_or_last s r) ts) e))
+        both (is_regular k t) (all_regular k ts) (of_either_if (fits strict s t) (is_last ts) (fits strict r t) (is_regular k t ≡ true) (deep_regular strict s t d) (deep_regular strict r t f) (left (fits strict s t || (is_last ts && fits strict r t)) (fill strict (each_or_last s r) ts) e))
         (each_or_last_regular strict s r ts d f (right (fits strict s t || (is_last ts && fits strict r t)) (fill strict (each_or_last s r) ts) e))
 
   -- ---- a program

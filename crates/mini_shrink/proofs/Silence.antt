@@ -1,11 +1,11 @@
 -- A child in a slot that may owe no names of a kind declares none.
-use Rattle.std.specs.Prelude.{ℕ, suc, nat_le, ◌≡◌, refl, Bool, true, false, ◌&&◌, ◌||◌, not, List, [], ◌∷◌, ◌++◌, length, Option, Some, None}
-use Rattle.std.proofs.Common.{ap, ◌∙◌, sym, true≢false}
+use Rattle.std.specs.Prelude.{ℕ, suc, ◌≡◌, refl, Bool, true, false, ◌&&◌, ◌||◌, not, List, [], ◌∷◌, ◌++◌, Option, Some, None}
+use Rattle.std.proofs.Common.{◌∙◌, sym, true≢false}
 use Rattle.mini_model.specs.declared.name.Name.{Name}
 use Rattle.mini_model.specs.declared.shape.Shape.{Shape}
 use Rattle.mini_model.specs.declared.shape.Shape.TheVariants as shape
 use Rattle.mini_model.specs.Tree.{Tree, Trees, node, none, ◌▸◌}
-use Rattle.mini_accept.specs.WellShaped.{Tagging, Class, Slot, one, one_or_absent, many, many_or_holes, many_and_rest, many_or_holes_and_rest, quasis, these, each, each_or_last, filling_by, slots_of, class_of, is_function_body_shape, is_whole, is_strict_in, is_last, is_quasi, is_quasi_by, are_quasis, fits, fill}
+use Rattle.mini_accept.specs.WellShaped.{Tagging, Class, Slot, one, one_or_absent, many, many_or_holes, many_and_rest, many_or_holes_and_rest, quasis, these, each, each_or_last, filling_by, slots_of, class_of, is_function_body_shape, is_whole, is_strict_in, is_last, is_quasi, are_quasis, fits, fill}
 use Rattle.mini_laws.specs.declared.names.Declared.{Declared}
 use Rattle.mini_laws.specs.declared.names.Declared.TheVariants as declared
 use Rattle.mini_laws.specs.declared.names.Place.{Place}
@@ -13,7 +13,8 @@ use Rattle.mini_laws.specs.declared.names.Place.TheVariants as place
 use Rattle.mini_laws.specs.DeclaredNames.{place_of, names_by, names_of, first_names, all_names}
 use Rattle.mini_kept.proofs.Bools.{left, right, both}
 use Rattle.mini_kept.proofs.Expressions.{refused_here}
-use Rattle.mini_shrink.proofs.Debts.{Debt, of, of_body, owed, may_owe, slot_owes, is_body, all_silent, first_silent, silent_place, is_silent, is_no_branch, may_be_alone, parts, owes_little, is_settled_slot, is_settled, are_settled, holds_nothing, holds_nothing_slot, settles, slots_settle}
+use Rattle.mini_shrink.proofs.Either.{or_parts, not_true, of_either_if}
+use Rattle.mini_shrink.proofs.Debts.{Debt, of, of_body, owed, may_owe, slot_owes, is_body, all_silent, first_silent, silent_place, is_silent, owes_little, is_settled_slot, is_settled, are_settled, holds_nothing, holds_nothing_slot, settles, slots_settle}
 
 -- ---- what is settled of a node
 
@@ -111,19 +112,6 @@ silent_quasis d g none e = refl
 silent_quasis d g (t ▸ none) e = nothing_both (names_of d t) [] (silent_quasi d g true t e) refl
 silent_quasis d g (t ▸ (u ▸ ts)) e = nothing_both (names_of d t) (all_names d (u ▸ ts)) (silent_quasi d g false t (left (is_quasi g false t) (are_quasis g (u ▸ ts)) e)) (silent_quasis d g (u ▸ ts) (right (is_quasi g false t) (are_quasis g (u ▸ ts)) e))
 
-neither : (a b : Bool) → (a || b) ≡ false → (a ≡ false) × (b ≡ false)
-neither true b e = absurd (true≢false e)
-neither false b e = (refl, e)
-
-unowed : (b : Bool) → not b ≡ true → b ≡ false
-unowed true e = absurd (true≢false (sym e))
-unowed false e = refl
-
-fits_either : (a l b : Bool) (xs : List Name) → (a ≡ true → xs ≡ []) → (b ≡ true → xs ≡ []) → (a || (l && b)) ≡ true → xs ≡ []
-fits_either true l b xs f g e = f refl
-fits_either false true b xs f g e = g e
-fits_either false false b xs f g e = absurd (true≢false (sym e))
-
 mutual
   unfolding names_of
 
@@ -137,12 +125,12 @@ mutual
   silent strict (of d) (many_or_holes c) (node shape.Listed xs n ts) l k e =
       listed_names d xs n ts (silent_each strict d (one_or_absent c) ts (left (holds_nothing c) _ l) k (right (is_whole c shape.Listed xs n ts) (fill strict (each (one_or_absent c)) ts) e))
   silent strict (of d) (many_and_rest c rest) (node shape.Listed xs n ts) l k e =
-      let (f, g) = neither (may_owe (of d) c) (may_owe (of d) rest) k in
+      let (f, g) = or_parts (may_owe (of d) c) (may_owe (of d) rest) k in
       let first = left (holds_nothing c && not (is_body c)) _ l in
       let last = right (holds_nothing c && not (is_body c)) _ l in
       listed_names d xs n ts (silent_each_or_last strict d (one c) (one rest) ts (left (holds_nothing c) _ first) (left (holds_nothing rest) _ last) f g (right (is_whole c shape.Listed xs n ts) (fill strict (each_or_last (one c) (one rest)) ts) e))
   silent strict (of d) (many_or_holes_and_rest c rest) (node shape.Listed xs n ts) l k e =
-      let (f, g) = neither (may_owe (of d) c) (may_owe (of d) rest) k in
+      let (f, g) = or_parts (may_owe (of d) c) (may_owe (of d) rest) k in
       let first = left (holds_nothing c && not (is_body c)) _ l in
       let last = right (holds_nothing c && not (is_body c)) _ l in
       listed_names d xs n ts (silent_each_or_last strict d (one_or_absent c) (one rest) ts (left (holds_nothing c) _ first) (left (holds_nothing rest) _ last) f g (right (is_whole c shape.Listed xs n ts) (fill strict (each_or_last (one_or_absent c) (one rest)) ts) e))
@@ -156,13 +144,13 @@ mutual
   silent_these strict d (s ∷ ss) none l f e = refl
   silent_these strict d (s ∷ ss) (t ▸ ts) l f e =
       nothing_both (names_of d t) (all_names d ts)
-      (silent strict (of d) s t (left (holds_nothing_slot s) (all_hold_nothing ss) l) (unowed (slot_owes (of d) s) (left (not (slot_owes (of d) s)) (all_silent (of d) ss) f)) (left (fits strict s t) (fill strict (these ss) ts) e))
+      (silent strict (of d) s t (left (holds_nothing_slot s) (all_hold_nothing ss) l) (not_true (slot_owes (of d) s) (left (not (slot_owes (of d) s)) (all_silent (of d) ss) f)) (left (fits strict s t) (fill strict (these ss) ts) e))
       (silent_these strict d ss ts (right (holds_nothing_slot s) (all_hold_nothing ss) l) (right (not (slot_owes (of d) s)) (all_silent (of d) ss) f) (right (fits strict s t) (fill strict (these ss) ts) e))
 
   silent_first : (strict : Bool) (ss : List Slot) (ts : Trees) → all_hold_nothing ss ≡ true → first_silent ss ≡ true → fill strict (these ss) ts ≡ true → first_names ts ≡ []
   silent_first strict ss none l f e = refl
   silent_first strict [] (t ▸ ts) l f e = absurd (true≢false (sym e))
-  silent_first strict (s ∷ ss) (t ▸ ts) l f e = silent strict (of declared.Bound) s t (left (holds_nothing_slot s) (all_hold_nothing ss) l) (unowed (slot_owes (of declared.Bound) s) f) (left (fits strict s t) (fill strict (these ss) ts) e)
+  silent_first strict (s ∷ ss) (t ▸ ts) l f e = silent strict (of declared.Bound) s t (left (holds_nothing_slot s) (all_hold_nothing ss) l) (not_true (slot_owes (of declared.Bound) s) f) (left (fits strict s t) (fill strict (these ss) ts) e)
 
   silent_each : (strict : Bool) (d : Declared) (s : Slot) (ts : Trees) → holds_nothing_slot s ≡ true → slot_owes (of d) s ≡ false → fill strict (each s) ts ≡ true → all_names d ts ≡ []
   silent_each strict d s none l k e = refl
@@ -172,5 +160,5 @@ mutual
   silent_each_or_last strict d s r none l m f g e = refl
   silent_each_or_last strict d s r (t ▸ ts) l m f g e =
       nothing_both (names_of d t) (all_names d ts)
-      (fits_either (fits strict s t) (is_last ts) (fits strict r t) (names_of d t) (silent strict (of d) s t l f) (silent strict (of d) r t m g) (left (fits strict s t || (is_last ts && fits strict r t)) (fill strict (each_or_last s r) ts) e))
+      (of_either_if (fits strict s t) (is_last ts) (fits strict r t) (names_of d t ≡ []) (silent strict (of d) s t l f) (silent strict (of d) r t m g) (left (fits strict s t || (is_last ts && fits strict r t)) (fill strict (each_or_last s r) ts) e))
       (silent_each_or_last strict d s r ts l m f g (right (fits strict s t || (is_last ts && fits strict r t)) (fill strict (each_or_last s r) ts) e))

@@ -1,13 +1,13 @@
--- The children of functions, classes, declarators and of what declares names in a list, by the slots
--- of each.
-use Rattle.std.specs.Prelude.{ℕ, ◌≡◌, refl, Bool, true, false, ◌&&◌, List, [], ◌∷◌, Option, Some, None}
+-- The children of functions, classes, declarators and of what declares names in a list, by the
+-- slots of each.
+use Rattle.std.specs.Prelude.{ℕ, ◌≡◌, refl, Bool, true, false, List, [], ◌∷◌, Option, Some, None}
 use Rattle.std.proofs.Common.{ap, ◌∙◌, sym, true≢false}
 use Rattle.mini_model.specs.declared.kind.VariableDeclarationKind.{VariableDeclarationKind}
 use Rattle.mini_model.specs.declared.name.Name.{Name}
 use Rattle.mini_model.specs.declared.shape.Shape.{Shape}
 use Rattle.mini_model.specs.declared.shape.Shape.TheVariants as shape
 use Rattle.mini_model.specs.Tree.{Tree, Trees, node, none, ◌▸◌}
-use Rattle.mini_accept.specs.WellShaped.{Depth, in_module, in_body, nested, Class, a_statement, a_block, a_case, an_init, a_loop_left, a_declarator, a_pattern, a_pattern_rest, a_parameter, a_binding, a_function_body, a_class_body, a_key, a_private_or_key, an_inner_key, an_expression, an_inner, a_string, an_export, an_exported_declaration, a_default_export, Slot, one, one_or_absent, many, many_or_holes, many_and_rest, many_or_holes_and_rest, quasis, Filling, refused, these, each, filling, filling_by, class_of, slots_of, none_if, in_depth, is_sloppy_function, is_strict_in, is_whole, is_function_body, fits, fill}
+use Rattle.mini_accept.specs.WellShaped.{Depth, in_module, in_body, nested, Class, a_statement, a_block, a_case, an_init, a_loop_left, a_declarator, a_pattern, a_pattern_rest, a_parameter, a_binding, a_function_body, a_class_body, a_program, a_key, a_private_or_key, an_inner_key, an_expression, an_inner, a_string, an_export, an_exported_declaration, a_default_export, Slot, one, one_or_absent, many, many_or_holes, many_and_rest, many_or_holes_and_rest, quasis, these, filling_by, class_of, slots_of, none_if, in_depth, is_sloppy_function, is_strict_in, is_whole, is_function_body, fits, fill}
 use Rattle.mini_kept.proofs.Bools.{left, right}
 use Rattle.mini_kept.proofs.Expressions.{refused_here}
 use Rattle.mini_shrink.proofs.Alone.{is_lone_shape, is_lone, lone_none, lone_slot}
@@ -41,11 +41,11 @@ abbrev pub holds_if : (List Slot → Bool) → Option (List Slot) → Bool
 holds_if f None = true
 holds_if f (Some ss) = f ss
 
-if_none : (f : List Slot → Bool) (b : Bool) (o : Option (List Slot)) → holds_if f o ≡ true → holds_if f (none_if b o) ≡ true
+pub if_none : (f : List Slot → Bool) (b : Bool) (o : Option (List Slot)) → holds_if f o ≡ true → holds_if f (none_if b o) ≡ true
 if_none f true o e = refl
 if_none f false o e = e
 
-nothing_deep : (f : List Slot → Bool) (d : Depth) → holds_if f (in_depth d None) ≡ true
+pub nothing_deep : (f : List Slot → Bool) (d : Depth) → holds_if f (in_depth d None) ≡ true
 nothing_deep f in_module = refl
 nothing_deep f in_body = refl
 nothing_deep f nested = refl
@@ -172,7 +172,7 @@ lone_class (one_or_absent c) l = l
 lone_class (many c) l = l
 lone_class s l = absurd (true≢false (sym l))
 
--- no other binder stands there
+-- no binder but a declarator stands in a list of statements, declarators or cases
 pub lone_refused : (strict : Bool) (p : Slot) (h : Shape) (xs : List Name) (n : ℕ) (ts : Trees) → is_lone_shape h ≡ false → is_bare h ≡ true → lone_slot p ≡ true → fits strict p (node h xs n ts) ≡ true → ⊥
 lone_refused strict p h xs n ts q b l e = by (class_of p) (lone_class p l) (filled strict p h xs n ts b e)
   where
@@ -279,7 +279,7 @@ lone_right strict an_exported_declaration h l = slots_right strict an_exported_d
 lone_right strict a_default_export h l = slots_right strict a_default_export h refl
 lone_right strict c h l = absurd (true≢false (sym l))
 
--- of a node of a shape, the slots and that its children fill them
+-- the slots of a node's shape, which its children fill
 pub record Filled (strict : Bool) (h : Shape) (ts : Trees) : Type 0 where
   pub slots : List Slot
   pub ordered : ordered_slots h slots ≡ true
@@ -291,3 +291,168 @@ lone_filled strict p h xs n ts b l e = by (slots_of strict (class_of p) h) (lone
     by : (o : Option (List Slot)) → is_right h o ≡ true → fill (is_strict_in strict h) (filling_by o) ts ≡ true → Filled strict h ts
     by None r f = absurd (true≢false (sym f))
     by (Some ss) r f = record { slots = ss; ordered = left (ordered_slots h ss) (deep_slots ss) r; filled = f }
+
+-- shapes but those of programs and of inner expressions
+abbrev pub is_usual : Shape → Bool
+is_usual (shape.Program m ds) = false
+is_usual shape.InnerExpression = false
+is_usual h = true
+
+usual_right : (strict : Bool) (c : Class) (h : Shape) → is_usual h ≡ true → is_right h (slots_of strict c h) ≡ true
+usual_right strict (a_statement d) h u = statement_right strict d h
+usual_right strict a_program (shape.Program m ds) u = absurd (true≢false (sym u))
+usual_right strict a_program h u = refl
+usual_right strict (an_inner c) shape.InnerExpression u = absurd (true≢false (sym u))
+usual_right strict (an_inner c) h u = refl
+usual_right strict c h u = slots_right strict c h refl
+
+pub usual_filled : (strict : Bool) (p : Slot) (h : Shape) (xs : List Name) (n : ℕ) (ts : Trees) → is_bare h ≡ true → is_usual h ≡ true → fits strict p (node h xs n ts) ≡ true → Filled strict h ts
+usual_filled strict p h xs n ts b u e = by (slots_of strict (class_of p) h) (usual_right strict (class_of p) h u) (filled strict p h xs n ts b e)
+  where
+    by : (o : Option (List Slot)) → is_right h o ≡ true → fill (is_strict_in strict h) (filling_by o) ts ≡ true → Filled strict h ts
+    by None r f = absurd (true≢false (sym f))
+    by (Some ss) r f = record { slots = ss; ordered = left (ordered_slots h ss) (deep_slots ss) r; filled = f }
+
+-- ---- bodies and loops
+
+abbrev pub are_body_slots : List Slot → Bool
+are_body_slots (many (a_statement d) ∷ []) = true
+are_body_slots ss = false
+
+pub program_there : (strict : Bool) (c : Class) (m : Bool) (ds : List (List ℕ)) → holds_if are_body_slots (slots_of strict c (shape.Program m ds)) ≡ true
+program_there strict (a_statement d) m ds = if_none are_body_slots (is_sloppy_function strict d (shape.Program m ds)) (in_depth d None) (nothing_deep are_body_slots d)
+program_there strict (a_key true) m ds = refl
+program_there strict (a_key false) m ds = refl
+program_there strict (a_private_or_key true) m ds = refl
+program_there strict (a_private_or_key false) m ds = refl
+program_there strict (an_inner_key true) m ds = refl
+program_there strict (an_inner_key false) m ds = refl
+program_there strict c m ds = refl
+
+pub block_there : (strict : Bool) (c : Class) → holds_if are_body_slots (slots_of strict c shape.StaticBlock) ≡ true
+block_there strict (a_statement d) = if_none are_body_slots (is_sloppy_function strict d shape.StaticBlock) (in_depth d None) (nothing_deep are_body_slots d)
+block_there strict (a_key true) = refl
+block_there strict (a_key false) = refl
+block_there strict (a_private_or_key true) = refl
+block_there strict (a_private_or_key false) = refl
+block_there strict (an_inner_key true) = refl
+block_there strict (an_inner_key false) = refl
+block_there strict c = refl
+
+pub body_list_there : (strict : Bool) (c : Class) → holds_if are_body_slots (slots_of strict c shape.FunctionBody) ≡ true
+body_list_there strict (a_statement d) = if_none are_body_slots (is_sloppy_function strict d shape.FunctionBody) (in_depth d None) (nothing_deep are_body_slots d)
+body_list_there strict (a_key true) = refl
+body_list_there strict (a_key false) = refl
+body_list_there strict (a_private_or_key true) = refl
+body_list_there strict (a_private_or_key false) = refl
+body_list_there strict (an_inner_key true) = refl
+body_list_there strict (an_inner_key false) = refl
+body_list_there strict c = refl
+
+-- the list of a body
+pub record BodyList (strict : Bool) (t : Tree) : Type 0 where
+  pub depth : Depth
+  pub fit : fits strict (many (a_statement depth)) t ≡ true
+
+abbrev pub BodyPart : Bool → Trees → Type 0
+BodyPart strict (t ▸ none) = BodyList strict t
+BodyPart strict ts = ⊥
+
+pub body_part : (strict : Bool) (o : Option (List Slot)) (ts : Trees) → holds_if are_body_slots o ≡ true → fill strict (filling_by o) ts ≡ true → BodyPart strict ts
+body_part strict None ts h e = absurd (true≢false (sym e))
+body_part strict (Some (many (a_statement d) ∷ [])) none h e = absurd (true≢false (sym e))
+body_part strict (Some (many (a_statement d) ∷ [])) (t ▸ none) h e = record { depth = d; fit = left (fits strict (many (a_statement d)) t) true e }
+body_part strict (Some (many (a_statement d) ∷ [])) (t ▸ (u ▸ ts)) h e = absurd (true≢false (sym (right (fits strict (many (a_statement d)) t) false e)))
+body_part strict (Some ss) ts h e = absurd (true≢false (sym h))
+
+abbrev pub are_for_slots : List Slot → Bool
+are_for_slots (one_or_absent an_init ∷ (one_or_absent an_expression ∷ (one_or_absent an_expression ∷ (one (a_statement nested) ∷ [])))) = true
+are_for_slots ss = false
+
+abbrev pub are_each_slots : List Slot → Bool
+are_each_slots (one (a_loop_left b) ∷ (one an_expression ∷ (one (a_statement nested) ∷ []))) = true
+are_each_slots ss = false
+
+pub for_there : (strict : Bool) (c : Class) → holds_if are_for_slots (slots_of strict c shape.ForStatement) ≡ true
+for_there strict (a_key true) = refl
+for_there strict (a_key false) = refl
+for_there strict (a_private_or_key true) = refl
+for_there strict (a_private_or_key false) = refl
+for_there strict (an_inner_key true) = refl
+for_there strict (an_inner_key false) = refl
+for_there strict c = refl
+
+pub for_in_there : (strict : Bool) (c : Class) → holds_if are_each_slots (slots_of strict c shape.ForInStatement) ≡ true
+for_in_there strict (a_key true) = refl
+for_in_there strict (a_key false) = refl
+for_in_there strict (a_private_or_key true) = refl
+for_in_there strict (a_private_or_key false) = refl
+for_in_there strict (an_inner_key true) = refl
+for_in_there strict (an_inner_key false) = refl
+for_in_there strict c = refl
+
+pub for_of_there : (strict : Bool) (c : Class) → holds_if are_each_slots (slots_of strict c shape.ForOfStatement) ≡ true
+for_of_there strict (a_key true) = refl
+for_of_there strict (a_key false) = refl
+for_of_there strict (a_private_or_key true) = refl
+for_of_there strict (a_private_or_key false) = refl
+for_of_there strict (an_inner_key true) = refl
+for_of_there strict (an_inner_key false) = refl
+for_of_there strict c = refl
+
+-- what stands in the head of a loop
+pub record Head (strict : Bool) (t : Tree) : Type 0 where
+  pub slot : Slot
+  pub lone : lone_slot slot ≡ true
+  pub fit : fits strict slot t ≡ true
+
+-- the three parts of the head of a `for`, and the body, which stands alone
+abbrev pub ForParts : Bool → Trees → Type 0
+ForParts strict (a ▸ (b ▸ (c ▸ (body ▸ none)))) = Head strict a × (Head strict b × (Head strict c × (fits strict (one (a_statement nested)) body ≡ true)))
+ForParts strict ts = ⊥
+
+pub for_parts : (strict : Bool) (o : Option (List Slot)) (ts : Trees) → holds_if are_for_slots o ≡ true → fill strict (filling_by o) ts ≡ true → ForParts strict ts
+for_parts strict None ts h e = absurd (true≢false (sym e))
+for_parts strict (Some (one_or_absent an_init ∷ (one_or_absent an_expression ∷ (one_or_absent an_expression ∷ (one (a_statement nested) ∷ []))))) ts h e = by ts e
+  where
+    by : (ts : Trees) → fill strict (these (one_or_absent an_init ∷ (one_or_absent an_expression ∷ (one_or_absent an_expression ∷ (one (a_statement nested) ∷ []))))) ts ≡ true → ForParts strict ts
+    by none e = absurd (true≢false (sym e))
+    by (a ▸ none) e = absurd (true≢false (sym (right (fits strict (one_or_absent an_init) a) false e)))
+    by (a ▸ (b ▸ none)) e = absurd (true≢false (sym (right (fits strict (one_or_absent an_expression) b) false (right (fits strict (one_or_absent an_init) a) _ e))))
+    by (a ▸ (b ▸ (c ▸ none))) e = absurd (true≢false (sym (right (fits strict (one_or_absent an_expression) c) false (right (fits strict (one_or_absent an_expression) b) _ (right (fits strict (one_or_absent an_init) a) _ e)))))
+    by (a ▸ (b ▸ (c ▸ (body ▸ none)))) e =
+        let first = right (fits strict (one_or_absent an_init) a) _ e in
+        let second = right (fits strict (one_or_absent an_expression) b) _ first in
+        let third = right (fits strict (one_or_absent an_expression) c) _ second in (
+          record { slot = one_or_absent an_init; lone = refl; fit = left (fits strict (one_or_absent an_init) a) _ e },
+          (
+            record { slot = one_or_absent an_expression; lone = refl; fit = left (fits strict (one_or_absent an_expression) b) _ first },
+            (record { slot = one_or_absent an_expression; lone = refl; fit = left (fits strict (one_or_absent an_expression) c) _ second }, left (fits strict (one (a_statement nested)) body) true third),
+          ),
+        )
+    by (a ▸ (b ▸ (c ▸ (body ▸ (t ▸ ts))))) e =
+        absurd (true≢false (sym (right (fits strict (one (a_statement nested)) body) false (right (fits strict (one_or_absent an_expression) c) _ (right (fits strict (one_or_absent an_expression) b) _ (right (fits strict (one_or_absent an_init) a) _ e))))))
+for_parts strict (Some ss) ts h e = absurd (true≢false (sym h))
+
+-- both parts of the head of a `for..in` or `for..of`, and the body
+abbrev pub EachParts : Bool → Trees → Type 0
+EachParts strict (a ▸ (b ▸ (body ▸ none))) = Head strict a × (Head strict b × (fits strict (one (a_statement nested)) body ≡ true))
+EachParts strict ts = ⊥
+
+pub each_parts : (strict : Bool) (o : Option (List Slot)) (ts : Trees) → holds_if are_each_slots o ≡ true → fill strict (filling_by o) ts ≡ true → EachParts strict ts
+each_parts strict None ts h e = absurd (true≢false (sym e))
+each_parts strict (Some (one (a_loop_left l) ∷ (one an_expression ∷ (one (a_statement nested) ∷ [])))) ts h e = by ts e
+  where
+    by : (ts : Trees) → fill strict (these (one (a_loop_left l) ∷ (one an_expression ∷ (one (a_statement nested) ∷ [])))) ts ≡ true → EachParts strict ts
+    by none e = absurd (true≢false (sym e))
+    by (a ▸ none) e = absurd (true≢false (sym (right (fits strict (one (a_loop_left l)) a) false e)))
+    by (a ▸ (b ▸ none)) e = absurd (true≢false (sym (right (fits strict (one an_expression) b) false (right (fits strict (one (a_loop_left l)) a) _ e))))
+    by (a ▸ (b ▸ (body ▸ none))) e =
+        let first = right (fits strict (one (a_loop_left l)) a) _ e in
+        let second = right (fits strict (one an_expression) b) _ first in (
+          record { slot = one (a_loop_left l); lone = refl; fit = left (fits strict (one (a_loop_left l)) a) _ e },
+          (record { slot = one an_expression; lone = refl; fit = left (fits strict (one an_expression) b) _ first }, left (fits strict (one (a_statement nested)) body) true second),
+        )
+    by (a ▸ (b ▸ (body ▸ (t ▸ ts)))) e =
+        absurd (true≢false (sym (right (fits strict (one (a_statement nested)) body) false (right (fits strict (one an_expression) b) _ (right (fits strict (one (a_loop_left l)) a) _ e)))))
+each_parts strict (Some ss) ts h e = absurd (true≢false (sym h))

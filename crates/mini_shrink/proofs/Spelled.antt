@@ -1,5 +1,5 @@
 -- The scope that is made of some names has a name of each of their spellings.
-use Rattle.std.specs.Prelude.{ℕ, zero, suc, ◌≡◌, refl, Bool, true, false, ◌&&◌, ◌||◌, List, [], ◌∷◌, ◌++◌, length, drop, map, if◌then◌else◌}
+use Rattle.std.specs.Prelude.{ℕ, ◌≡◌, refl, Bool, true, false, ◌||◌, List, [], ◌∷◌, ◌++◌, length, drop, map, if◌then◌else◌}
 use Rattle.std.specs.List.{list_any}
 use Rattle.std.proofs.Common.{ap, ◌∙◌, sym, true≢false}
 use Rattle.mini_model.specs.declared.name.Name.{Name}
@@ -16,10 +16,6 @@ use Rattle.mini_shrink.specs.Cover.{Spellings, use_if, with_scope}
 
 pub or_first : (a b : Bool) → a ≡ true → (a || b) ≡ true
 or_first a b e = ap (λ c. c || b) e
-
-pub of_either : (a b c : Bool) → (a ≡ true → c ≡ true) → (b ≡ true → c ≡ true) → (a || b) ≡ true → c ≡ true
-of_either true b c f g e = f refl
-of_either false b c f g e = g e
 
 or_grouped : (a b c : Bool) → ((a || b) || c) ≡ (a || (b || c))
 or_grouped true b c = refl
@@ -72,7 +68,7 @@ module _ (s : List ℕ) where
   pub lexical_spelled : (xs : List Name) → is_spelled s xs ≡ true → list_any (is_for Read s) (lexical_scope xs) ≡ true
   lexical_spelled xs e = lexical_serves (with_names [] xs) ∙ ap (is_spelled s) (with_fresh [] xs) ∙ seen_or_new [] xs e
 
-  -- in the scope of a body, or its parameters have the spelling
+  -- a spelling of names is that of a parameter, or the scope of the body has it
   pub body_spelled : (v : Bool) (params xs : List Name) → is_spelled s xs ≡ true → (is_spelled s params || list_any (is_for (use_if v) s) (body_scope params xs)) ≡ true
   body_spelled v params xs e =
       ap (λ b. is_spelled s params || b) (body_serves v (drop (length params) (with_names params xs)) ∙ ap (is_spelled s) (ap (drop (length params)) (with_fresh params xs) ∙ drop_length params (fresh params xs)))

@@ -18,11 +18,10 @@ use Rattle.mini_kept.proofs.Unbound.{Other, Unbound, AllUnbound, named}
 use Rattle.mini_shrink.specs.Pace.{Pace, Ends, Silent, Reads, AtMost, followed, kept_in, reads_if, ends_if, ends_after, all_followed, in_turn, Setting, below, pace, paces}
 use Rattle.mini_shrink.specs.Questions.{early}
 use Rattle.mini_shrink.proofs.Moments.{grouped, x, first_of, first_both, reads_first, ends_first, firsts, moved, joined_first, is_catch}
-use Rattle.mini_shrink.proofs.Paces.{same, AllAtMost}
 
 -- ---- answers without an end
 
--- it ends nothing
+-- an answer that ends nothing
 pub not_ends : (q m : Pace) → AtMost (kept_in q) m → AtMost Silent m
 not_ends Ends m l = l
 not_ends Silent m l = l
@@ -69,7 +68,7 @@ turned_less shape.ForInStatement ps ms a = heads_less ps ms a
 turned_less shape.ForOfStatement ps ms a = heads_less ps ms a
 turned_less h ps ms a = all_less ps ms a
 
--- a child that ends nothing
+-- what a child tells around it where nothing in it ends
 pub unended : (q m : Pace) → AtMost (kept_in q) m → AtMost (ends_after false q) m
 unended Ends m l = l
 unended Silent m l = l
@@ -94,7 +93,7 @@ other_among k (y ∷ ys) o = or_neither (same_variable (x k k) y) (is_among (x k
 module _ (b s : ℕ) where
   -- ---- moments of a node, as answers
 
-  -- the children and the ends behind them
+  -- the moments of children and of the ends behind them
   joined_ends : (ls : List (List Moment)) (a : Around) (ys : List Name) → first_of b s (joined ls ++ ends_at a ys) ≡ followed (all_followed (firsts b s ls)) (ends_if (is_among (x b s) ys))
   joined_ends ls a ys = first_both b s (joined ls) (ends_at a ys) ∙ ap (λ p. followed p (first_of b s (ends_at a ys))) (joined_first b s ls) ∙ ap (followed (all_followed (firsts b s ls))) (ends_first b s a ys)
 
@@ -124,7 +123,7 @@ module _ (b s : ℕ) where
   silent_after Silent = refl
   silent_after Reads = refl
 
-  -- where nothing ends with the node
+  -- a node with which no declaration of the symbol ends
   pub turn_unended : (h : Shape) (ls : List (List Moment)) (a : Around) (ys : List Name) → is_among (x b s) ys ≡ false → first_of b s (in_order h ls (ends_at a ys)) ≡ in_turn h (firsts b s ls)
   turn_unended shape.CatchClause [] a ys e = joined_ends [] a ys ∙ ap ends_if e
   turn_unended shape.CatchClause (l ∷ ls) a ys e = catch_ends l ls a ys ∙ ap (λ d. followed (followed (first_of b s l) (ends_if d)) (all_followed (firsts b s ls))) e ∙ ap (λ p. followed p (all_followed (firsts b s ls))) (silent_after (first_of b s l))
@@ -158,7 +157,7 @@ module _ (b s : ℕ) where
   abbrev pub Children : Setting → Environment → Shape → List Name → ℕ → Trees → Type 0
   Children c env h xs n ts = AllLess (paces (early b s) (opened c.used h ts) (below ((early b s).orders c h ts) c h n) 0 env ts) (firsts b s (moments_from (use_of h c.used) (around_child h c.around n) 0 ts))
 
-  -- what such a node tells before what ends with it
+  -- what a node tells of its own and of its children, before what ends with it
   told_less : (c : Setting) (env : Environment) (h : Shape) (xs : List Name) (n : ℕ) (ts : Trees) → Children c env h xs n ts
       → AtMost (kept_in (pace (early b s) c env (node h xs n ts))) (followed (first_of b s (reads_at (own_mentions c.used c.around h xs))) (in_turn h (firsts b s (moments_from (use_of h c.used) (around_child h c.around n) 0 ts))))
   unfolding pace
@@ -177,14 +176,14 @@ module _ (b s : ℕ) where
       let reads = reads_at (own_mentions c.used c.around h xs) in
       subst (AtMost (kept_in (pace (early b s) c env (node h xs n ts)))) (sym (first_both b s reads (in_order h ls (ends_at c.around (ended_by h ts))) ∙ ap (followed (first_of b s reads)) (turn_unended h ls c.around (ended_by h ts) e))) (told_less c env h xs n ts a)
 
-  end_after : (q m : Pace) → AtMost (kept_in q) m → AtMost (ends_after true q) (followed m Ends)
+  pub end_after : (q m : Pace) → AtMost (kept_in q) m → AtMost (ends_after true q) (followed m Ends)
   end_after Ends m l = tt
   end_after Silent m l = tt
   end_after Reads Ends l = absurd l
   end_after Reads Silent l = absurd l
   end_after Reads Reads l = tt
 
-  -- one with which a declaration ends
+  -- a node with which a declaration of the symbol ends
   pub node_ended : (c : Setting) (env : Environment) (h : Shape) (xs : List Name) (n : ℕ) (ts : Trees) → is_catch b s h ≡ false → is_among (x b s) (ended_by h ts) ≡ true → Children c env h xs n ts
       → AtMost (ends_after true (pace (early b s) c env (node h xs n ts))) (first_of b s (moments c.used c.around (node h xs n ts)))
   unfolding moments
@@ -209,6 +208,6 @@ module _ (b s : ℕ) where
         let m = first_of b s (moments (cs i).used (cs i).around t) in
         (subst (λ e. AtMost (kept_in (ends_after e q)) m) (sym (none_ended (cs i) t a.0)) (kept_unended q m (still (cs i) (env ++ sc i) t a.0)), each_still sc cs (suc i) (env ++ sc i) ts a.1)
 
-  -- so does a child that binds no name of it
+  -- what a child tells around it that binds no name of the symbol
   pub child_still : (c : Setting) (env : Environment) (t : Tree) → Unbound s t → AtMost (ends_after ((early b s).ends c t) (pace (early b s) c env t)) (first_of b s (moments c.used c.around t))
   child_still c env t a = subst (λ e. AtMost (ends_after e (pace (early b s) c env t)) (first_of b s (moments c.used c.around t))) (sym (none_ended c t a)) (unended (pace (early b s) c env t) (first_of b s (moments c.used c.around t)) (still c env t a))

@@ -1,5 +1,5 @@
 -- A lexical declaration that stands alone, as a branch of an `if`: no JavaScript, but well shaped.
-use Rattle.std.specs.Prelude.{◌≡◌, refl, true, false, []}
+use Rattle.std.specs.Prelude.{◌≡◌, refl, false, []}
 use Rattle.mini_model.specs.declared.kind.VariableDeclarationKind.TheVariants.{Let}
 use Rattle.mini_model.specs.declared.shape.Shape.TheVariants as shape
 use Rattle.mini_model.specs.Tree.{Tree, none, ◌▸◌, absent, listed}

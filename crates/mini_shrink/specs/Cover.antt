@@ -1,31 +1,25 @@
 -- Every binder is spelled in a scope of its own body: the `x` of `function f(p) { { var x; } }` in
 -- the scope of f, and the `y` of `function f(p) { { let y; } }` in the scope of the block. What a
 -- pattern binds (`let { a } = o`) the pattern spells.
-use Rattle.std.specs.Prelude.{ℕ, zero, suc, ◌≡◌, refl, Bool, true, false, ◌&&◌, ◌||◌, List, [], ◌∷◌, if◌then◌else◌}
+use Rattle.std.specs.Prelude.{ℕ, zero, suc, ◌≡◌, refl, Bool, true, false, ◌&&◌, ◌||◌, List, if◌then◌else◌}
 use Rattle.std.specs.List.{list_any, list_all}
 use Rattle.mini_model.specs.declared.kind.VariableDeclarationKind.TheVariants.{Let}
-use Rattle.mini_model.specs.declared.name.Name.{Name}
 use Rattle.mini_model.specs.declared.shape.Shape.{Shape}
 use Rattle.mini_model.specs.declared.shape.Shape.TheVariants as shape
 use Rattle.mini_model.specs.Tree.{Tree, Trees, node, none, ◌▸◌}
-use Rattle.mini_accept.specs.WellShaped.{Slot, fits, is_function_body, is_same_flag, IsWellShaped}
+use Rattle.mini_accept.specs.WellShaped.{is_same_flag, IsWellShaped}
 use Rattle.mini_laws.specs.declared.names.Use.{Use}
 use Rattle.mini_laws.specs.declared.names.Use.TheVariants.{Read, Hoisted, Headed}
 use Rattle.mini_laws.specs.declared.names.Binding.{Binding}
-use Rattle.mini_laws.specs.declared.names.Declared.{Declared}
 use Rattle.mini_laws.specs.declared.names.Numbering.{Numbering}
 use Rattle.mini_laws.specs.declared.names.Numbering.TheVariants.{Unnumbered}
 use Rattle.mini_laws.specs.DeclaredNames.{names_of, body_names, with_names, has_inner, is_spelled}
-use Rattle.mini_laws.specs.Foreign.{own_pattern_names, pattern_names}
-use Rattle.mini_laws.specs.Mentions.{numbering_of, is_among}
+use Rattle.mini_laws.specs.Foreign.{own_pattern_names}
+use Rattle.mini_laws.specs.Mentions.{numbering_of}
 use Rattle.mini_laws.specs.Programs.{script, binding, reference, block, declares, var_of, let_of, function, object_pattern, f, p, x, e}
-use Rattle.mini_laws.specs.Resolved.{Environment, is_for}
-use Rattle.mini_laws.specs.ScopeList.{by_symbol}
-use Rattle.mini_laws.specs.Scoped.{Scoped}
-use Rattle.mini_laws.specs.Scopes.{use_of, is_alone, scopes_by, opened}
-use Rattle.mini_laws.specs.Symbols.{declared as declared_in, times}
-use Rattle.mini_kept.specs.Loosely.{symbol}
-use Rattle.mini_kept.proofs.Unbound.{bound_at, Unbound}
+use Rattle.mini_laws.specs.Resolved.{is_for}
+use Rattle.mini_laws.specs.Scopes.{use_of, scopes_by, opened}
+use Rattle.mini_kept.proofs.Unbound.{bound_at}
 
 -- ---- what the scopes of a body spell
 
@@ -39,8 +33,8 @@ abbrev pub use_if : Bool → Use
 use_if true = Hoisted
 use_if false = Read
 
--- which spellings the scopes around a place that belong to its body have, for a `var` (true) and for
--- any other name
+-- which spellings the scopes of its body have around a place: for a `var` (true), and for any other
+-- name
 abbrev pub Spellings : Type 0
 Spellings = Bool → List ℕ → Bool
 
@@ -67,12 +61,12 @@ is_numbered_by k = true
 abbrev pub begins_body : Shape → ℕ → ℕ → Bool
 begins_body h n i = is_numbered_by (numbering_of h n) && is_first_inside h i
 
--- what is spelled where it begins: nothing, but in a pattern the names that it binds
+-- what is spelled where a body begins: nothing, but in a pattern the names that the pattern binds
 abbrev pub spelled_first : Use → Shape → ℕ → Trees → Spellings
 spelled_first u h n ts v s = is_same_flag v (is_hoisting u) && is_spelled s (own_pattern_names h n ts)
 
--- each binder in a tree is spelled in a scope of its body: in one that the tree opens, or by what is
--- spelled around the tree
+-- each binder in a tree is spelled in a scope of its body: the tree opens the scope, or it stands
+-- around the tree
 unfoldable mutual
   pub is_covered : Use → Spellings → Tree → Bool
   is_covered u spells (node h xs n ts) = list_all (λ x. spells (is_hoisting u) x.spelling) (bound_at h xs) && are_covered (opened u h ts) (use_of h u) (begins_body h n) (spelled_first u h n ts) 0 spells ts

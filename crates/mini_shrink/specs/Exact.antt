@@ -1,6 +1,6 @@
 -- The same of what no node writes and what isn't foreign: what the body's own declarators give a
 -- name doesn't count, as it runs between two statements of the body and no answer runs it.
-use Rattle.std.specs.Prelude.{ℕ, ◌≡◌, Bool, true, false, not, ◌&&◌, []}
+use Rattle.std.specs.Prelude.{ℕ, ◌≡◌, Bool, true, false, []}
 use Rattle.std.specs.List.{list_any}
 use Rattle.mini_model.specs.declared.place.Position.{Position}
 use Rattle.mini_model.specs.declared.place.Position.TheVariants.{Elsewhere}
@@ -9,11 +9,9 @@ use Rattle.mini_model.specs.Tree.{Tree}
 use Rattle.mini_model.specs.Rewriting.{Reaches}
 use Rattle.mini_accept.specs.WellShaped.{IsWellShaped}
 use Rattle.mini_laws.specs.declared.names.Use.TheVariants.{Read}
-use Rattle.mini_laws.specs.Bodies.{bodies_in}
-use Rattle.mini_laws.specs.Foreign.{is_foreign, is_write, lexical_variables}
-use Rattle.mini_laws.specs.Mentions.{is_among, program_mentions}
+use Rattle.mini_laws.specs.Foreign.{is_foreign, is_write}
+use Rattle.mini_laws.specs.Mentions.{program_mentions}
 use Rattle.mini_laws.specs.ScopeList.{by_symbol}
-use Rattle.mini_laws.specs.Shared.{is_shared}
 use Rattle.mini_laws.specs.Scoped.{Scoped}
 use Rattle.mini_laws.specs.Symbols.{declared_symbols, Distinct}
 use Rattle.mini_laws.specs.Value.{VariableSet}

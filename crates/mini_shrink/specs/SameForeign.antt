@@ -1,5 +1,5 @@
--- What is foreign to a body by what shrinks is foreign by its definition, in a program without early
--- errors of names: what is told of a body is all that the definitions say of it.
+-- In a program without early errors of names, what is foreign to a body by what shrinks is foreign
+-- by the definition, too: what is told of a body is all that the definitions say of it.
 use Rattle.std.specs.Prelude.{ℕ, ◌≡◌, Bool, true, false, not, ◌&&◌, []}
 use Rattle.std.specs.List.{list_any}
 use Rattle.mini_model.specs.Tree.{Tree}
@@ -40,7 +40,7 @@ ForeignByDefinition = (t : Tree) → DeclaresOnce t → (b s : ℕ) → is_forei
 
 -- ---- what is told
 
--- nothing writes it, and it isn't foreign by the definition; and the same of what no node writes
+-- nothing writes a symbol, or no node does, and it isn't foreign by the definition
 abbrev pub stays_by_definition : Tree → ℕ → ℕ → Bool
 stays_by_definition t b s = not (is_written t s) && not (is_foreign t b (by_symbol s))
 

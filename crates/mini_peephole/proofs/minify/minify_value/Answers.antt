@@ -1,5 +1,5 @@
 use Rattle.mini_writer.proofs.Few.{fitting_is_countable}
-use Rattle.mini_peephole.proofs.Answered.{answer_is_faithful, answer_is_bounded}
+use Rattle.mini_peephole.proofs.Answered.{answer_is_faithful, answer_is_bounded, answer_comes_back}
 use Rattle.mini_peephole.proofs.minify.minify_value.Goals as goal
 
 pub minify_read-requires-clause-symbols : goal.minify_read-requires-clause-symbols
@@ -13,3 +13,6 @@ returns-clause-faithful c = answer_is_faithful _ _ _ _ _ c.requires c.in_ok-read
 
 pub returns-clause-passes : goal.returns-clause-passes
 returns-clause-passes c = answer_is_bounded _ _ _ _ _ c.in_ok-read.ensures.tree c.minify_read.ensures.ok
+
+pub returns-clause-again : goal.returns-clause-again
+returns-clause-again c = answer_comes_back _ _ _ _ _ c.requires c.in_ok-read.ensures.tree c.minify_read.ensures.ok

@@ -8,7 +8,7 @@ returns-clause-plain c = ap has_float c.in_ok-program.ensures ∙ program_plain 
 
 pub returns-clause-ok : goal.returns-clause-ok
 returns-clause-ok c =
-    record { output = c.run_steady_passes.new.program; passes = c.in_ok-passes.ensures c.args.options.now c.requires; written = c.in_ok-program.ensures; kept = c.in_ok-kept.ensures; symbols = c.in_ok-symbols.ensures }
+    record { output = c.run_passes.new.program; passes = c.in_ok-passes.ensures c.args.options.now c.requires; written = c.in_ok-program.ensures; kept = c.in_ok-kept.ensures; symbols = c.in_ok-symbols.ensures }
 
 pub returns-clause-made : goal.returns-clause-made
 unfolding returns-clause-ok

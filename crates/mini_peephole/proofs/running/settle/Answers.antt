@@ -17,7 +17,7 @@ returns-else-is_memory-2 c =
 pub returns-in-Ok-answer : goal.returns-in-Ok-answer
 returns-in-Ok-answer c = (
   c.in-Ok-minify_value.minified,
-  record { value = view c.in-Ok.value; reads = rw c.deref.ensures.value at c.in-Ok.ensures.ok.1; faithful = c.in-Ok-minify_value.ensures.faithful; passes = c.in-Ok-minify_value.ensures.passes; minified = c.in-Ok-minify_value.ensures.rewritten },
+  record { value = view c.in-Ok.value; reads = rw c.deref.ensures.value at c.in-Ok.ensures.ok.1; faithful = c.in-Ok-minify_value.ensures.faithful; passes = c.in-Ok-minify_value.ensures.passes; minified = c.in-Ok-minify_value.ensures.rewritten; again = c.in-Ok-minify_value.ensures.again },
   c.in-Ok-answer.ensures,
 )
 

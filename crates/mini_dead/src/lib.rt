@@ -1,0 +1,43 @@
+//! What a run does without functions and declarators that nothing refers to. Each function's
+//! contract is a law, and its body is empty.
+#![tactic(auto)]
+
+ghost use Rattle.mini_dead.specs.Creations.{WithoutNone, WithoutTwice};
+ghost use Rattle.mini_dead.specs.Differences.{UnansweredDiffers, LoneDeclarationDiffers};
+ghost use Rattle.mini_dead.specs.Pruned.{PrunedSame};
+ghost use Rattle.mini_dead.specs.PrunedBodies.{PrunedProgram};
+ghost use Rattle.mini_dead.specs.Drops.{DropsKeepBodies, DroppedBodiesStay};
+
+/// A body from whose lists of statements items go does what it did, but for the creation of the
+/// functions that went, where what stays names nothing that went.
+pub fn pruned_is_same()
+    ensures { PrunedSame }
+{}
+
+/// A body does what it does without creating no function; and a body that goes without some
+/// functions, and then without others, goes without both.
+pub fn without_is_an_order()
+    ensures none { WithoutNone }
+    ensures twice { WithoutTwice }
+{}
+
+/// A run without an item may end otherwise where no answer is left for the creation of a function
+/// that went, and where a `var` of its name stays.
+pub fn dropping_may_differ()
+    ensures unanswered { UnansweredDiffers }
+    ensures lone_declaration { LoneDeclarationDiffers }
+{}
+
+/// Each body of a program from which items go is one that the program had, and does what that did,
+/// but for the creation of the functions that went.
+pub fn pruned_program()
+    ensures { PrunedProgram }
+{}
+
+/// Each body of a program that lost dead items, any number of times, is one that the program had,
+/// and does what that did, but for the creation of the functions that went: in every environment
+/// that hides the symbols that went and lets them be written, and so in that of the later program.
+pub fn drops_keep_bodies()
+    ensures bodies { DropsKeepBodies }
+    ensures stay { DroppedBodiesStay }
+{}

@@ -1,3 +1,0 @@
-pub mod Everywhere
-pub mod Passing
-pub mod Trees
