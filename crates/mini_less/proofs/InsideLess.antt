@@ -1,5 +1,4 @@
 -- A `var` further inside a body: whatever holds the body tells no more without it.
-use Rattle.mini_accept.specs.WellShaped.{Depth, each, fill}
 use Rattle.mini_laws.specs.Congruence.{AllAvoid, Avoids}
 use Rattle.mini_laws.specs.Substitution.{alone}
 use Rattle.mini_laws.specs.Value.{Declared}

@@ -1,5 +1,5 @@
 -- 71 and 72 of a `var` further inside a body read less.
-use Rattle.std.specs.Prelude.{ℕ, suc, ◌≡◌, refl, true, false, ◌||◌, not, List, [], ◌++◌, Some}
+use Rattle.std.specs.Prelude.{suc, ◌≡◌, refl, true, false, ◌||◌, [], ◌++◌, Some}
 use Rattle.std.proofs.Common.{ap, ◌∙◌, sym, subst, subst₂, inl, inr, true≢false}
 use Rattle.std.proofs.lemmas.List.{append-nil}
 use Rattle.mini_model.specs.declared.kind.VariableDeclarationKind.TheVariants.{Var}
@@ -17,37 +17,28 @@ use Rattle.mini_laws.specs.ScopeList.{any_has_eval, has_eval}
 use Rattle.mini_laws.specs.Shared.{names_arguments}
 use Rattle.mini_laws.specs.Substitution.{alone}
 use Rattle.mini_laws.specs.Value.{Declared}
-use Rattle.mini_laws.specs.declared.names.Binding.{Binding}
 use Rattle.mini_laws.specs.declared.names.Declared.{Declared as Kind}
 use Rattle.mini_laws.specs.declared.names.Declared.TheVariants as declared
 use Rattle.mini_kept.specs.KeepsNames.{is_read, is_statement_use}
-use Rattle.mini_rows.specs.declared.gathered.Gathered.TheVariants.{Values as OfValues}
 use Rattle.mini_rows.specs.declared.inside.Way.{Way}
 use Rattle.mini_rows.specs.declared.inside.Way.TheVariants as way
 use Rattle.mini_node.specs.Kinds.{is_listed_shape}
-use Rattle.mini_rows.specs.Inside.{same_way, EndRow, HeadEnd, HeadNextEnd, HeldEnd, Holder, InsideContracts, ListEnd, above, declares_var, is_way_to, over}
+use Rattle.mini_rows.specs.Inside.{EndRow, HeadEnd, HeadNextEnd, HeldEnd, Holder, InsideContracts, ListEnd, above, declares_var, is_way_to, over}
 use Rattle.mini_rows.specs.Lists.{block}
 use Rattle.mini_rows.specs.Switches.{Liberties}
-use Rattle.mini_rows.specs.Unused.{BlockRow, any_names, declared_among, declared_left, evaluated, head_left, names, put_first, resolved}
-use Rattle.mini_rows.proofs.HiddenHeads.{Taken, hidden, taken}
-use Rattle.mini_rows.proofs.HiddenMeaning.{taken_unnamed}
+use Rattle.mini_rows.specs.Unused.{BlockRow, any_names, declared_among, declared_left, head_left, names, resolved}
 use Rattle.mini_rows.proofs.InsideEnds.{head_avoided, head_keeps, held_keeps, held_row, is_simple, only, some_there, unscoped}
 use Rattle.mini_rows.proofs.InsideKept.{Keeping}
-use Rattle.mini_rows.proofs.InsideLoses.{declares, fits_there, leaves}
-use Rattle.mini_rows.proofs.InsideNames.{Losing, VarThere, idle_vars, list_keeps, of_stretch, row_vars}
-use Rattle.mini_rows.proofs.ListShapes.{append_fits, both_fit}
+use Rattle.mini_rows.proofs.InsideNames.{VarThere, idle_vars, list_keeps, of_stretch, row_vars}
 use Rattle.mini_rows.proofs.NextEnds.{heading_next, next_avoided, next_heading}
-use Rattle.mini_rows.proofs.Sunk.{value_passed}
-use Rattle.mini_rows.proofs.UnusedKept.{all_append}
 use Rattle.mini_rows.proofs.UnusedMeaning.{all_join}
-use Rattle.mini_rows.proofs.UnusedMeaning.{movable}
-use Rattle.mini_rows.proofs.UnusedNames.{all_avoided, all_unmentioned, or_parts}
+use Rattle.mini_rows.proofs.UnusedNames.{all_avoided, or_parts}
 use Rattle.mini_rows.proofs.UnusedStretches as stretches
 use Rattle.mini_rows.proofs.UnusedStretches.{Stretch, item_in, row_stretch, stretch}
 use Rattle.mini_less.specs.Families.{LessAt}
 use Rattle.mini_less.specs.Inside.{InsideReadsLess}
 use Rattle.mini_less.proofs.Drops.{DropsLess}
-use Rattle.mini_less.proofs.DroppedLess.{head_less, head_told, idle_drops, value_drops}
+use Rattle.mini_less.proofs.DroppedLess.{head_less, head_told}
 use Rattle.mini_less.proofs.Flags.{none_of, unlike}
 use Rattle.mini_less.proofs.InsideLess.{EndTold, end_less, weaker}
 use Rattle.mini_less.proofs.InsideWays.{used_in}
@@ -58,14 +49,9 @@ use Rattle.mini_less.proofs.ListRowsLess.{append_none}
 use Rattle.mini_less.proofs.Losing.{Loses}
 use Rattle.mini_less.proofs.LosingLists.{list_wrote}
 use Rattle.mini_less.proofs.LosingNodes.{Wrote, WroteIn, wrote_in}
-use Rattle.mini_less.proofs.Once.{once_drops}
-use Rattle.mini_less.proofs.OnceNext.{next_drops}
 use Rattle.mini_less.proofs.PastLess.{unseen_parts}
 use Rattle.mini_less.proofs.Plainly.{read as as_read}
-use Rattle.mini_less.proofs.PutMade.{passed_suits}
-use Rattle.mini_less.proofs.PutTold.{hidden_drops}
-use Rattle.mini_less.proofs.RowsOnce as once
-use Rattle.mini_less.proofs.RowsOnce.{no_lexical, put_unnamed, vars_lost}
+use Rattle.mini_less.proofs.RowsOnce.{no_lexical, vars_lost}
 use Rattle.mini_less.proofs.RowsUnused.{row_kind, unused_list, unused_stretched, unused_unseen}
 
 -- ---- a `var` in a list
