@@ -82,4 +82,3 @@ pub mod Bindings
 pub mod MentionsAgain
 pub mod ForeignAgain
 pub mod BodiesAgain
-pub mod Carrying
