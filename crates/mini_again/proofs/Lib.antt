@@ -82,3 +82,4 @@ pub mod Bindings
 pub mod MentionsAgain
 pub mod ForeignAgain
 pub mod BodiesAgain
+pub mod Carrying

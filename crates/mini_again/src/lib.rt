@@ -2,6 +2,7 @@
 //! nodes. Each function's contract is a law, and its body is empty.
 #![tactic(auto)]
 
+ghost use Rattle.mini_again.specs.Carrying.{CarriedIsAgain, CarriedLeavesNothing};
 ghost use Rattle.mini_again.specs.Families.{BodiesAgain, BodyRewritesSurvive, NothingIsLeft, NothingIsLeftInBodies, RewritesSurvive, ToldSurvives, WritableSurvives};
 
 /// What a row writes for a node it writes for the node that is read again, with other symbols and
@@ -42,4 +43,11 @@ pub fn bodies_survive()
 /// that is read again, by other symbols and other numbers, where both are told apart.
 pub fn told_survives()
     ensures { ToldSurvives }
+{}
+
+/// What carries a program in lists of numbers and of symbols without repeats reads it again: nothing
+/// is left to rewrite in the program if nothing is left in what is carried.
+pub fn carried_is_again()
+    ensures again { CarriedIsAgain }
+    ensures settled { CarriedLeavesNothing }
 {}
