@@ -152,6 +152,10 @@ module _ (ρ : Renaming) where
   pub written_again : (t : Tree) (x : Name) → list_any (is_write (rename_name ρ.symbol x)) (all_writes (again ρ t)) ≡ list_any (is_write x) (all_writes t)
   written_again t x = ap (list_any (is_write (rename_name ρ.symbol x))) (all_writes_again t) ∙ any_again (mention_again ρ) (is_write (rename_name ρ.symbol x)) (is_write x) (is_write_again x) (all_writes t)
 
+  -- by references alone
+  pub assigned_again : (t : Tree) (x : Name) → list_any (is_write (rename_name ρ.symbol x)) (program_mentions (again ρ t)) ≡ list_any (is_write x) (program_mentions t)
+  assigned_again t x = ap (list_any (is_write (rename_name ρ.symbol x))) (program_mentions_again t) ∙ any_again (mention_again ρ) (is_write (rename_name ρ.symbol x)) (is_write x) (is_write_again x) (program_mentions t)
+
 -- ---- by the number of a body, where numbers are told apart
 
 module _ (ρ : Renaming) (far : TellsApart ρ.number) where

@@ -8,10 +8,10 @@ mod Own
 mod Placing
 mod ReadLess
 mod Rules
-mod SeenAgain
 mod SeenLater
 mod SteadyKnown
 mod Survives
+mod ToldAgain
 mod ToldExactly
 mod WrittenAlike
 pub mod AnswerFloats
