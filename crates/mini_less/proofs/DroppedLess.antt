@@ -11,6 +11,7 @@ use Rattle.mini_model.specs.declared.shape.Shape.TheVariants as shape
 use Rattle.mini_model.specs.Paths.{append}
 use Rattle.mini_model.specs.Tree.{Tree, Trees, none, ◌▸◌, listed, absent, empty_statement, expression_statement}
 use Rattle.mini_laws.specs.declared.names.Declared.TheVariants as declared
+use Rattle.mini_laws.specs.declared.names.Use.{Use}
 use Rattle.mini_laws.specs.declared.names.Use.TheVariants.{Read}
 use Rattle.mini_laws.specs.DeclaredNames.{names_of, all_names}
 use Rattle.mini_laws.specs.Foreign.{has_number, any_has_number, own_lexical}
@@ -22,7 +23,7 @@ use Rattle.mini_laws.specs.Scopes.{opened}
 use Rattle.mini_laws.specs.Shared.{names_arguments}
 use Rattle.mini_shrink.specs.Facts.{Fact, Written, WrittenElsewhere, Given, GivenElsewhere, GivenByPattern, MentionedElsewhere, BoundElsewhere, IsLexical, IsSwitched, InPattern, UnderCatch, ByArguments, ByEval, AmongParameters, ReadEarly, question}
 use Rattle.mini_shrink.specs.Pace.{Pace, Ends, Silent, Reads, AtMost, followed, ends_after, Setting, below, Question, pace, reads_if}
-use Rattle.mini_shrink.specs.Questions.{Own, asks, early}
+use Rattle.mini_shrink.specs.Questions.{Own, asks, early, alone_names, hands_on}
 use Rattle.mini_shrink.proofs.Paces.{itself, same, both, ended}
 use Rattle.mini_rows.specs.Lists.{binding, declarator, declaration}
 use Rattle.mini_rows.specs.Sketches.{Empty, Asked, AsWholeItem}
@@ -88,6 +89,12 @@ reads_unended false = refl
 -- no node says itself that a declaration ends
 root_unended : (g : Fact) (b s : ℕ) (c : Setting) (env : Environment) (h : Shape) (xs : List Name) (n : ℕ) (ts : Trees) → is_ended ((question g b s).before c env h xs n ts) ≡ false
 root_unended g b s c env h xs n ts = by_question (λ q. is_ended (q.before c env h xs n ts) ≡ false) (λ o. reads_unended (o c env h xs n ts)) (λ b s. reads_unended _) g b s
+
+-- a declaration that doesn't stand alone is no scope of its own
+unalone : (v : Use) → v ≡ Read → (K : VariableDeclarationKind) (t : Tree) → alone_names v K t ≡ []
+unalone v r Var t = refl
+unalone v r Let t = ap (λ v. alone_names v Let t) r
+unalone v r Const t = ap (λ v. alone_names v Const t) r
 
 -- without what is between
 between_less : (p r s : Pace) → AtMost (followed p s) (followed p (followed (ends_after false r) s))
@@ -267,7 +274,7 @@ module _ (sp : List ℕ) (k : ℕ) (K : VariableDeclarationKind) (first : Trees)
           subst (λ z. AtMost z (pace q d e (listed ts))) (sym (listed_is q p d e es)) (subst (AtMost (items_say q (of_items (p.orders d) d) e es)) (sym (listed_is q p d e ts)) (items_less g b (of_items (p.orders d) d) e))
 
       orders_same : (g : Fact) (b : ℕ) → (question g b s).orders c (shape.VariableDeclaration K) (listed es ▸ none) ≡ (question g b s).orders c (shape.VariableDeclaration K) (listed ts ▸ none)
-      orders_same g b = by_question_of s (λ q. q.orders c (shape.VariableDeclaration K) (listed es ▸ none) ≡ q.orders c (shape.VariableDeclaration K) (listed ts ▸ none)) (λ o. refl) (λ b. refl) g b
+      orders_same g b = by_question_of s (λ q. q.orders c (shape.VariableDeclaration K) (listed es ▸ none) ≡ q.orders c (shape.VariableDeclaration K) (listed ts ▸ none)) (λ o. refl) (λ b. ap (λ ys. (hands_on (shape.VariableDeclaration K) && c.ordered) || is_among (by_symbol s) ys) (unalone c.used r K (listed es) ∙ sym (unalone c.used r K (listed ts)))) g b
 
       pub fewer_less : (g : Fact) (b : ℕ) → AtMost (pace (question g b s) c env (declaration K es)) (pace (question g b s) c env (declaration K ts))
       fewer_less g b =

@@ -3,7 +3,8 @@
 use Rattle.std.specs.Prelude.{ℕ, zero, suc, ◌≡◌, refl, nat_eq, Bool, true, false, not, ◌||◌, ◌&&◌, List, [], ◌∷◌, ◌++◌, map, if◌then◌else◌}
 use Rattle.std.specs.List.{list_any}
 use Rattle.std.proofs.Common.{ap, ◌∙◌, inl, sym, subst}
-use Rattle.mini_model.specs.declared.kind.VariableDeclarationKind.TheVariants.{Var}
+use Rattle.mini_model.specs.declared.kind.VariableDeclarationKind.{VariableDeclarationKind}
+use Rattle.mini_model.specs.declared.kind.VariableDeclarationKind.TheVariants.{Var, Let, Const}
 use Rattle.mini_model.specs.declared.name.Name.{Name}
 use Rattle.mini_model.specs.declared.place.Position.{Position}
 use Rattle.mini_model.specs.declared.shape.Shape.{Shape}
@@ -21,7 +22,7 @@ use Rattle.mini_laws.specs.Foreign.{is_write, has_number, any_has_number, own_le
 use Rattle.mini_laws.specs.Mentions.{own_mentions, is_among, is_elsewhere}
 use Rattle.mini_laws.specs.Resolved.{Environment, with_symbol, gives_value}
 use Rattle.mini_laws.specs.ScopeList.{any_has_eval, by_symbol, has_eval, is_eval_call, is_eval_callee, names_in}
-use Rattle.mini_laws.specs.Scopes.{use_of, opened, opening_of, scopes_by}
+use Rattle.mini_laws.specs.Scopes.{is_alone, use_of, opened, opening_of, scopes_by}
 use Rattle.mini_laws.specs.Shared.{given_values, is_arguments, is_name_of_variable, is_of_function, is_pattern, names_arguments, any_names_arguments, own_caught, own_pattern_writes, reached_params, spelled_among, write_at, written_by}
 use Rattle.mini_laws.specs.Strict.{is_strict_in}
 use Rattle.mini_laws.proofs.Changes.{all_names_kept, as_it_is, at_same, below as kept_below, scopes_kept}
@@ -29,7 +30,7 @@ use Rattle.mini_kept.specs.KeepsNames.{Stands}
 use Rattle.mini_kept.specs.Placed.{fits_place}
 use Rattle.mini_shrink.specs.Facts.{Fact, Written, WrittenElsewhere, Given, GivenElsewhere, GivenByPattern, MentionedElsewhere, BoundElsewhere, IsLexical, IsSwitched, InPattern, UnderCatch, ByArguments, ByEval, AmongParameters, ReadEarly, question}
 use Rattle.mini_shrink.specs.Pace.{AtMost, followed, ends_after, in_turn, Setting, below, Question, pace, paces, reads_if}
-use Rattle.mini_shrink.specs.Questions.{hands_on, listed_names, seen_from}
+use Rattle.mini_shrink.specs.Questions.{alone_names, hands_on, listed_names, seen_from}
 use Rattle.mini_shrink.proofs.Owns.{implied, or_implied, and_implied, if_implied}
 use Rattle.mini_shrink.proofs.Paces.{itself, same, both, ended, turned, AllAtMost}
 use Rattle.mini_less.specs.Families.{LessAt}
@@ -53,7 +54,7 @@ AllLikewise none (u ▸ us) = ⊥
 AllLikewise (t ▸ ts) none = ⊥
 AllLikewise (t ▸ ts) (u ▸ us) = Likewise t u × AllLikewise ts us
 
-itself_likewise : (t : Tree) → Likewise t t
+pub itself_likewise : (t : Tree) → Likewise t t
 itself_likewise t = record { kept = as_it_is t; absent = refl; pattern = refl; eval = λ e. e; callee = λ e. e; arguments = λ e. e; number = λ b e. e }
 
 all_likewise : (ts : Trees) → AllLikewise ts ts
@@ -213,23 +214,29 @@ seen_less x sc i (t ▸ ts) (u ▸ us) k e =
 
 -- ---- each fact
 
-listed_same : (h : Shape) (ts us : Trees) → AllLikewise ts us → listed_names h us ≡ listed_names h ts
-listed_same h none none k = refl
-listed_same h none (u ▸ us) k = absurd k
-listed_same h (t ▸ ts) none k = absurd k
-listed_same (shape.Program m ds) (t ▸ ts) (u ▸ us) k = k.0.kept.names declared.Lexical
-listed_same shape.FunctionBody (t ▸ ts) (u ▸ us) k = k.0.kept.names declared.Lexical
-listed_same shape.StaticBlock (t ▸ ts) (u ▸ us) k = k.0.kept.names declared.Lexical
-listed_same shape.BlockStatement (t ▸ ts) (u ▸ us) k = k.0.kept.names declared.Lexical
-listed_same shape.ForStatement (t ▸ ts) (u ▸ us) k = k.0.kept.names declared.Lexical
-listed_same shape.ForInStatement (t ▸ ts) (u ▸ us) k = k.0.kept.names declared.Lexical
-listed_same shape.ForOfStatement (t ▸ ts) (u ▸ us) k = k.0.kept.names declared.Lexical
-listed_same shape.SwitchStatement (t ▸ none) (u ▸ none) k = refl
-listed_same shape.SwitchStatement (t ▸ none) (u ▸ (v ▸ us)) k = absurd k.1
-listed_same shape.SwitchStatement (t ▸ (s ▸ ts)) (u ▸ none) k = absurd k.1
-listed_same shape.SwitchStatement (t ▸ (s ▸ ts)) (u ▸ (v ▸ us)) k = k.1.0.kept.names declared.Lexical
-listed_same shape.CatchClause (t ▸ ts) (u ▸ us) k = k.0.kept.names declared.Bound
-listed_same h (t ▸ ts) (u ▸ us) k = refl
+alone_same : (v : Use) (k : VariableDeclarationKind) (t u : Tree) → names_of declared.Bound u ≡ names_of declared.Bound t → alone_names v k u ≡ alone_names v k t
+alone_same v Var t u e = refl
+alone_same v Let t u e = ap (λ ns. if is_alone v then ns else []) e
+alone_same v Const t u e = ap (λ ns. if is_alone v then ns else []) e
+
+listed_same : (v : Use) (h : Shape) (ts us : Trees) → AllLikewise ts us → listed_names v h us ≡ listed_names v h ts
+listed_same v h none none k = refl
+listed_same v h none (u ▸ us) k = absurd k
+listed_same v h (t ▸ ts) none k = absurd k
+listed_same v (shape.Program m ds) (t ▸ ts) (u ▸ us) k = k.0.kept.names declared.Lexical
+listed_same v shape.FunctionBody (t ▸ ts) (u ▸ us) k = k.0.kept.names declared.Lexical
+listed_same v shape.StaticBlock (t ▸ ts) (u ▸ us) k = k.0.kept.names declared.Lexical
+listed_same v shape.BlockStatement (t ▸ ts) (u ▸ us) k = k.0.kept.names declared.Lexical
+listed_same v shape.ForStatement (t ▸ ts) (u ▸ us) k = k.0.kept.names declared.Lexical
+listed_same v shape.ForInStatement (t ▸ ts) (u ▸ us) k = k.0.kept.names declared.Lexical
+listed_same v shape.ForOfStatement (t ▸ ts) (u ▸ us) k = k.0.kept.names declared.Lexical
+listed_same v shape.SwitchStatement (t ▸ none) (u ▸ none) k = refl
+listed_same v shape.SwitchStatement (t ▸ none) (u ▸ (x ▸ us)) k = absurd k.1
+listed_same v shape.SwitchStatement (t ▸ (s ▸ ts)) (u ▸ none) k = absurd k.1
+listed_same v shape.SwitchStatement (t ▸ (s ▸ ts)) (u ▸ (x ▸ us)) k = k.1.0.kept.names declared.Lexical
+listed_same v (shape.VariableDeclaration k) (t ▸ ts) (u ▸ us) l = alone_same v k t u (l.0.kept.names declared.Bound)
+listed_same v shape.CatchClause (t ▸ ts) (u ▸ us) k = k.0.kept.names declared.Bound
+listed_same v h (t ▸ ts) (u ▸ us) k = refl
 
 among_same : (s : ℕ) (xs ys : List Name) → ys ≡ xs → AtMost (reads_if (is_among (by_symbol s) ys)) (reads_if (is_among (by_symbol s) xs))
 among_same s xs ys e = same _ _ (ap (λ zs. reads_if (is_among (by_symbol s) zs)) e)
@@ -252,7 +259,7 @@ before_less AmongParameters b s c env h xs n ts us k = implied _ _ (around_less 
 before_less ReadEarly b s c env h xs n ts us k = itself _
 
 orders_same : (g : Fact) (b s : ℕ) (c : Setting) (h : Shape) (ts us : Trees) → AllLikewise ts us → (question g b s).orders c h us ≡ (question g b s).orders c h ts
-orders_same g b s c h ts us k = by_question (λ q. q.orders c h us ≡ q.orders c h ts) (λ o. refl) (λ m r. ap (λ ys. (hands_on h && c.ordered) || is_among (by_symbol r) ys) (listed_same h ts us k)) g b s
+orders_same g b s c h ts us k = by_question (λ q. q.orders c h us ≡ q.orders c h ts) (λ o. refl) (λ m r. ap (λ ys. (hands_on h && c.ordered) || is_among (by_symbol r) ys) (listed_same c.used h ts us k)) g b s
 
 pub ends_same : (g : Fact) (b s : ℕ) (c : Setting) (t u : Tree) → Kept t u → (question g b s).ends c u ≡ (question g b s).ends c t
 ends_same g b s c t u k = by_question (λ q. q.ends c u ≡ q.ends c t) (λ o. refl) (λ m r j. c.ordered && (is_among (by_symbol r) (k.names declared.Lexical j) || is_among (by_symbol r) (k.names declared.Bound j))) g b s

@@ -66,6 +66,11 @@ pub mod FadedLess
 pub mod Drops
 pub mod DroppedLess
 pub mod ForHeadLess
+pub mod ClosedTold
+pub mod PutTold
+pub mod SwitchHolds
+pub mod RowsUnused
+pub mod UnusedLess
 pub mod BodyEndsLess
 pub mod SwitchTold
 pub mod OneCaseLess
@@ -84,3 +89,10 @@ pub mod LosingLists
 pub mod RowsOnce
 pub mod OnceNext
 pub mod PastLess
+pub mod InsideWays
+pub mod InsideOnes
+pub mod InsideLess
+pub mod NextHeads
+pub mod PastBlocksLess
+pub mod InsideUnused
+pub mod SteadyLess

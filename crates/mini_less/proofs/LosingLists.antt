@@ -144,7 +144,7 @@ module _ (a b : Trees) (t : Losing a b) (less : ListLess a b t) where
     }
 
   -- declared once less in what is over the list
-  less_over : (f : Trees → Tree) → ((v : Use) → times (symbol k) (declared_in v (f (around t.w))) + 1 ≤ times (symbol k) (declared_in v (f (around t.d)))) → (v : Use) → times (symbol k) (declared_in v (f b)) + 1 ≤ times (symbol k) (declared_in v (f a))
+  pub less_over : (f : Trees → Tree) → ((v : Use) → times (symbol k) (declared_in v (f (around t.w))) + 1 ≤ times (symbol k) (declared_in v (f (around t.d)))) → (v : Use) → times (symbol k) (declared_in v (f b)) + 1 ≤ times (symbol k) (declared_in v (f a))
   less_over f g v = subst₂ (λ ts us. times (symbol k) (declared_in v (f us)) + 1 ≤ times (symbol k) (declared_in v (f ts))) (sym t.read_is) (sym t.written_is) (g v)
 
   evals_alone : any_has_eval a ≡ false → any_has_eval (listed a ▸ none) ≡ false

@@ -94,7 +94,7 @@ is_holder (shape.Program m ds) = true
 is_holder shape.StaticBlock = true
 is_holder h = false
 
-holds_so : (m : Holds) → is_holder (shape_by m) ≡ true
+pub holds_so : (m : Holds) → is_holder (shape_by m) ≡ true
 holds_so (on_way Braces) = refl
 holds_so (on_way g) = refl
 holds_so m = refl
@@ -113,7 +113,7 @@ no_pattern shape.ArrayPattern e n ts = absurd (true≢false (sym e))
 no_pattern shape.AssignmentPattern e n ts = absurd (true≢false (sym e))
 no_pattern h e n ts = refl
 
-no_call : (h : Shape) → is_holder h ≡ true → (ts : Trees) → is_eval_call h ts ≡ false
+pub no_call : (h : Shape) → is_holder h ≡ true → (ts : Trees) → is_eval_call h ts ≡ false
 no_call (shape.CallExpression o) e ts = absurd (true≢false (sym e))
 no_call h e ts = refl
 
@@ -305,13 +305,13 @@ module _ (sp : List ℕ) (k : ℕ) where
         by (on_way g) = refl
         by m = refl
 
-    listed_same : (s : ℕ) → nat_eq s k ≡ false → is_among (by_symbol s) (listed_names (shape_by m) us) ≡ is_among (by_symbol s) (listed_names (shape_by m) ts)
-    listed_same s e = by m
+    listed_same : (v : Use) (s : ℕ) → nat_eq s k ≡ false → is_among (by_symbol s) (listed_names v (shape_by m) us) ≡ is_among (by_symbol s) (listed_names v (shape_by m) ts)
+    listed_same v s e = by m
       where
         lost : is_among (by_symbol s) (names_of declared.Lexical u) ≡ is_among (by_symbol s) (names_of declared.Lexical t)
         lost = among_lost sp k s e (names_of declared.Lexical t) (names_of declared.Lexical u) lexical
 
-        by : (m : Holds) → is_among (by_symbol s) (listed_names (shape_by m) (append (front m) (u ▸ post))) ≡ is_among (by_symbol s) (listed_names (shape_by m) (append (front m) (t ▸ post)))
+        by : (m : Holds) → is_among (by_symbol s) (listed_names v (shape_by m) (append (front m) (u ▸ post))) ≡ is_among (by_symbol s) (listed_names v (shape_by m) (append (front m) (t ▸ post)))
         by (on_way Braces) = lost
         by (on_way Heading) = lost
         by (on_way (Switched a)) = lost
@@ -361,7 +361,7 @@ module _ (sp : List ℕ) (k : ℕ) where
         before_less ReadEarly b s e c env n = itself _
 
     orders_same : (g : Fact) (b s : ℕ) → nat_eq s k ≡ false → (c : Setting) → (question g b s).orders c (shape_by m) us ≡ (question g b s).orders c (shape_by m) ts
-    orders_same ReadEarly b s e c = λ j. (hands_on (shape_by m) && c.ordered) || listed_same s e j
+    orders_same ReadEarly b s e c = λ j. (hands_on (shape_by m) && c.ordered) || listed_same c.used s e j
     orders_same Written b s e c = refl
     orders_same WrittenElsewhere b s e c = refl
     orders_same Given b s e c = refl
@@ -377,7 +377,7 @@ module _ (sp : List ℕ) (k : ℕ) where
     orders_same ByEval b s e c = refl
     orders_same AmongParameters b s e c = refl
 
-    ends_same : (g : Fact) (b s : ℕ) → nat_eq s k ≡ false → (c : Setting) → (question g b s).ends c u ≡ (question g b s).ends c t
+    pub ends_same : (g : Fact) (b s : ℕ) → nat_eq s k ≡ false → (c : Setting) → (question g b s).ends c u ≡ (question g b s).ends c t
     ends_same ReadEarly b s e c = λ j. c.ordered && (among_lost sp k s e (names_of declared.Lexical t) (names_of declared.Lexical u) lexical j || is_among (by_symbol s) (bound j))
     ends_same Written b s e c = refl
     ends_same WrittenElsewhere b s e c = refl

@@ -114,6 +114,3 @@ steady_rows_read_less V = reads_less_by (SteadyRow V) (steady_less V)
 
 pub steady_reads_less : SteadyReadsLess
 steady_reads_less = own_less SteadyRow (λ V. (steady_own V).names) (λ V. (steady_own V).shapes) steady_rows_read_less
-
-pub past_blocks_read_less : PastBlocksReadLess
-past_blocks_read_less o = own_less (PastBlocks o)

@@ -27,21 +27,21 @@ use Rattle.mini_less.proofs.LosingLists.{arrow_drops, function_drops, module_dro
 use Rattle.mini_less.proofs.RowsOnce.{past_list, past_unseen}
 
 -- no direct eval stands in what is read
-record Unseen (o : Tree) (a : Trees) : Type 0 where
-  outside : has_eval o ≡ false
-  inside : any_has_eval a ≡ false
+pub record Unseen (o : Tree) (a : Trees) : Type 0 where
+  pub outside : has_eval o ≡ false
+  pub inside : any_has_eval a ≡ false
 
-unseen_parts : (o : Tree) (a : Trees) → has_eval (block (o ▸ a)) ≡ false → Unseen o a
+pub unseen_parts : (o : Tree) (a : Trees) → has_eval (block (o ▸ a)) ≡ false → Unseen o a
 unfolding has_eval
 unseen_parts o a e =
     let list = (none_of (has_eval o || any_has_eval a) false e).0 in
     let (f, g) = none_of (has_eval o) (any_has_eval a) list in
     record { outside = f; inside = g }
 
-named_parts : (x : Name) (name : Tree) (params : Trees) → names x (listed (name ▸ params)) ≡ false → (names x name ≡ false) × (names x (listed params) ≡ false)
+pub named_parts : (x : Name) (name : Tree) (params : Trees) → names x (listed (name ▸ params)) ≡ false → (names x name ≡ false) × (names x (listed params) ≡ false)
 named_parts x name params e = or_parts (names x name) (any_names x params) e
 
-seen_parts : (name : Tree) (params : Trees) → has_eval (listed (name ▸ params)) ≡ false → (has_eval name ≡ false) × (has_eval (listed params) ≡ false)
+pub seen_parts : (name : Tree) (params : Trees) → has_eval (listed (name ▸ params)) ≡ false → (has_eval name ≡ false) × (has_eval (listed params) ≡ false)
 unfolding has_eval
 seen_parts name params e = none_of (has_eval name) (any_has_eval params) e
 

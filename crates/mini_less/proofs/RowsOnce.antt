@@ -24,7 +24,9 @@ use Rattle.mini_rows.proofs.InsideNames.{Losing, SameHead, VarThere, head_vars, 
 use Rattle.mini_rows.proofs.HeadKept.{head_names}
 use Rattle.mini_rows.proofs.HeadMeaning.{head_unnamed}
 use Rattle.mini_rows.proofs.NextKept.{next_names}
-use Rattle.mini_rows.proofs.PastInsideKept.{of_behind}
+use Rattle.mini_rows.proofs.PastInsideKept.{of_behind, one_next}
+use Rattle.mini_rows.proofs.PastHeadKept.{no_second}
+use Rattle.mini_rows.specs.PastInside.{passes_var}
 use Rattle.mini_rows.proofs.PastStretches.{behind, of_head, of_next}
 use Rattle.mini_rows.proofs.UnusedMeaning.{movable}
 use Rattle.mini_rows.specs.Past.{PastRow, are_past_by_value, held}
@@ -103,12 +105,14 @@ module _ (sp : List ℕ) (k : ℕ) (K : VariableDeclarationKind) (first : Trees)
   abbrev wrote : VariableDeclarationKind → Trees
   wrote K = declared_left K first ▸ (put ▸ none)
 
-  pub head_stretched : HeadLess init head put → names_of declared.Bound put ≡ names_of declared.Bound head → any_names x first ≡ false → names x put ≡ false → (is_lexical K ≡ true → NamesThere x (read K) (wrote K)) → SameHead head put → Other x (names_of declared.Hoisted put) → Stretched sp k (read K) (wrote K)
+  -- of such statements, however that is shown
+  pub drops_stretched : ((q : Position) → is_statement_list q ≡ true → (a before after : Trees) → a ≡ append before (append (read K) after) → Stood q (listed a) → DropsLess x k (read K) (wrote K)) → names_of declared.Bound put ≡ names_of declared.Bound head → any_names x first ≡ false
+      → (is_lexical K ≡ true → NamesThere x (read K) (wrote K)) → SameHead head put → Other x (names_of declared.Hoisted put) → Stretched sp k (read K) (wrote K)
   unfolding names_of
-  head_stretched less bound earlier unnamed lexical same other =
+  drops_stretched drops bound earlier lexical same other =
       let lost = kind_lost sp k K read wrote lexical (head_vars x first init head put earlier other same) in
       record {
-        drops = λ q l a before after is s. once_drops sp k first init head put less K (λ e. first_plain q l a before K first (declarator (binding x) init ▸ none) (head ▸ none) after is s) earlier unnamed;
+        drops = drops;
         lexical = lost.0;
         hoisted = lost.1;
         bound = by K;
@@ -121,9 +125,13 @@ module _ (sp : List ℕ) (k : ℕ) (K : VariableDeclarationKind) (first : Trees)
       by : (K : VariableDeclarationKind) → all_names declared.Bound (wrote K) ≡ all_names declared.Bound (read K)
       by K = (λ j. left_bound K first j ++ (bound j ++ []))
 
+  pub head_stretched : HeadLess init head put → names_of declared.Bound put ≡ names_of declared.Bound head → any_names x first ≡ false → names x put ≡ false → (is_lexical K ≡ true → NamesThere x (read K) (wrote K)) → SameHead head put → Other x (names_of declared.Hoisted put) → Stretched sp k (read K) (wrote K)
+  head_stretched less bound earlier unnamed lexical same other =
+      drops_stretched (λ q l a before after is s. once_drops sp k first init head put less K (λ e. first_plain q l a before K first (declarator (binding x) init ▸ none) (head ▸ none) after is s) earlier unnamed) bound earlier lexical same other
+
 -- ---- the next declarator
 
-put_unnamed : (x : Name) (value : Tree) → is_first x false value ≡ true → (r : Tree) → names x r ≡ false → names x (put_first x r value) ≡ false
+pub put_unnamed : (x : Name) (value : Tree) → is_first x false value ≡ true → (r : Tree) → names x r ≡ false → names x (put_first x r value) ≡ false
 put_unnamed x value e r f = let p = path x false value e in ap (names x) (p.puts r) ∙ unnamed x p.steps p.spared r f
 
 module _ (sp : List ℕ) (k : ℕ) (K : VariableDeclarationKind) (first : Trees) (init id value : Tree) (last : Trees) where
@@ -180,3 +188,24 @@ past_unseen V W o a b (inr r) = r.unseen
 
 pub past_list : (V : Assured) (W : Liberties) (o : Tree) (a b : Trees) (r : PastRow V W o a b) → ListLess a b (of_behind V W.writable o a b (behind V W o a b r))
 past_list V W o a b r = in_list a b (of_behind V W.writable o a b (behind V W o a b r)) (past_stretched V W o a b r)
+
+-- of a `var`, wherever it stands
+pub past_var_drops : (V : Assured) (W : Liberties) (o : Tree) (a b : Trees) (r : PastRow V W o a b) → passes_var r ≡ true → let t = behind V W o a b r in DropsLess (resolved t.spelling t.symbol) t.symbol t.d t.w
+unfolding behind of_head of_next
+past_var_drops V W o a b (inl r) v =
+    let x = resolved r.spelling r.symbol in
+    let plain = movable W.switches r.init r.moves in
+    let H = held V a r.before (is_lexical r.kind) r.first in
+    let (less, bound) = head_less x r.init r.head plain r.once (past_suits H x OfValues r.init (evaluated r.head) (and_parts (are_past_by_value H x r.init (evaluated r.head)) (fits_in r.init (evaluated r.head)) r.passed).0) in
+    once_drops r.spelling r.symbol r.first r.init r.head (put_first x r.init r.head) less r.kind (λ e. absurd (true≢false (sym v ∙ ap not e))) r.declared_earlier (head_unnamed x r.head r.once r.init r.initial)
+past_var_drops V W o a b (inr r) v =
+    let x = resolved r.spelling r.symbol in
+    let plain = movable W.switches r.init r.moves in
+    let H = held V a r.before (is_lexical r.kind) r.first in
+    next_drops r.spelling r.symbol r.first r.init r.binds r.value r.last r.once plain (past_suits H x OfValues r.init r.value (and_parts (are_past_by_value H x r.init r.value) (fits_in r.init r.value) r.passed).0) r.kind r.declared_earlier r.other (put_unnamed x r.value r.once r.init r.initial) r.declared_later
+
+-- of one that stands alone
+pub past_one_suits : (V : Assured) (W : Liberties) (q n w : Tree) (r : PastRow V W q (n ▸ none) (w ▸ none)) (v : passes_var r ≡ true) → let t = one_next V W q n w r v in suits_all (resolved t.spelling t.symbol) t.next.init t.next.value ≡ true
+unfolding one_next
+past_one_suits V W q n w (inl r) v = absurd (no_second r.before r.after _ r.head n r.shape)
+past_one_suits V W q n w (inr r) v = let H = held V (n ▸ none) r.before (is_lexical r.kind) r.first in past_suits H (resolved r.spelling r.symbol) OfValues r.init r.value (and_parts (are_past_by_value H (resolved r.spelling r.symbol) r.init r.value) (fits_in r.init r.value) r.passed).0

@@ -13,8 +13,11 @@ pub mod Names
 pub mod Declarations
 pub mod LoopGuards
 pub mod Lets
+pub mod Unused
 pub mod Rows
 pub mod BodyEnds
 pub mod SwitchRows
 pub mod TellsLists
 pub mod Past
+pub mod Inside
+pub mod Steady

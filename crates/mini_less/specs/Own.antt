@@ -19,10 +19,6 @@ pub record OwnReadLess (F : OwnRows) : Type 0 where
   pub programs : (S : BodySets) → ReadsLess (OwnProgram F S)
   pub parts : (S : BodySets) → ReadsLess (OwnPart F S)
 
--- so it does where the rows themselves do, and keep names and shapes
-abbrev pub OwnRowsReadLess : OwnRows → Type 0
-OwnRowsReadLess F = ((V : Assured) → KeepsNames (F V)) → ((V : Assured) → KeepsShapes (F V)) → ((V : Assured) → ReadsLess (F V)) → OwnReadLess F
-
 -- rows of members and of `this`, of steady names too
 abbrev pub SteadyReadsLess : Type 0
 SteadyReadsLess = OwnReadLess SteadyRow
@@ -31,6 +27,6 @@ SteadyReadsLess = OwnReadLess SteadyRow
 abbrev pub LexicalReadsLess : Type 0
 LexicalReadsLess = OwnReadLess LexicalRows
 
--- rows of a declaration that is put where it is used, if these rows do
+-- rows of a declaration that is put where it is used
 abbrev pub PastBlocksReadLess : Type 0
-PastBlocksReadLess = (o : Switches) → OwnRowsReadLess (PastBlocks o)
+PastBlocksReadLess = (o : Switches) → OwnReadLess (PastBlocks o)

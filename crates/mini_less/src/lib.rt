@@ -8,13 +8,16 @@ ghost use Rattle.mini_less.specs.BodyEnds.{BodyEndsLess};
 ghost use Rattle.mini_less.specs.Declarations.{DeclarationsReadLess};
 ghost use Rattle.mini_less.specs.Lets.{LetsReadLess};
 ghost use Rattle.mini_less.specs.LoopGuards.{LoopGuardsReadLess};
-ghost use Rattle.mini_less.specs.Rows.{RowsReadLess};
+ghost use Rattle.mini_less.specs.Unused.{UnusedReadLess};
+ghost use Rattle.mini_less.specs.Rows.{RowsReadLess, RewritesReadLess};
 ghost use Rattle.mini_less.specs.HeldKeys.{HeldKeysReadLess};
 ghost use Rattle.mini_less.specs.Names.{NamesReadLess, CatchesReadLess};
 ghost use Rattle.mini_less.specs.SwitchRows.{BranchesReadLess, LexicalNamesReadLess, LexicalRowsLess, SwitchRowsLess};
 ghost use Rattle.mini_less.specs.Own.{SteadyReadsLess, LexicalReadsLess, PastBlocksReadLess};
 ghost use Rattle.mini_less.specs.ListFamilies.{HeadRowsLess, EnterRowsLess, ListsReadLess};
-ghost use Rattle.mini_less.specs.Past.{PastReadLess};
+ghost use Rattle.mini_less.specs.Inside.{InsideReadsLess};
+ghost use Rattle.mini_less.specs.Past.{PastReadLess, PastInsideReadsLess};
+ghost use Rattle.mini_less.specs.Steady.{SteadyRewritesReadLess};
 ghost use Rattle.mini_less.specs.Rebuilt.{ListsAskLess, StatementsAskLess};
 
 use mini_laws::Rewrites;
@@ -140,8 +143,8 @@ pub fn body_rows_of_this_less()
 {}
 
 /// Rows that rest on what is known of a body, in its own code: those of members, of `this` and of
-/// lexical names read less in a function, an arrow function, a program, a static block and an inner
-/// expression; so do those of declarations that are put where they are used, if the rows do.
+/// lexical names, and of declarations that are put where they are used, read less in a function, an
+/// arrow function, a program, a static block and an inner expression.
 pub fn own_rows_read_less()
     ensures steady { SteadyReadsLess }
     ensures lexical { LexicalReadsLess }
@@ -178,9 +181,19 @@ pub fn lets_read_less()
     ensures { LetsReadLess }
 {}
 
+/// Rows of a name that nothing mentions, and of one that is read once: 71, 72.
+pub fn unused_read_less()
+    ensures { UnusedReadLess }
+{}
+
 /// All rows by which any program is rewritten, whatever is known of its names.
 pub fn rows_read_less()
     ensures { RowsReadLess }
+{}
+
+/// And those of names that nothing mentions, are read once or may be written.
+pub fn rewrites_read_less()
+    ensures { RewritesReadLess }
 {}
 
 /// The row that drops what a `catch` catches where nothing mentions it: 63.
@@ -230,4 +243,20 @@ pub fn lists_read_less()
 /// statements of a function, of an arrow function, of a module and of a static block.
 pub fn past_read_less()
     ensures { PastReadLess }
+{}
+
+/// The row of such a `var` that stands further inside the body that it belongs to.
+pub fn past_inside_reads_less()
+    ensures { PastInsideReadsLess }
+{}
+
+/// Rows of a `var` further inside the body that it belongs to, which nothing mentions, or which is
+/// read once: 71, 72.
+pub fn inside_reads_less()
+    ensures { InsideReadsLess }
+{}
+
+/// All rows that rest on what is known of the bodies of a program.
+pub fn steady_rewrites_read_less()
+    ensures { SteadyRewritesReadLess }
 {}

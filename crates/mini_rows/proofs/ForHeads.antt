@@ -12,7 +12,7 @@ use Rattle.mini_rows.specs.Unused.{resolved, any_names, declared_among, put_firs
 abbrev items : Tree → Trees
 items t = children (child_or_absent (children t) 0)
 
-abbrev behind : Trees → Trees
+abbrev pub behind : Trees → Trees
 behind none = none
 behind (t ▸ ts) = ts
 
@@ -30,7 +30,7 @@ module _ (o : Switches) (n w : Tree) (r : ForNextRow o n w) where
   abbrev pub over : Tree → Tree
   over t = for_loop t r.test r.update r.body
 
-  all_read : r.before ▸ (r.test ▸ (r.update ▸ (r.body ▸ none))) ≡ read ▸ r.row.after
+  pub all_read : r.before ▸ (r.test ▸ (r.update ▸ (r.body ▸ none))) ≡ read ▸ r.row.after
   all_read = ap items r.row.shape ∙ ap (λ ts. append ts (read ▸ r.row.after)) r.begins
 
   all_left : r.after ▸ (r.test ▸ (r.update ▸ (r.body ▸ none))) ≡ left ▸ r.row.after

@@ -74,7 +74,7 @@ no_var Var P v p = p
 no_var Let P v p = absurd (true≢false (sym v))
 no_var Const P v p = absurd (true≢false (sym v))
 
-value_vars : (x : Name) (init : Tree) → VarThere x (declared_one Var x init ▸ none) (expression_statement init ▸ none)
+pub value_vars : (x : Name) (init : Tree) → VarThere x (declared_one Var x init ▸ none) (expression_statement init ▸ none)
 unfolding names_of
 value_vars x init = record { lexical = refl; first = []; last = []; names = refl; left = refl; others_first = tt; others_last = tt }
 

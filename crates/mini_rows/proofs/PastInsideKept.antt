@@ -100,7 +100,7 @@ pub record PastLoses (V : Assured) (W : VariableSet) (z : Way) (q n w : Tree) : 
 
 -- a list of statements
 
-list_loses : (V : Assured) (W : Liberties) (o : Trees) (n w : Tree) → PastEnd V W o n w → PastLoses V W.writable way.Statements (listed o) n w
+unfoldable pub list_loses : (V : Assured) (W : Liberties) (o : Trees) (n w : Tree) → PastEnd V W o n w → PastLoses V W.writable way.Statements (listed o) n w
 list_loses V W o n w r =
     let t = behind V W (listed o) r.list r.left r.row in
     let D = alone (Declared t.symbol) in
@@ -131,7 +131,7 @@ pub record OneNext (V : Assured) (W : VariableSet) (q n w : Tree) : Type 0 where
   pub next : ReadNext spelling symbol n w
   pub same : (e : Environment) → Permits W (alone (Declared symbol)) e → Steadies V e → Same e (alone (Declared symbol)) (begun V (n ▸ none)) (Stat None) (listed (n ▸ none)) (listed (w ▸ none))
 
-pub one_next : (V : Assured) (W : Liberties) (q n w : Tree) (r : PastRow V W q (n ▸ none) (w ▸ none)) → passes_var r ≡ true → OneNext V W.writable q n w
+unfoldable pub one_next : (V : Assured) (W : Liberties) (q n w : Tree) (r : PastRow V W q (n ▸ none) (w ▸ none)) → passes_var r ≡ true → OneNext V W.writable q n w
 unfolding of_next
 one_next V W q n w (inl r) v = absurd (no_second r.before r.after _ r.head n r.shape)
 one_next V W q n w (inr r) v =
@@ -162,7 +162,7 @@ one_next V W q n w (inr r) v =
     }
 
 module _ (V : Assured) (W : Liberties) (q n w : Tree) (t : OneNext V W.writable q n w) (z : Way) where
-  next_loses : Keeping t.spelling t.symbol z n w → ((p : Path) → is_way_to z (Some way.Statements) p ≡ true → Runs (demand_at p n (Stat None))) → PastLoses V W.writable z q n w
+  unfoldable pub next_loses : Keeping t.spelling t.symbol z n w → ((p : Path) → is_way_to z (Some way.Statements) p ≡ true → Runs (demand_at p n (Stat None))) → PastLoses V W.writable z q n w
   next_loses keeps runs = record {
     spelling = t.spelling;
     symbol = t.symbol;
@@ -176,12 +176,12 @@ module _ (V : Assured) (W : Liberties) (q n w : Tree) (t : OneNext V W.writable 
     same = λ e u s. next_alone t.spelling t.symbol n w t.next e (begun V (n ▸ none)) (t.same e u s);
   }
 
-held_loses : (V : Assured) (W : Liberties) (o : Trees) (n w : Tree) → PastOneEnd V W o n w → PastLoses V W.writable way.Held (listed o) n w
+unfoldable pub held_loses : (V : Assured) (W : Liberties) (o : Trees) (n w : Tree) → PastOneEnd V W o n w → PastLoses V W.writable way.Held (listed o) n w
 held_loses V W o n w r =
     let t = one_next V W (listed o) n w r.row r.var in
     next_loses V W (listed o) n w t way.Held (next_held t.spelling t.symbol n w t.next) (λ p there. runs_at way.Held way.Statements p n (Stat None) there (None, refl))
 
-heading_loses : (V : Assured) (W : Liberties) (o : Trees) (n w : Tree) → PastOneEnd V W o n w → PastLoses V W.writable way.Head (listed o) n w
+unfoldable pub heading_loses : (V : Assured) (W : Liberties) (o : Trees) (n w : Tree) → PastOneEnd V W o n w → PastLoses V W.writable way.Head (listed o) n w
 heading_loses V W o n w r =
     let t = one_next V W (listed o) n w r.row r.var in
     next_loses V W (listed o) n w t way.Head (next_heading t.spelling t.symbol n w t.next) (λ p there. heading_runs t.spelling t.symbol n w t.next way.Statements p refl there (Stat None))
@@ -214,13 +214,13 @@ module _ (V : Assured) (W : Liberties) (o : Tree) (first : Trees) (place : Path)
   abbrev D : VariableSet
   D = alone (Declared t.symbol)
 
-  holder_free : names x o ≡ false
+  pub holder_free : names x o ≡ false
   holder_free = (or_parts (names x o) (any_names x a) t.outer).0
 
-  list_free : (any_names x first ≡ false) × (names x absent ≡ false) × (any_names x last ≡ false)
+  pub list_free : (any_names x first ≡ false) × (names x absent ≡ false) × (any_names x last ≡ false)
   list_free = appended x first absent last (or_parts (any_names x (append first (absent ▸ last))) (any_names x (above place)) (or_parts (names x o) (any_names x a) t.outer).1).0
 
-  place_free : any_names x (above place) ≡ false
+  pub place_free : any_names x (above place) ≡ false
   place_free = (or_parts (any_names x (append first (absent ▸ last))) (any_names x (above place)) (or_parts (names x o) (any_names x a) t.outer).1).1
 
   -- ---- it means the same
@@ -277,12 +277,12 @@ module _ (V : Assured) (W : Liberties) (o : Tree) (first : Trees) (place : Path)
   from_start (Declared j) h = h
   from_start (Global y) h = absurd (true≢false (sym h))
 
-  body_same : (e : Environment) → Permits W.writable D e → Steadies V e → Same e D (begun V whole) (Stat None) (listed whole) (listed whole_left)
+  pub body_same : (e : Environment) → Permits W.writable D e → Steadies V e → Same e D (begun V whole) (Stat None) (listed whole) (listed whole_left)
   body_same e u s =
       weaker e D D (at_start (listed whole) V).initial (begun V whole) (within_refl D) from_start (Stat None) (listed whole) (listed whole_left)
       (subst₂ (λ i j. Same e D (at_start i V).initial (Stat None) i j) (ap listed (joined first (plug place n) last)) (ap listed (joined first (plug place w) last)) (whole_same e u s))
 
-  body_behind : (outside : Tree) → ((y : Name) → names y o ≡ false → names y outside ≡ false) → Behind V W.writable outside whole whole_left
+  unfoldable pub body_behind : (outside : Tree) → ((y : Name) → names y o ≡ false → names y outside ≡ false) → Behind V W.writable outside whole whole_left
   body_behind outside f = record {
     spelling = t.spelling;
     symbol = t.symbol;
@@ -306,7 +306,7 @@ module _ (V : Assured) (W : Liberties) (o : Tree) (first : Trees) (place : Path)
 
 -- whichever end it is
 
-pub inside_behind : (S : BodySets) (W : Liberties) (o : Tree) (first : Trees) (place : Path) (last : Trees) (z : Way) (n w : Tree) → past_ends S W (o ▸ (listed (append first (absent ▸ last)) ▸ above place)) z n w → is_way_to z (Some way.Statement) place ≡ true → (outside : Tree)
+unfoldable pub inside_behind : (S : BodySets) (W : Liberties) (o : Tree) (first : Trees) (place : Path) (last : Trees) (z : Way) (n w : Tree) → past_ends S W (o ▸ (listed (append first (absent ▸ last)) ▸ above place)) z n w → is_way_to z (Some way.Statement) place ≡ true → (outside : Tree)
     → ((y : Name) → names y o ≡ false → names y outside ≡ false) → Behind (S (number_of o)) W.writable outside (append first (plug place n ▸ last)) (append first (plug place w ▸ last))
 inside_behind S W o first place last way.Statements n w r there =
     let V = S (number_of o) in

@@ -108,7 +108,7 @@ none_after l r es (d ∷ ds) e f g =
     by here rest (inl h) = true≢false (sym (any_clash l r d es h f) ∙ here)
     by here rest (inr h) = rest h
 
-not_twice : (es ds : List Declaration) (r : List ℕ) → clashing es ds ≡ [] → Has true r ds ≡ true → Has false r ds ≡ true → ⊥
+pub not_twice : (es ds : List Declaration) (r : List ℕ) → clashing es ds ≡ [] → Has true r ds ≡ true → Has false r ds ≡ true → ⊥
 not_twice es [] r e f g = true≢false (sym f)
 not_twice es (d ∷ ds) r e f g =
     let (here, rest) = go_on (clashes_any d es) d.at (clashing (es ++ d ∷ []) ds) (clashing (es ++ d ∷ []) ds) e in
@@ -126,7 +126,7 @@ not_twice es (d ∷ ds) r e f g =
 
 -- ---- declarations of names
 
-has_both : (l : Bool) (r : List ℕ) (ds es : List Declaration) → Has l r (ds ++ es) ≡ (Has l r ds || Has l r es)
+pub has_both : (l : Bool) (r : List ℕ) (ds es : List Declaration) → Has l r (ds ++ es) ≡ (Has l r ds || Has l r es)
 has_both l r ds es = any_both (λ d. is_same_flag l d.is_lexical && same_text d.spelling r) ds es
 
 has_unplaced : (l : Bool) (r : List ℕ) (ds : List Declaration) → Has l r (unplaced ds) ≡ Has l r ds
@@ -141,7 +141,7 @@ has_own : (l : Bool) (r : List ℕ) (xs : List Name) → Has l r (own_declaratio
 has_own l r [] = refl
 has_own l r (y ∷ ys) = λ i. (same_flag l i && same_text y.spelling r) || has_own l r ys i
 
-has_names : (d : Declared) (l : Bool) (r : List ℕ) (p : Path) (t : Tree) → Has l r (declarations d l p t) ≡ is_spelled r (names_of d t)
+pub has_names : (d : Declared) (l : Bool) (r : List ℕ) (p : Path) (t : Tree) → Has l r (declarations d l p t) ≡ is_spelled r (names_of d t)
 has_names d l r p t = sym (has_unplaced l r (declarations d l p t)) ∙ ap (Has l r) (declared_is d l p t) ∙ has_own l r (names_of d t)
 
 spelled_both : (r : List ℕ) (xs ys : List Name) → is_spelled r (xs ++ ys) ≡ (is_spelled r xs || is_spelled r ys)
@@ -227,7 +227,7 @@ module _ (s : ℕ) where
   abbrev x : Name
   x = by_symbol s
 
-  same_either : (y z : Option SymbolId) → is_same (symbol s) (or_else y z) ≡ true → (is_same (symbol s) y ≡ true) ⊎ (is_same (symbol s) z ≡ true)
+  pub same_either : (y z : Option SymbolId) → is_same (symbol s) (or_else y z) ≡ true → (is_same (symbol s) y ≡ true) ⊎ (is_same (symbol s) z ≡ true)
   same_either None z e = inr e
   same_either (Some y) z e = inl e
 

@@ -91,7 +91,7 @@ alone_by u h i e = inl e
 
 -- ---- what a child owes
 
-nothing_owed : (d : Debt) (u : Use) (spells : Spellings) (xs : List Name) → xs ≡ [] → SpellsAs d u spells xs
+pub nothing_owed : (d : Debt) (u : Use) (spells : Spellings) (xs : List Name) → xs ≡ [] → SpellsAs d u spells xs
 nothing_owed (of declared.Bound) u spells xs e = λ s f. absurd (true≢false (sym f ∙ ap (is_spelled s) e))
 nothing_owed (of declared.Lexical) u spells xs e = λ a s f. absurd (true≢false (sym f ∙ ap (is_spelled s) e))
 nothing_owed (of declared.Hoisted) u spells xs e = λ s f. absurd (true≢false (sym f ∙ ap (is_spelled s) e))

@@ -97,7 +97,7 @@ module _ (k : ℕ) where
       let own = times_three (symbol k) (symbols_in (sc i)) (declared_in (us i) t) (declared_from sc us (suc i) ts) in
       ((omega (arith, some, d.0), omega (arith, own, d.1)), ((omega (arith, some, d.0), omega (arith, own, d.1)), (omega (arith, some, d.0), omega (arith, own, d.1))))
 
-  all_unbound : (sc : ℕ → List Binding) (us : ℕ → Use) (begins : ℕ → Bool) (first : Spellings) (i : ℕ) (spells : Spellings) (env : Environment) (ts : Trees) → are_covered sc us begins first i spells ts ≡ true → AllScoped sc us i env ts → AllUndeclared sc us i ts → AllUnpatterned k ts
+  pub all_unbound : (sc : ℕ → List Binding) (us : ℕ → Use) (begins : ℕ → Bool) (first : Spellings) (i : ℕ) (spells : Spellings) (env : Environment) (ts : Trees) → are_covered sc us begins first i spells ts ≡ true → AllScoped sc us i env ts → AllUndeclared sc us i ts → AllUnpatterned k ts
       → ((v : Bool) → Far k v (if begins i then first else spells) env) → ((v : Bool) → Far k v first env) → AllUnbound k ts
   all_unbound sc us begins first i spells env ts c s d p f g =
       all_unbound_both k us i ts (all_covered_unbound k true sc us begins first i spells env ts c s d p (f true) (g true)) (all_covered_unbound k false sc us begins first i spells env ts c s d p (f false) (g false))

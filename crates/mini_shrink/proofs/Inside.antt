@@ -261,7 +261,7 @@ module _ (b s : ℕ) where
 
   -- ---- programs and static blocks
 
-  among_only : (d : Bool) (t : Tree) → is_among x (all_lexical_variables d (t ▸ none)) ≡ true → is_among x (lexical_variables d t) ≡ true
+  pub among_only : (d : Bool) (t : Tree) → is_among x (all_lexical_variables d (t ▸ none)) ≡ true → is_among x (lexical_variables d t) ≡ true
   unfolding lexical_variables
   among_only d t e = or_nothing (is_among x (lexical_variables d t)) (sym (any_both (same_variable x) (lexical_variables d t) []) ∙ e)
     where

@@ -34,3 +34,4 @@ mod Bodies
 mod Outside
 mod Inside
 mod Earliest
+pub mod Functions

@@ -73,7 +73,7 @@ mutual
 mutual
   unfolding names_of body_names
 
-  hoisted_in_body : (s : List ℕ) (t : Tree) → is_spelled s (names_of declared.Hoisted t) ≡ true → is_spelled s (body_names t) ≡ true
+  pub hoisted_in_body : (s : List ℕ) (t : Tree) → is_spelled s (names_of declared.Hoisted t) ≡ true → is_spelled s (body_names t) ≡ true
   hoisted_in_body s (node shape.Listed xs n ts) e = hoisted_in_bodies s ts e
   hoisted_in_body s (node shape.FunctionBody xs n ts) e = hoisted_in_bodies s ts e
   hoisted_in_body s (node h xs n ts) e = in_second s (names_of declared.Lexical (node h xs n ts)) (names_of declared.Hoisted (node h xs n ts)) e
@@ -84,7 +84,7 @@ mutual
       of_either (is_spelled s (names_of declared.Hoisted t)) (is_spelled s (all_names declared.Hoisted ts)) (is_spelled s (all_body_names (t ▸ ts)) ≡ true) (λ f. in_first s (body_names t) (all_body_names ts) (hoisted_in_body s t f)) (λ f. in_second s (body_names t) (all_body_names ts) (hoisted_in_bodies s ts f))
       (sym (spelled_both s (names_of declared.Hoisted t) (all_names declared.Hoisted ts)) ∙ e)
 
-list_in_body : (s : List ℕ) (t : Tree) → is_spelled s (owed of_body t) ≡ true → is_spelled s (body_names t) ≡ true
+pub list_in_body : (s : List ℕ) (t : Tree) → is_spelled s (owed of_body t) ≡ true → is_spelled s (body_names t) ≡ true
 unfolding names_of body_names
 list_in_body s (node shape.FunctionBody xs n ts) e = lexical_in_bodies s ts e
 list_in_body s (node h xs n ts) e = absurd (true≢false (sym e))
@@ -97,10 +97,10 @@ merged_bound s t e = by (has_inner t) e
     by false f = f
 
 -- the scope of a program's or a static block's body, of a function's parameters, and of its body
-in_whole_body : (spells : Spellings) (v : Bool) (xs ys : List Name) → ((s : List ℕ) → is_spelled s ys ≡ true → is_spelled s xs ≡ true) → Spells (with_scope spells (body_scope [] xs)) v ys
+pub in_whole_body : (spells : Spellings) (v : Bool) (xs ys : List Name) → ((s : List ℕ) → is_spelled s ys ≡ true → is_spelled s xs ≡ true) → Spells (with_scope spells (body_scope [] xs)) v ys
 in_whole_body spells v xs ys f = spelled_there spells (body_scope [] xs) v ys (λ s e. body_spelled s v [] xs (f s e))
 
-in_body : (spells : Spellings) (v : Bool) (params : Tree) (xs ys : List Name) → ((s : List ℕ) → is_spelled s ys ≡ true → is_spelled s xs ≡ true) → Spells (with_scope (with_scope spells (body_scope [] (bound_names params))) (body_scope (merged params) xs)) v ys
+pub in_body : (spells : Spellings) (v : Bool) (params : Tree) (xs ys : List Name) → ((s : List ℕ) → is_spelled s ys ≡ true → is_spelled s xs ≡ true) → Spells (with_scope (with_scope spells (body_scope [] (bound_names params))) (body_scope (merged params) xs)) v ys
 in_body spells v params xs ys f s e =
     let outer = with_scope spells (body_scope [] (bound_names params)) v s in
     let inner = list_any (is_for (use_if v) s) (body_scope (merged params) xs) in

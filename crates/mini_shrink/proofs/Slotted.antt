@@ -41,11 +41,11 @@ abbrev pub holds_if : (List Slot → Bool) → Option (List Slot) → Bool
 holds_if f None = true
 holds_if f (Some ss) = f ss
 
-if_none : (f : List Slot → Bool) (b : Bool) (o : Option (List Slot)) → holds_if f o ≡ true → holds_if f (none_if b o) ≡ true
+pub if_none : (f : List Slot → Bool) (b : Bool) (o : Option (List Slot)) → holds_if f o ≡ true → holds_if f (none_if b o) ≡ true
 if_none f true o e = refl
 if_none f false o e = e
 
-nothing_deep : (f : List Slot → Bool) (d : Depth) → holds_if f (in_depth d None) ≡ true
+pub nothing_deep : (f : List Slot → Bool) (d : Depth) → holds_if f (in_depth d None) ≡ true
 nothing_deep f in_module = refl
 nothing_deep f in_body = refl
 nothing_deep f nested = refl

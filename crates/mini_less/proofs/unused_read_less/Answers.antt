@@ -1,0 +1,5 @@
+use Rattle.mini_less.proofs.UnusedLess as law
+use Rattle.mini_less.proofs.unused_read_less.Goals as goal
+
+pub returns : goal.returns
+returns c = law.unused_read_less
