@@ -21,7 +21,7 @@ use Rattle.mini_node.specs.Children.{part, with_child, like, first_children, res
 use Rattle.mini_node.specs.Kinds.{logical_operator, binary_operator, unary_operator, is_conditional, is_negation, is_sequence_shape, is_sequence, sequence}
 use Rattle.mini_node.specs.Lends.{with_children}
 use Rattle.mini_node.specs.Made.{unary_is, binary_is, logical_is, conditional_is, negation_is, sequence_is}
-use Rattle.mini_node.specs.Walks.{from_first, next_child, no_rest}
+use Rattle.mini_node.specs.Walks.{next_child, no_rest}
 use Rattle.mini_terms.specs.Folds.{is_effect_free}
 use Rattle.mini_terms.specs.Parts.{is_number, leaves_nothing, weighs}
 use Rattle.mini_rows.specs.Sequences.{Plus, Minus, Complement, Operation, Decides, Chooses, Negates, Operates, Converts, Yields, over, along, innermost, operation_shape, operand_seat, takes_last, takes_along, is_inner_shape, is_bare_at, lifts_out, takes_alone, stays_alone, Row20, Row21, Row21Idle, Row21Alone, SequenceRow}

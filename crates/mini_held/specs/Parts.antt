@@ -1,5 +1,5 @@
 -- What is left of the parts of a sequence without those that have no effect: 21.
-use Rattle.std.specs.Prelude.{ℕ, suc, ◌+◌, Bool, true, false, ◌&&◌, ◌||◌, nat_le, if◌then◌else◌}
+use Rattle.std.specs.Prelude.{ℕ, suc, ◌+◌, Bool, false, ◌&&◌, ◌||◌, nat_le, if◌then◌else◌}
 use Rattle.mini_model.specs.Tree.{Tree, Trees, none, ◌▸◌, count}
 
 -- one of them has none, as I tells, and is not the last

@@ -26,7 +26,7 @@ use Rattle.mini_laws.specs.ScopeList.{by_symbol}
 use Rattle.mini_laws.specs.Symbols.{symbols_in, is_same, times}
 use Rattle.mini_kept.specs.KeepsNames.{unplaced}
 use Rattle.mini_kept.specs.Loosely.{symbol}
-use Rattle.mini_kept.proofs.Bools.{left, right}
+use Rattle.mini_kept.proofs.Bools.{left, right, or_second}
 use Rattle.mini_kept.proofs.Expressions.{refused_here}
 use Rattle.mini_kept.proofs.Hoisting.{hoisted_scoped}
 use Rattle.mini_kept.proofs.SameScopes.{same_texts, text_itself}
@@ -35,9 +35,11 @@ use Rattle.mini_kept.proofs.Unplaced.{declared_is}
 use Rattle.mini_shrink.proofs.Covered.{none_among, unfound}
 use Rattle.mini_shrink.proofs.Debts.{of}
 use Rattle.mini_shrink.proofs.Finding.{any_both}
-use Rattle.mini_shrink.proofs.Items.{AllSound, owes, nothing_other, sound_below, sound_first, sound_rest, function_unbound_in}
+use Rattle.mini_shrink.proofs.Items.{AllSound, other_first, other_rest, owes, nothing_other, sound_below, sound_first, sound_rest, function_unbound_in}
 use Rattle.mini_shrink.proofs.Moments.{or_either}
-use Rattle.mini_shrink.proofs.Parts.{Sound, lexical_scoped, part_unbound_in, lexical_other, all_lexical_other}
+use Rattle.mini_shrink.proofs.Parts.{Sound, all_scoped, lexical_scoped, part_unbound_in, lexical_other, all_lexical_other}
+use Rattle.mini_shrink.proofs.Provided.{same_flag}
+use Rattle.mini_shrink.proofs.Spelled.{or_first, spelled_both}
 use Rattle.mini_shrink.proofs.Slotted.{FunctionParts, function_there, function_parts, filled, no_function_body}
 use Rattle.mini_shrink.proofs.Unended.{other_among}
 
@@ -71,19 +73,11 @@ any_clash l r d (e ∷ es) f g = by (any_clash l r d es f) (or_either (is_same_f
   where
     by : (Has l r es ≡ true → clashes_any d es ≡ true) → ((is_same_flag l e.is_lexical && same_text e.spelling r) ≡ true) ⊎ (Has l r es ≡ true) → (clashes d e || clashes_any d es) ≡ true
     by rest (inl h) = ap (λ c. c || clashes_any d es) (clashes_with l r d e f h)
-    by rest (inr h) = also (clashes d e) (rest h)
-      where
-        also : (c : Bool) {z : Bool} → z ≡ true → (c || z) ≡ true
-        also true q = refl
-        also false q = q
+    by rest (inr h) = or_second (clashes d e) (clashes_any d es) (rest h)
 
 has_last : (l : Bool) (r : List ℕ) (es : List Declaration) (d : Declaration) → (is_same_flag l d.is_lexical && same_text d.spelling r) ≡ true → Has l r (es ++ d ∷ []) ≡ true
 has_last l r [] d e = ap (λ c. c || false) e
-has_last l r (a ∷ es) d e = also (is_same_flag l a.is_lexical && same_text a.spelling r) (has_last l r es d e)
-  where
-    also : (c : Bool) {z : Bool} → z ≡ true → (c || z) ≡ true
-    also true q = refl
-    also false q = q
+has_last l r (a ∷ es) d e = or_second (is_same_flag l a.is_lexical && same_text a.spelling r) (Has l r (es ++ d ∷ [])) (has_last l r es d e)
 
 has_first : (l : Bool) (r : List ℕ) (es : List Declaration) (d : Declaration) → Has l r es ≡ true → Has l r (es ++ d ∷ []) ≡ true
 has_first l r [] d e = absurd (true≢false (sym e))
@@ -133,24 +127,12 @@ has_unplaced : (l : Bool) (r : List ℕ) (ds : List Declaration) → Has l r (un
 has_unplaced l r [] = refl
 has_unplaced l r (d ∷ ds) = ap (λ c. (is_same_flag l d.is_lexical && same_text d.spelling r) || c) (has_unplaced l r ds)
 
-same_flag : (l : Bool) → is_same_flag l l ≡ true
-same_flag true = refl
-same_flag false = refl
-
 has_own : (l : Bool) (r : List ℕ) (xs : List Name) → Has l r (own_declarations l [] xs) ≡ is_spelled r xs
 has_own l r [] = refl
 has_own l r (y ∷ ys) = λ i. (same_flag l i && same_text y.spelling r) || has_own l r ys i
 
 pub has_names : (d : Declared) (l : Bool) (r : List ℕ) (p : Path) (t : Tree) → Has l r (declarations d l p t) ≡ is_spelled r (names_of d t)
 has_names d l r p t = sym (has_unplaced l r (declarations d l p t)) ∙ ap (Has l r) (declared_is d l p t) ∙ has_own l r (names_of d t)
-
-spelled_both : (r : List ℕ) (xs ys : List Name) → is_spelled r (xs ++ ys) ≡ (is_spelled r xs || is_spelled r ys)
-spelled_both r [] ys = refl
-spelled_both r (x ∷ xs) ys = ap (λ c. same_text x.spelling r || c) (spelled_both r xs ys) ∙ grouped (same_text x.spelling r) (is_spelled r xs) (is_spelled r ys)
-  where
-    grouped : (a b c : Bool) → (a || (b || c)) ≡ ((a || b) || c)
-    grouped true b c = refl
-    grouped false b c = refl
 
 -- ---- statements of a body
 
@@ -184,14 +166,6 @@ or_more true b true d f g e = refl
 or_more true b false d f g e = absurd (true≢false (sym (f refl)))
 or_more false b true d f g e = refl
 or_more false b false d f g e = g e
-
-or_second : (a b : Bool) → b ≡ true → (a || b) ≡ true
-or_second true b e = refl
-or_second false b e = e
-
-or_first : (a b : Bool) → a ≡ true → (a || b) ≡ true
-or_first true b e = refl
-or_first false b e = absurd (true≢false (sym e))
 
 strict_here : (b : Bool) (p : Path) (r : List ℕ) (t : Tree) → is_spelled r (strict_names b t) ≡ true → Has true r (statement_declarations b p t) ≡ true
 strict_here b p r t e = has_both true r (declarations declared.Lexical (not (b && is_function_shape (shape_of t))) p t) (declarations declared.Hoisted false p t) ∙ or_first _ _ (by (b && is_function_shape (shape_of t)) e)
@@ -317,21 +291,13 @@ module _ (s : ℕ) where
   statement_lexical true strict d env (node h xs n ts) f a o = plainly true strict d env (node h xs n ts) f a o
   statement_lexical false strict d env t f a o = plainly false strict d env t f a o
 
-  first_of_both : (ys zs : List Name) → Other s (ys ++ zs) → Other s ys
-  first_of_both [] zs o = tt
-  first_of_both (y ∷ ys) zs o = (o.0, first_of_both ys zs o.1)
-
-  rest_of_both : (ys zs : List Name) → Other s (ys ++ zs) → Other s zs
-  rest_of_both [] zs o = o
-  rest_of_both (y ∷ ys) zs o = rest_of_both ys zs o.1
-
   statements_lexical : (b strict : Bool) (d : Depth) (sc : ℕ → List Binding) (i : ℕ) (env : Environment) (ts : Trees) → fill strict (each (one (a_statement d))) ts ≡ true → AllSound s sc (λ j. Read) i env ts → Other s (all_strict_names b ts) → Other s (all_lexical_variables b ts)
   unfolding lexical_variables
   statements_lexical b strict d sc i env none f a o = tt
   statements_lexical b strict d sc i env (t ▸ ts) f a o =
       both s (lexical_variables b t) (all_lexical_variables b ts)
-      (statement_lexical b strict d (env ++ sc i) t (left (fits strict (one (a_statement d)) t) (fill strict (each (one (a_statement d))) ts) f) (sound_first s sc (λ j. Read) i env t ts a) (first_of_both (strict_names b t) (all_strict_names b ts) o))
-      (statements_lexical b strict d sc (suc i) (env ++ sc i) ts (right (fits strict (one (a_statement d)) t) (fill strict (each (one (a_statement d))) ts) f) (sound_rest s sc (λ j. Read) i env t ts a) (rest_of_both (strict_names b t) (all_strict_names b ts) o))
+      (statement_lexical b strict d (env ++ sc i) t (left (fits strict (one (a_statement d)) t) (fill strict (each (one (a_statement d))) ts) f) (sound_first s sc (λ j. Read) i env t ts a) (other_first s (strict_names b t) (all_strict_names b ts) o))
+      (statements_lexical b strict d sc (suc i) (env ++ sc i) ts (right (fits strict (one (a_statement d)) t) (fill strict (each (one (a_statement d))) ts) f) (sound_rest s sc (λ j. Read) i env t ts a) (other_rest s (strict_names b t) (all_strict_names b ts) o))
 
   -- ---- they are lexical names of its list
 
@@ -367,15 +333,11 @@ module _ (s : ℕ) where
   scoped_rest v env [] zs a = a
   scoped_rest v env (y ∷ ys) zs a = scoped_rest v env ys zs a.1
 
-  scoped_both : (v : Use) (env : Environment) (ys zs : List Name) → NamesScoped v env ys → NamesScoped v env zs → NamesScoped v env (ys ++ zs)
-  scoped_both v env [] zs a b = b
-  scoped_both v env (y ∷ ys) zs a b = (a.0, scoped_both v env ys zs a.1 b)
-
   all_scoped_strict : (b : Bool) (v : Use) (env : Environment) (ts : Trees) → NamesScoped v env (all_names declared.Lexical ts) → NamesScoped v env (all_strict_names b ts)
   unfolding names_of
   all_scoped_strict b v env none a = tt
   all_scoped_strict b v env (t ▸ ts) a =
-      scoped_both v env (strict_names b t) (all_strict_names b ts) (scoped_strict b v env t (scoped_first v env (names_of declared.Lexical t) (all_names declared.Lexical ts) a)) (all_scoped_strict b v env ts (scoped_rest v env (names_of declared.Lexical t) (all_names declared.Lexical ts) a))
+      all_scoped v env (strict_names b t) (all_strict_names b ts) (scoped_strict b v env t (scoped_first v env (names_of declared.Lexical t) (all_names declared.Lexical ts) a)) (all_scoped_strict b v env ts (scoped_rest v env (names_of declared.Lexical t) (all_names declared.Lexical ts) a))
 
   -- ---- a body's list: what is lexical in it is declared in it, and hoisted nowhere
 

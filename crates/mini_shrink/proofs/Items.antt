@@ -1,8 +1,7 @@
 -- What stands in a list that declares a symbol ends its declaration for the list where its moments
 -- end it, if it hoists no name of the symbol.
-use Rattle.std.specs.Prelude.{ℕ, zero, suc, ◌+◌, ◌≡◌, ◌⊎◌, refl, Bool, true, false, not, ◌&&◌, ◌||◌, List, [], ◌∷◌, ◌++◌, None}
-use Rattle.std.specs.List.{list_any}
-use Rattle.std.proofs.Common.{ap, ◌∙◌, sym, subst, arith, inl, inr, true≢false}
+use Rattle.std.specs.Prelude.{ℕ, suc, ◌≡◌, refl, Bool, true, false, not, ◌&&◌, ◌||◌, List, [], ◌∷◌, ◌++◌, None}
+use Rattle.std.proofs.Common.{ap, ◌∙◌, sym, subst, arith, true≢false}
 use Rattle.mini_model.specs.declared.kind.VariableDeclarationKind.TheVariants.{Var, Let, Const}
 use Rattle.mini_model.specs.declared.name.Name.{Name}
 use Rattle.mini_model.specs.declared.shape.Shape.{Shape}
@@ -15,7 +14,7 @@ use Rattle.mini_laws.specs.declared.names.Binding.{Binding}
 use Rattle.mini_laws.specs.declared.names.Declared.TheVariants as declared
 use Rattle.mini_laws.specs.DeclaredNames.{names_of, first_names, all_names, is_spelled}
 use Rattle.mini_laws.specs.Foreign.{reads_at, ends_at, ended_by, in_order, own_pattern_names, moments, moments_from}
-use Rattle.mini_laws.specs.Mentions.{own_mentions, same_variable, around_child, is_among}
+use Rattle.mini_laws.specs.Mentions.{own_mentions, around_child, is_among}
 use Rattle.mini_laws.specs.Resolved.{Environment}
 use Rattle.mini_laws.specs.Scoped.{Scoped, AllScoped}
 use Rattle.mini_laws.specs.Scopes.{use_of, is_alone, opened}
@@ -23,24 +22,23 @@ use Rattle.mini_laws.specs.ScopeList.{by_symbol}
 use Rattle.mini_laws.specs.Symbols.{symbols_in, declared as declared_in, declared_from, times}
 use Rattle.mini_laws.proofs.Changes.{times_three}
 use Rattle.mini_kept.specs.Loosely.{symbol}
-use Rattle.mini_kept.proofs.Bools.{left, right, and_false, or_second, both as and_both}
+use Rattle.mini_kept.proofs.Bools.{left, right, and_false}
 use Rattle.mini_kept.proofs.Expressions.{refused_here}
-use Rattle.mini_kept.proofs.Unbound.{Other, both, Unbound, AllUnbound}
+use Rattle.mini_kept.proofs.Unbound.{Other, Unbound, AllUnbound}
 use Rattle.mini_shrink.specs.Cover.{Spellings, is_hoisting, with_scope, begins_body, spelled_first, is_covered, are_covered}
-use Rattle.mini_shrink.specs.Pace.{Pace, Ends, Silent, Reads, AtMost, followed, kept_in, ends_if, ends_after, in_turn, Setting, below, pace, paces}
-use Rattle.mini_shrink.specs.Questions.{hands_on, listed_names, early}
+use Rattle.mini_shrink.specs.Pace.{Pace, Ends, Silent, Reads, AtMost, followed, kept_in, ends_after, in_turn, Setting, below, pace, paces}
+use Rattle.mini_shrink.specs.Questions.{early}
 use Rattle.mini_shrink.specs.Regular.{items_of, imports_no, is_regular, all_regular}
 use Rattle.mini_shrink.proofs.Alone.{is_lone, lone_none, lone_slot, lone_slots}
-use Rattle.mini_shrink.proofs.Covered.{by_same, none_among, Far, Undeclared, Unpatterned, AllUnpatterned, AllUnboundIn, all_covered_unbound, all_unbound_both}
+use Rattle.mini_shrink.proofs.Covered.{none_among, Far, Unpatterned, AllUnpatterned, AllUnboundIn, all_covered_unbound, all_unbound_both}
 use Rattle.mini_shrink.proofs.Debts.{Debt, of, owed, slot_owes, may_be_alone_slot, holds_nothing_slot}
-use Rattle.mini_shrink.proofs.Moments.{or_either, first_of, first_both, reads_first, firsts, is_catch}
+use Rattle.mini_shrink.proofs.Moments.{first_of, first_both, reads_first, firsts, is_catch}
 use Rattle.mini_shrink.proofs.Covering.{part_covered}
 use Rattle.mini_shrink.proofs.Parts.{Sound, part_unbound}
 use Rattle.mini_shrink.proofs.Silence.{silent}
 use Rattle.mini_shrink.proofs.Paces.{AllAtMost, both as follow_both, turned, same}
-use Rattle.mini_shrink.proofs.Regulars.{ordered_slots}
-use Rattle.mini_shrink.proofs.Slotted.{is_bare, filled, variable_there, variable_parts, default_there, default_parts, lone_refused, function_there, class_there, declarator_there, no_function_body, FunctionParts, function_parts, ClassParts, class_parts, DeclaratorParts, declarator_parts, Filled, lone_filled}
-use Rattle.mini_shrink.proofs.Unended.{and_either, turn_unended, unended, kept_unended, other_among, AllLess, Children, node_still, node_ended, ends_none, still, each_still, child_still}
+use Rattle.mini_shrink.proofs.Slotted.{filled, variable_there, variable_parts, default_there, default_parts, lone_refused, function_there, class_there, declarator_there, no_function_body, FunctionParts, function_parts, ClassParts, class_parts, DeclaratorParts, declarator_parts, lone_filled}
+use Rattle.mini_shrink.proofs.Unended.{turn_unended, unended, kept_unended, AllLess, node_still, node_ended, ends_none, each_still, child_still}
 
 -- what a slot owes nothing of the part in it has none of
 pub owes : (strict : Bool) (p : Slot) (d : Debt) (t : Tree) → fits strict p t ≡ true → holds_nothing_slot p ≡ true → slot_owes d p ≡ false → owed d t ≡ []
@@ -87,6 +85,14 @@ scope_free k sc us i env t ts a = (omega (arith, times_three None (symbols_in (s
 
 pub nothing_other : (k : ℕ) (ys : List Name) → ys ≡ [] → Other k ys
 nothing_other k ys e = subst (Other k) (sym e) tt
+
+pub other_first : (k : ℕ) (ys zs : List Name) → Other k (ys ++ zs) → Other k ys
+other_first k [] zs o = tt
+other_first k (y ∷ ys) zs o = (o.0, other_first k ys zs o.1)
+
+pub other_rest : (k : ℕ) (ys zs : List Name) → Other k (ys ++ zs) → Other k zs
+other_rest k [] zs o = o
+other_rest k (y ∷ ys) zs o = other_rest k ys zs o.1
 
 module _ (b s : ℕ) where
   abbrev x : Name
@@ -281,9 +287,13 @@ module _ (b s : ℕ) where
       let second = sound_rest s sc us 0 env id (parent ▸ (body ▸ (again ▸ none))) a in
       let third = sound_rest s sc us 1 (env ++ sc 0) parent (body ▸ (again ▸ none)) second in (
         name_settled strict id f.0,
-        (unbound_settled parent (quiet_unbound strict (one_or_absent (an_inner an_expression)) Read ((env ++ sc 0) ++ sc 1) parent f.1.0 refl refl (parent_no_body strict parent f.1.0) (sound_first s sc us 1 (env ++ sc 0) parent (body ▸ (again ▸ none)) second) refl refl refl),
-          (unbound_settled body (quiet_unbound strict (one a_class_body) Read (((env ++ sc 0) ++ sc 1) ++ sc 2) body f.1.1.0 refl refl (members_no_body strict body f.1.1.0) (sound_first s sc us 2 ((env ++ sc 0) ++ sc 1) body (again ▸ none) third) refl refl refl),
-            (name_settled strict again f.1.1.1, tt))),
+        (
+          unbound_settled parent (quiet_unbound strict (one_or_absent (an_inner an_expression)) Read ((env ++ sc 0) ++ sc 1) parent f.1.0 refl refl (parent_no_body strict parent f.1.0) (sound_first s sc us 1 (env ++ sc 0) parent (body ▸ (again ▸ none)) second) refl refl refl),
+          (
+            unbound_settled body (quiet_unbound strict (one a_class_body) Read (((env ++ sc 0) ++ sc 1) ++ sc 2) body f.1.1.0 refl refl (members_no_body strict body f.1.1.0) (sound_first s sc us 2 ((env ++ sc 0) ++ sc 1) body (again ▸ none) third) refl refl refl),
+            (name_settled strict again f.1.1.1, tt),
+          ),
+        ),
       )
   class_settled strict u env d xs n ts f a = absurd f
 
@@ -293,9 +303,10 @@ module _ (b s : ℕ) where
       let ts : Trees = id ▸ (init ▸ none) in
       let sc = opened u shape.VariableDeclarator ts in
       let us = use_of shape.VariableDeclarator u in
-      let rest = sound_rest s sc us 0 env id (init ▸ none) a in
-      (binder_settled strict id f.0 (sound_first s sc us 0 env id (init ▸ none) a).unpatterned e,
-        (unbound_settled init (quiet_unbound strict (one_or_absent an_expression) Read ((env ++ sc 0) ++ sc 1) init f.1 refl refl (no_function_body strict (one_or_absent an_expression) init refl f.1) (sound_first s sc us 1 (env ++ sc 0) init none rest) refl refl refl), tt))
+      let rest = sound_rest s sc us 0 env id (init ▸ none) a in (
+        binder_settled strict id f.0 (sound_first s sc us 0 env id (init ▸ none) a).unpatterned e,
+        (unbound_settled init (quiet_unbound strict (one_or_absent an_expression) Read ((env ++ sc 0) ++ sc 1) init f.1 refl refl (no_function_body strict (one_or_absent an_expression) init refl f.1) (sound_first s sc us 1 (env ++ sc 0) init none rest) refl refl refl), tt),
+      )
   declarator_settled strict u env ts f a e = absurd f
 
   function_settled : (strict : Bool) (p : Slot) (u : Use) → holds_nothing_slot p ≡ true → (is_alone u ≡ true → may_be_alone_slot p ≡ true) → (env : Environment) (g : Bool) (ds : List (List ℕ)) (xs : List Name) (n : ℕ) (ts : Trees) → fits strict p (node (shape.Function true g ds) xs n ts) ≡ true → Sound s u env (node (shape.Function true g ds) xs n ts)
@@ -304,14 +315,6 @@ module _ (b s : ℕ) where
       let under = declared_function strict p u m l env g ds xs n id params body f a in
       (name_settled (is_strict_in strict (shape.Function true g ds)) id z.0, (unbound_settled params under.0, (unbound_settled body under.1.0, tt)))
   function_settled strict p u m l env g ds xs n ts f a z = absurd z
-
-  pub other_first : (ys zs : List Name) → Other s (ys ++ zs) → Other s ys
-  other_first [] zs o = tt
-  other_first (y ∷ ys) zs o = (o.0, other_first ys zs o.1)
-
-  pub other_rest : (ys zs : List Name) → Other s (ys ++ zs) → Other s zs
-  other_rest [] zs o = o
-  other_rest (y ∷ ys) zs o = other_rest ys zs o.1
 
   not_both : (d : Bool) → not d ≡ true → d ≡ true → ⊥
   not_both true e f = true≢false (sym e)
@@ -342,26 +345,32 @@ module _ (b s : ℕ) where
     item strict p l c env (node shape.ExportDefaultDeclaration xs n (t ▸ none)) f o e a h =
         let ts : Trees = t ▸ none in
         let z = default_parts strict (slots_of strict (class_of p) shape.ExportDefaultDeclaration) ts (default_there strict (class_of p)) (filled strict p shape.ExportDefaultDeclaration xs n ts refl f) in
-        by_loud strict p l c env (node shape.ExportDefaultDeclaration xs n ts) f e a h (λ g. handed c env shape.ExportDefaultDeclaration xs n ts o refl
-        (item strict (one a_default_export) refl (below ((early b s).orders c shape.ExportDefaultDeclaration ts) c shape.ExportDefaultDeclaration n 0) (env ++ opened c.used shape.ExportDefaultDeclaration ts 0) t z (hands c.ordered _ o) refl
-        (sound_first s (opened c.used shape.ExportDefaultDeclaration ts) (use_of shape.ExportDefaultDeclaration c.used) 0 env t none (sound_below s c.used env shape.ExportDefaultDeclaration xs n ts a)) (nothing_other s (names_of declared.Hoisted t) (owes strict (one a_default_export) (of declared.Hoisted) t z refl refl)), tt) g)
+        by_loud strict p l c env (node shape.ExportDefaultDeclaration xs n ts) f e a h (λ g. handed c env shape.ExportDefaultDeclaration xs n ts o refl (
+          item strict (one a_default_export) refl (below ((early b s).orders c shape.ExportDefaultDeclaration ts) c shape.ExportDefaultDeclaration n 0) (env ++ opened c.used shape.ExportDefaultDeclaration ts 0) t z (hands c.ordered _ o) refl
+              (sound_first s (opened c.used shape.ExportDefaultDeclaration ts) (use_of shape.ExportDefaultDeclaration c.used) 0 env t none (sound_below s c.used env shape.ExportDefaultDeclaration xs n ts a)) (nothing_other s (names_of declared.Hoisted t) (owes strict (one a_default_export) (of declared.Hoisted) t z refl refl)),
+          tt,
+        ) g)
     item strict p l c env (node shape.ExportDefaultDeclaration xs n ts) f o e a h = absurd (default_parts strict (slots_of strict (class_of p) shape.ExportDefaultDeclaration) ts (default_there strict (class_of p)) (filled strict p shape.ExportDefaultDeclaration xs n ts refl f))
     item strict p l c env (node (shape.VariableDeclaration Var) xs n ts) f o e a h = by_loud strict p l c env (node (shape.VariableDeclaration Var) xs n ts) f e a h (λ g. absurd (true≢false (sym g)))
     item strict p l c env (node (shape.VariableDeclaration Let) xs n (t ▸ none)) f o e a h =
         let k : Shape = shape.VariableDeclaration Let in
         let ts : Trees = t ▸ none in
         let z = variable_parts strict (slots_of strict (class_of p) k) ts (variable_there strict (class_of p) Let) (filled strict p k xs n ts refl f) in
-        by_loud strict p l c env (node k xs n ts) f e a h (λ g. handed c env k xs n ts o refl
-        (item strict (many a_declarator) refl (below ((early b s).orders c k ts) c k n 0) (env ++ opened c.used k ts 0) t z (hands c.ordered _ o) refl
-        (sound_first s (opened c.used k ts) (use_of k c.used) 0 env t none (sound_below s c.used env k xs n ts a)) (nothing_other s (names_of declared.Hoisted t) (owes strict (many a_declarator) (of declared.Hoisted) t z refl refl)), tt) g)
+        by_loud strict p l c env (node k xs n ts) f e a h (λ g. handed c env k xs n ts o refl (
+          item strict (many a_declarator) refl (below ((early b s).orders c k ts) c k n 0) (env ++ opened c.used k ts 0) t z (hands c.ordered _ o) refl
+              (sound_first s (opened c.used k ts) (use_of k c.used) 0 env t none (sound_below s c.used env k xs n ts a)) (nothing_other s (names_of declared.Hoisted t) (owes strict (many a_declarator) (of declared.Hoisted) t z refl refl)),
+          tt,
+        ) g)
     item strict p l c env (node (shape.VariableDeclaration Let) xs n ts) f o e a h = absurd (variable_parts strict (slots_of strict (class_of p) (shape.VariableDeclaration Let)) ts (variable_there strict (class_of p) Let) (filled strict p (shape.VariableDeclaration Let) xs n ts refl f))
     item strict p l c env (node (shape.VariableDeclaration Const) xs n (t ▸ none)) f o e a h =
         let k : Shape = shape.VariableDeclaration Const in
         let ts : Trees = t ▸ none in
         let z = variable_parts strict (slots_of strict (class_of p) k) ts (variable_there strict (class_of p) Const) (filled strict p k xs n ts refl f) in
-        by_loud strict p l c env (node k xs n ts) f e a h (λ g. handed c env k xs n ts o refl
-        (item strict (many a_declarator) refl (below ((early b s).orders c k ts) c k n 0) (env ++ opened c.used k ts 0) t z (hands c.ordered _ o) refl
-        (sound_first s (opened c.used k ts) (use_of k c.used) 0 env t none (sound_below s c.used env k xs n ts a)) (nothing_other s (names_of declared.Hoisted t) (owes strict (many a_declarator) (of declared.Hoisted) t z refl refl)), tt) g)
+        by_loud strict p l c env (node k xs n ts) f e a h (λ g. handed c env k xs n ts o refl (
+          item strict (many a_declarator) refl (below ((early b s).orders c k ts) c k n 0) (env ++ opened c.used k ts 0) t z (hands c.ordered _ o) refl
+              (sound_first s (opened c.used k ts) (use_of k c.used) 0 env t none (sound_below s c.used env k xs n ts a)) (nothing_other s (names_of declared.Hoisted t) (owes strict (many a_declarator) (of declared.Hoisted) t z refl refl)),
+          tt,
+        ) g)
     item strict p l c env (node (shape.VariableDeclaration Const) xs n ts) f o e a h = absurd (variable_parts strict (slots_of strict (class_of p) (shape.VariableDeclaration Const)) ts (variable_there strict (class_of p) Const) (filled strict p (shape.VariableDeclaration Const) xs n ts refl f))
     item strict p l c env (node shape.VariableDeclarator xs n ts) f o e a h =
         by_loud strict p l c env (node shape.VariableDeclarator xs n ts) f e a h (λ g. ended c env shape.VariableDeclarator xs n ts o refl g refl
@@ -392,15 +401,17 @@ module _ (b s : ℕ) where
     each_items : (strict : Bool) (k : Class) → is_lone k ≡ true → (sc : ℕ → List Binding) (cs : ℕ → Setting) → ((i : ℕ) → (cs i).ordered ≡ true) → ((i : ℕ) → is_alone (cs i).used ≡ false) → (i : ℕ) (env : Environment) (ts : Trees) → fill strict (each (one k)) ts ≡ true
         → AllSound s sc (λ j. (cs j).used) i env ts → Other s (all_names declared.Hoisted ts) → Entries sc cs i env ts
     each_items strict k l sc cs o e i env none f a h = tt
-    each_items strict k l sc cs o e i env (t ▸ ts) f a h =
-        (item strict (one k) l (cs i) (env ++ sc i) t (left (fits strict (one k) t) (fill strict (each (one k)) ts) f) (o i) (e i) (sound_first s sc (λ j. (cs j).used) i env t ts a) (other_first (names_of declared.Hoisted t) (all_names declared.Hoisted ts) h),
-          each_items strict k l sc cs o e (suc i) (env ++ sc i) ts (right (fits strict (one k) t) (fill strict (each (one k)) ts) f) (sound_rest s sc (λ j. (cs j).used) i env t ts a) (other_rest (names_of declared.Hoisted t) (all_names declared.Hoisted ts) h))
+    each_items strict k l sc cs o e i env (t ▸ ts) f a h = (
+      item strict (one k) l (cs i) (env ++ sc i) t (left (fits strict (one k) t) (fill strict (each (one k)) ts) f) (o i) (e i) (sound_first s sc (λ j. (cs j).used) i env t ts a) (other_first s (names_of declared.Hoisted t) (all_names declared.Hoisted ts) h),
+      each_items strict k l sc cs o e (suc i) (env ++ sc i) ts (right (fits strict (one k) t) (fill strict (each (one k)) ts) f) (sound_rest s sc (λ j. (cs j).used) i env t ts a) (other_rest s (names_of declared.Hoisted t) (all_names declared.Hoisted ts) h),
+    )
 
     pub these_items : (strict : Bool) (ss : List Slot) → lone_slots ss ≡ true → (sc : ℕ → List Binding) (cs : ℕ → Setting) → ((i : ℕ) → (cs i).ordered ≡ true) → ((i : ℕ) → is_alone (cs i).used ≡ false) → (i : ℕ) (env : Environment) (ts : Trees) → fill strict (these ss) ts ≡ true
         → AllSound s sc (λ j. (cs j).used) i env ts → Other s (all_names declared.Hoisted ts) → Entries sc cs i env ts
     these_items strict [] l sc cs o e i env none f a h = tt
     these_items strict [] l sc cs o e i env (t ▸ ts) f a h = absurd (true≢false (sym f))
     these_items strict (p ∷ ss) l sc cs o e i env none f a h = tt
-    these_items strict (p ∷ ss) l sc cs o e i env (t ▸ ts) f a h =
-        (item strict p (left (lone_slot p) (lone_slots ss) l) (cs i) (env ++ sc i) t (left (fits strict p t) (fill strict (these ss) ts) f) (o i) (e i) (sound_first s sc (λ j. (cs j).used) i env t ts a) (other_first (names_of declared.Hoisted t) (all_names declared.Hoisted ts) h),
-          these_items strict ss (right (lone_slot p) (lone_slots ss) l) sc cs o e (suc i) (env ++ sc i) ts (right (fits strict p t) (fill strict (these ss) ts) f) (sound_rest s sc (λ j. (cs j).used) i env t ts a) (other_rest (names_of declared.Hoisted t) (all_names declared.Hoisted ts) h))
+    these_items strict (p ∷ ss) l sc cs o e i env (t ▸ ts) f a h = (
+      item strict p (left (lone_slot p) (lone_slots ss) l) (cs i) (env ++ sc i) t (left (fits strict p t) (fill strict (these ss) ts) f) (o i) (e i) (sound_first s sc (λ j. (cs j).used) i env t ts a) (other_first s (names_of declared.Hoisted t) (all_names declared.Hoisted ts) h),
+      these_items strict ss (right (lone_slot p) (lone_slots ss) l) sc cs o e (suc i) (env ++ sc i) ts (right (fits strict p t) (fill strict (these ss) ts) f) (sound_rest s sc (λ j. (cs j).used) i env t ts a) (other_rest s (names_of declared.Hoisted t) (all_names declared.Hoisted ts) h),
+    )

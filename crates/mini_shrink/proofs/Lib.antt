@@ -28,10 +28,12 @@ mod Covered
 mod Parts
 mod Slotted
 mod Items
+pub mod Always
 pub mod SameForeign
 pub mod Homes
 mod Bodies
 mod Outside
 mod Inside
-mod Earliest
 pub mod Functions
+mod Around
+mod EarlyMoments

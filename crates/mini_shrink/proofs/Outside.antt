@@ -1,8 +1,8 @@
 -- Outside the scope that declares a symbol nothing mentions it: no read comes there, and no
 -- declaration of it ends.
-use Rattle.std.specs.Prelude.{ℕ, zero, suc, ◌+◌, ◌≤◌, ◌≡◌, ◌⊎◌, refl, Bool, true, false, not, ◌&&◌, ◌||◌, List, [], ◌∷◌, ◌++◌, map, None}
+use Rattle.std.specs.Prelude.{ℕ, suc, ◌+◌, ◌≤◌, ◌≡◌, ◌⊎◌, refl, Bool, true, false, not, ◌&&◌, ◌||◌, List, [], ◌∷◌, ◌++◌, map, None}
 use Rattle.std.specs.List.{list_any}
-use Rattle.std.proofs.Common.{ap, ◌∙◌, sym, subst, arith, inl, inr, true≢false}
+use Rattle.std.proofs.Common.{ap, ◌∙◌, subst, arith}
 use Rattle.std.proofs.lemmas.List.{map-append}
 use Rattle.mini_model.specs.declared.name.Name.{Name}
 use Rattle.mini_model.specs.declared.shape.Shape.{Shape}
@@ -11,13 +11,12 @@ use Rattle.mini_model.specs.Tree.{Tree, Trees, node, none, ◌▸◌}
 use Rattle.mini_laws.specs.declared.names.Use.{Use}
 use Rattle.mini_laws.specs.declared.names.Binding.{Binding}
 use Rattle.mini_laws.specs.declared.names.Around.{Around}
-use Rattle.mini_laws.specs.DeclaredNames.{names_of}
 use Rattle.mini_laws.specs.Early.{Path, early_names, all_early_names}
 use Rattle.mini_laws.specs.Foreign.{reads_at, ends_at, ended_by, in_order, moments, moments_from, lexical_variables, all_lexical_variables}
 use Rattle.mini_laws.specs.Mentions.{Mention, own_mentions, around_child, is_elsewhere, same_variable, is_among}
 use Rattle.mini_laws.specs.References.{reads}
 use Rattle.mini_laws.specs.Resolved.{Environment}
-use Rattle.mini_laws.specs.Scoped.{NamesScoped, OwnScoped, Scoped, AllScoped}
+use Rattle.mini_laws.specs.Scoped.{OwnScoped, Scoped, AllScoped}
 use Rattle.mini_laws.specs.Scopes.{use_of, opened}
 use Rattle.mini_laws.specs.ScopeList.{by_symbol}
 use Rattle.mini_laws.specs.Symbols.{symbols_in, declared as declared_in, declared_from, times}
@@ -34,7 +33,7 @@ use Rattle.mini_shrink.proofs.Items.{AllSound, Entry, Entries}
 use Rattle.mini_shrink.proofs.Moments.{first_of, first_both, reads_first, firsts}
 use Rattle.mini_shrink.proofs.Parts.{Sound, lexical_other}
 use Rattle.mini_shrink.proofs.Paces.{AllAtMost}
-use Rattle.mini_shrink.proofs.Unended.{turn_unended, ends_none, child_still, other_among}
+use Rattle.mini_shrink.proofs.Unended.{turn_unended, ends_none, child_still}
 
 -- ---- a scope among others
 

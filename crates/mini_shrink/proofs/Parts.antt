@@ -31,11 +31,12 @@ use Rattle.mini_shrink.proofs.Covered.{Far, Undeclared, Unpatterned, UnboundIn, 
 use Rattle.mini_shrink.proofs.Covering.{part_covered}
 use Rattle.mini_shrink.proofs.Debts.{may_be_alone_slot, holds_nothing_slot}
 use Rattle.mini_shrink.proofs.Moments.{or_either}
+use Rattle.mini_shrink.proofs.Provided.{same_flag}
 use Rattle.mini_shrink.proofs.Spelled.{or_first}
 
 -- ---- the lexical names that a scoped tree declares around it have the symbols of the scopes there
 
-all_scoped : (u : Use) (env : Environment) (xs ys : List Name) → NamesScoped u env xs → NamesScoped u env ys → NamesScoped u env (xs ++ ys)
+pub all_scoped : (u : Use) (env : Environment) (xs ys : List Name) → NamesScoped u env xs → NamesScoped u env ys → NamesScoped u env (xs ++ ys)
 all_scoped u env [] ys a b = b
 all_scoped u env (x ∷ xs) ys a b = (a.0, all_scoped u env xs ys a.1 b)
 
@@ -122,10 +123,6 @@ module _ (k : ℕ) where
 
   abbrev around : Use → Tree → Spellings
   around u t v s = (is_same_flag v (is_hoisting u) && is_spelled s (names_of declared.Bound t)) || (declares u v && is_spelled s (names_of (kind_of v) t))
-
-  same_flag : (v : Bool) → is_same_flag v v ≡ true
-  same_flag true = refl
-  same_flag false = refl
 
   not_alone : (u : Use) → not (is_alone u) ≡ true → is_alone u ≡ false
   not_alone u e = by (is_alone u) e

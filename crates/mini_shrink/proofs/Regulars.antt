@@ -43,7 +43,7 @@ deep_slots [] = true
 deep_slots (s ∷ ss) = deep_slot s && deep_slots ss
 
 -- the slots of a `catch`: its parameter is no list
-abbrev catch_slots : List Slot → Bool
+abbrev pub catch_slots : List Slot → Bool
 catch_slots (one_or_absent a_pattern ∷ ss) = lone_slots ss
 catch_slots ss = false
 

@@ -1,13 +1,13 @@
--- The children of functions, classes, declarators and of what declares names in a list, by the slots
--- of each.
-use Rattle.std.specs.Prelude.{ℕ, ◌≡◌, refl, Bool, true, false, ◌&&◌, List, [], ◌∷◌, Option, Some, None}
+-- The children of functions, classes, declarators and of what declares names in a list, by the
+-- slots of each.
+use Rattle.std.specs.Prelude.{ℕ, ◌≡◌, refl, Bool, true, false, List, [], ◌∷◌, Option, Some, None}
 use Rattle.std.proofs.Common.{ap, ◌∙◌, sym, true≢false}
 use Rattle.mini_model.specs.declared.kind.VariableDeclarationKind.{VariableDeclarationKind}
 use Rattle.mini_model.specs.declared.name.Name.{Name}
 use Rattle.mini_model.specs.declared.shape.Shape.{Shape}
 use Rattle.mini_model.specs.declared.shape.Shape.TheVariants as shape
 use Rattle.mini_model.specs.Tree.{Tree, Trees, node, none, ◌▸◌}
-use Rattle.mini_accept.specs.WellShaped.{Depth, in_module, in_body, nested, Class, a_statement, a_block, a_case, an_init, a_loop_left, a_declarator, a_pattern, a_pattern_rest, a_parameter, a_binding, a_function_body, a_class_body, a_program, a_key, a_private_or_key, an_inner_key, an_expression, an_inner, a_string, an_export, an_exported_declaration, a_default_export, Slot, one, one_or_absent, many, many_or_holes, many_and_rest, many_or_holes_and_rest, quasis, Filling, refused, these, each, filling, filling_by, class_of, slots_of, none_if, in_depth, is_sloppy_function, is_strict_in, is_whole, is_function_body, fits, fill}
+use Rattle.mini_accept.specs.WellShaped.{Depth, in_module, in_body, nested, Class, a_statement, a_block, a_case, an_init, a_loop_left, a_declarator, a_pattern, a_pattern_rest, a_parameter, a_binding, a_function_body, a_class_body, a_program, a_key, a_private_or_key, an_inner_key, an_expression, an_inner, a_string, an_export, an_exported_declaration, a_default_export, Slot, one, one_or_absent, many, many_or_holes, many_and_rest, many_or_holes_and_rest, quasis, these, filling_by, class_of, slots_of, none_if, in_depth, is_sloppy_function, is_strict_in, is_whole, is_function_body, fits, fill}
 use Rattle.mini_kept.proofs.Bools.{left, right}
 use Rattle.mini_kept.proofs.Expressions.{refused_here}
 use Rattle.mini_shrink.proofs.Alone.{is_lone_shape, is_lone, lone_none, lone_slot}
@@ -423,10 +423,13 @@ for_parts strict (Some (one_or_absent an_init ∷ (one_or_absent an_expression �
     by (a ▸ (b ▸ (c ▸ (body ▸ none)))) e =
         let first = right (fits strict (one_or_absent an_init) a) _ e in
         let second = right (fits strict (one_or_absent an_expression) b) _ first in
-        let third = right (fits strict (one_or_absent an_expression) c) _ second in
-        (record { slot = one_or_absent an_init; lone = refl; fit = left (fits strict (one_or_absent an_init) a) _ e },
-          (record { slot = one_or_absent an_expression; lone = refl; fit = left (fits strict (one_or_absent an_expression) b) _ first },
-            (record { slot = one_or_absent an_expression; lone = refl; fit = left (fits strict (one_or_absent an_expression) c) _ second }, left (fits strict (one (a_statement nested)) body) true third)))
+        let third = right (fits strict (one_or_absent an_expression) c) _ second in (
+          record { slot = one_or_absent an_init; lone = refl; fit = left (fits strict (one_or_absent an_init) a) _ e },
+          (
+            record { slot = one_or_absent an_expression; lone = refl; fit = left (fits strict (one_or_absent an_expression) b) _ first },
+            (record { slot = one_or_absent an_expression; lone = refl; fit = left (fits strict (one_or_absent an_expression) c) _ second }, left (fits strict (one (a_statement nested)) body) true third),
+          ),
+        )
     by (a ▸ (b ▸ (c ▸ (body ▸ (t ▸ ts))))) e =
         absurd (true≢false (sym (right (fits strict (one (a_statement nested)) body) false (right (fits strict (one_or_absent an_expression) c) _ (right (fits strict (one_or_absent an_expression) b) _ (right (fits strict (one_or_absent an_init) a) _ e))))))
 for_parts strict (Some ss) ts h e = absurd (true≢false (sym h))
@@ -446,9 +449,10 @@ each_parts strict (Some (one (a_loop_left l) ∷ (one an_expression ∷ (one (a_
     by (a ▸ (b ▸ none)) e = absurd (true≢false (sym (right (fits strict (one an_expression) b) false (right (fits strict (one (a_loop_left l)) a) _ e))))
     by (a ▸ (b ▸ (body ▸ none))) e =
         let first = right (fits strict (one (a_loop_left l)) a) _ e in
-        let second = right (fits strict (one an_expression) b) _ first in
-        (record { slot = one (a_loop_left l); lone = refl; fit = left (fits strict (one (a_loop_left l)) a) _ e },
-          (record { slot = one an_expression; lone = refl; fit = left (fits strict (one an_expression) b) _ first }, left (fits strict (one (a_statement nested)) body) true second))
+        let second = right (fits strict (one an_expression) b) _ first in (
+          record { slot = one (a_loop_left l); lone = refl; fit = left (fits strict (one (a_loop_left l)) a) _ e },
+          (record { slot = one an_expression; lone = refl; fit = left (fits strict (one an_expression) b) _ first }, left (fits strict (one (a_statement nested)) body) true second),
+        )
     by (a ▸ (b ▸ (body ▸ (t ▸ ts)))) e =
         absurd (true≢false (sym (right (fits strict (one (a_statement nested)) body) false (right (fits strict (one an_expression) b) _ (right (fits strict (one (a_loop_left l)) a) _ e)))))
 each_parts strict (Some ss) ts h e = absurd (true≢false (sym h))

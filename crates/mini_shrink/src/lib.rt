@@ -7,7 +7,7 @@ ghost use Rattle.mini_shrink.specs.Exact.{ExactIsSo, ExactWithin};
 ghost use Rattle.mini_shrink.specs.Examples.{after_it};
 ghost use Rattle.mini_shrink.specs.Facts.{ReadsLessShrinks};
 ghost use Rattle.mini_shrink.specs.Regular.{EarlyByScopes, ForeignByScopes, ProgramsAreRegular};
-ghost use Rattle.mini_shrink.specs.SameForeign.{BoundOnce};
+ghost use Rattle.mini_shrink.specs.SameForeign.{BoundOnce, EarlyByMoments, ExactIsAll, ForeignByDefinition, ToldIsAll};
 ghost use Rattle.mini_shrink.specs.Told.{ToldShrinks};
 ghost use Rattle.mini_shrink.specs.ToldOn.{PlacesShow, ToldIsSo, ToldOn, ToldWithin};
 
@@ -69,4 +69,14 @@ pub fn told_on<R: Rewrites>()
 pub fn exactly_told_on<R: Rewrites>()
     ensures so { ExactIsSo }
     ensures within { ExactWithin R.gives }
+{}
+
+/// In a program that declares each name once, a symbol that is foreign to a body by the questions,
+/// which shrink, is foreign to it by its definition: the questions tell of a body all that the
+/// definitions say, of what nothing writes and of what no node writes.
+pub fn foreign_is_exact()
+    ensures early { EarlyByMoments }
+    ensures foreign { ForeignByDefinition }
+    ensures told { ToldIsAll }
+    ensures exact { ExactIsAll }
 {}

@@ -1,9 +1,9 @@
 -- What is done to what has no effect where a body has its `this`: 21 and 22.
-use Rattle.std.specs.Prelude.{◌≡◌, ℕ, Bool, true, false, ◌&&◌, ◌||◌, nat_eq, nat_le, [], Option, Some, None, if◌then◌else◌}
+use Rattle.std.specs.Prelude.{◌≡◌, ℕ, Bool, true, false, ◌&&◌, nat_eq, nat_le, [], Option, Some, None, if◌then◌else◌}
 use Rattle.mini_model.specs.declared.seat.Seat.{Seat}
 use Rattle.mini_model.specs.declared.shape.Shape.{Shape}
 use Rattle.mini_model.specs.declared.shape.Shape.TheVariants as shape
-use Rattle.mini_model.specs.Tree.{Tree, Trees, node, none, ◌▸◌, absent, children, child_or_absent, count, empty_statement, shape_of}
+use Rattle.mini_model.specs.Tree.{Tree, Trees, node, absent, children, child_or_absent, count, empty_statement, shape_of}
 use Rattle.mini_kept.specs.Without.{Assured}
 use Rattle.mini_node.specs.Children.{is_bare, part, with_child}
 use Rattle.mini_node.specs.Kinds.{is_expression_statement, is_sequence}

@@ -1,7 +1,7 @@
 use Rattle.std.proofs.Common.{◌≡◌, ℕ, Bool, ◌+◌, ◌-◌, ◌<◌, ◌≤◌, ◌⊎◌, suc, refl, sym, ap, ◌∙◌, subst, arith}
 use Rattle.std.specs.Prelude.{true, false, ◌&&◌, nat_le}
 use Rattle.std.proofs.Common.{inl, inr}
-use Rattle.mini_model.specs.Tree.{Tree, Trees, none, ◌▸◌, absent, count, child_or_absent}
+use Rattle.mini_model.specs.Tree.{Trees, none, ◌▸◌, absent, count, child_or_absent}
 use Rattle.mini_model.specs.Paths.{append}
 use Rattle.mini_node.specs.Children.{rest_children, with_child}
 use Rattle.mini_node.specs.Walks.{from_first, count_with, rest_with}

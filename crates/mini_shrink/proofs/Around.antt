@@ -1,41 +1,37 @@
--- A body that reads a symbol early by the ends that scopes tell does so by all moments.
-use Rattle.std.specs.Prelude.{ℕ, zero, suc, ◌+◌, ◌≤◌, ◌≡◌, ◌⊎◌, refl, Bool, true, false, not, ◌&&◌, ◌||◌, List, [], ◌∷◌, ◌++◌, None}
-use Rattle.std.proofs.Common.{ap, ◌∙◌, sym, subst, arith, inl, inr, true≢false}
-use Rattle.mini_model.specs.declared.kind.VariableDeclarationKind.TheVariants.{Var, Let, Const}
+-- Around the scope that declares a symbol: one child of a node holds it, or it is a scope of the
+-- node itself.
+use Rattle.std.specs.Prelude.{ℕ, zero, suc, ◌+◌, ◌≡◌, ◌⊎◌, refl, Bool, true, false, ◌||◌, List, [], ◌∷◌, ◌++◌, None}
+use Rattle.std.proofs.Common.{ap, ◌∙◌, sym, arith, inl, inr, true≢false}
 use Rattle.mini_model.specs.declared.name.Name.{Name}
 use Rattle.mini_model.specs.declared.shape.Shape.{Shape}
 use Rattle.mini_model.specs.declared.shape.Shape.TheVariants as shape
 use Rattle.mini_model.specs.Tree.{Tree, Trees, node, none, ◌▸◌}
-use Rattle.mini_accept.specs.WellShaped.{Tagging, a_pattern, a_binding, Slot, one, one_or_absent, Filling, refused, these, each, each_or_last, pieces, filling, class_of, slots_of, is_whole, is_strict_in, is_last, is_quasi, are_quasis, fits, fill}
 use Rattle.mini_laws.specs.declared.names.Use.{Use}
 use Rattle.mini_laws.specs.declared.names.Use.TheVariants.{Read}
 use Rattle.mini_laws.specs.declared.names.Binding.{Binding}
-use Rattle.mini_laws.specs.declared.names.Declared.TheVariants as declared
-use Rattle.mini_laws.specs.DeclaredNames.{names_of, first_names, all_names}
-use Rattle.mini_laws.specs.Early.{Path, clashing, scope_declarations, early_names, all_early_names}
-use Rattle.mini_laws.specs.Foreign.{Moment, reads_at, ends_at, ended_by, in_order, moments, moments_from, is_body_by, own_lexical, lexical_variables, all_lexical_variables}
+use Rattle.mini_laws.specs.Early.{Path, early_names, all_early_names}
+use Rattle.mini_laws.specs.Foreign.{Moment, reads_at, ends_at, ended_by, in_order, moments, moments_from, lexical_variables, all_lexical_variables}
 use Rattle.mini_laws.specs.Mentions.{own_mentions, around_child, same_variable, is_among}
 use Rattle.mini_laws.specs.Resolved.{Environment}
-use Rattle.mini_laws.specs.Scoped.{NamesScoped, Scoped, AllScoped}
-use Rattle.mini_laws.specs.Scopes.{use_of, opened, scopes_by}
+use Rattle.mini_laws.specs.Scoped.{Scoped}
+use Rattle.mini_laws.specs.Scopes.{use_of, opened}
 use Rattle.mini_laws.specs.ScopeList.{by_symbol}
 use Rattle.mini_laws.specs.Symbols.{symbols_in, declared as declared_in, declared_from, times}
 use Rattle.mini_laws.proofs.Changes.{times_three}
 use Rattle.mini_kept.specs.Loosely.{symbol}
 use Rattle.mini_kept.proofs.Bools.{left, right}
-use Rattle.mini_kept.proofs.Hoisting.{bound_scoped}
-use Rattle.mini_kept.proofs.Unbound.{Other, both}
-use Rattle.mini_shrink.specs.Pace.{Pace, Ends, Silent, Reads, AtMost, followed, kept_in, reads_if, ends_if, ends_after, all_followed, in_turn, Setting, below, pace, paces}
+use Rattle.mini_kept.proofs.Unbound.{Other}
+use Rattle.mini_shrink.specs.Pace.{Pace, Ends, Silent, Reads, AtMost, followed, reads_if, ends_if, ends_after, in_turn, Setting, below, pace, paces}
 use Rattle.mini_shrink.specs.Questions.{early}
-use Rattle.mini_shrink.specs.Regular.{items_of, imports_no, is_regular, all_regular}
+use Rattle.mini_shrink.specs.Regular.{is_regular, all_regular}
 use Rattle.mini_shrink.specs.Told.{is_reads}
-use Rattle.mini_shrink.proofs.Covered.{Unpatterned, names_other, none_among}
+use Rattle.mini_shrink.proofs.Covered.{names_other}
 use Rattle.mini_shrink.proofs.Finding.{any_both}
-use Rattle.mini_shrink.proofs.Items.{Entry, Entries, Settled, settled_still}
+use Rattle.mini_shrink.proofs.Items.{Entry}
 use Rattle.mini_shrink.proofs.Moments.{grouped, first_of, first_both, reads_first, firsts, is_catch}
-use Rattle.mini_shrink.proofs.Outside.{mentioned_at, own_asked, times_joined, Unmentioned, AllUnmentioned, unmentioned, all_unmentioned, none_lexical, all_none_lexical, NoReads, unread_turn, silent_entry, silent_unread, silent_entries, silent_reads, Outer, AllOuter, Result}
+use Rattle.mini_shrink.proofs.Outside.{mentioned_at, own_asked, times_joined, Unmentioned, AllUnmentioned, unmentioned, all_unmentioned, none_lexical, all_none_lexical, unread_turn, silent_entry, silent_unread, silent_entries, silent_reads, Outer, AllOuter}
 use Rattle.mini_shrink.proofs.Inside.{Brings, Handles}
-use Rattle.mini_shrink.proofs.Paces.{AllAtMost, both as follow_both, turned, same}
+use Rattle.mini_shrink.proofs.Paces.{both as follow_both, turned, same}
 use Rattle.mini_shrink.proofs.Unended.{turn_ends, turn_unended, other_among}
 
 module _ (b s : ℕ) where
@@ -44,22 +40,22 @@ module _ (b s : ℕ) where
 
   -- ---- how often the scopes of a node declare it, and its children
 
-  abbrev by_scopes : (ℕ → List Binding) → ℕ → Trees → ℕ
+  abbrev pub by_scopes : (ℕ → List Binding) → ℕ → Trees → ℕ
   by_scopes sc i none = 0
   by_scopes sc i (t ▸ ts) = times (symbol s) (symbols_in (sc i)) + by_scopes sc (suc i) ts
 
-  abbrev by_children : (ℕ → Use) → ℕ → Trees → ℕ
+  abbrev pub by_children : (ℕ → Use) → ℕ → Trees → ℕ
   by_children us i none = 0
   by_children us i (t ▸ ts) = times (symbol s) (declared_in (us i) t) + by_children us (suc i) ts
 
-  counted : (sc : ℕ → List Binding) (us : ℕ → Use) (i : ℕ) (ts : Trees) → times (symbol s) (declared_from sc us i ts) ≡ by_scopes sc i ts + by_children us i ts
+  pub counted : (sc : ℕ → List Binding) (us : ℕ → Use) (i : ℕ) (ts : Trees) → times (symbol s) (declared_from sc us i ts) ≡ by_scopes sc i ts + by_children us i ts
   unfolding declared_in
   counted sc us i none = refl
   counted sc us i (t ▸ ts) = omega (arith, times_three (symbol s) (symbols_in (sc i)) (declared_in (us i) t) (declared_from sc us (suc i) ts), counted sc us (suc i) ts)
 
   -- ---- children behind the first
 
-  append_empty : {A : Type 0} (ys zs : List A) → ys ++ zs ≡ [] → (ys ≡ []) × (zs ≡ [])
+  pub append_empty : {A : Type 0} (ys zs : List A) → ys ++ zs ≡ [] → (ys ≡ []) × (zs ≡ [])
   append_empty [] zs e = (refl, e)
   append_empty (y ∷ ys) zs e = absurd (cc e)
 
@@ -143,7 +139,7 @@ module _ (b s : ℕ) where
         by (inr g) = inr (g, silent_entries b s sc cs (suc i) (env ++ sc i) ts u)
 
     -- no scope of these children declares it
-    choose : (q : Path) (d : Bool) → AllOuter s q sc (λ j. (cs j).used) i env (t ▸ ts) → by_scopes sc i (t ▸ ts) ≡ 0 → is_among x (all_lexical_variables d (t ▸ ts)) ≡ true
+    pub choose : (q : Path) (d : Bool) → AllOuter s q sc (λ j. (cs j).used) i env (t ▸ ts) → by_scopes sc i (t ▸ ts) ≡ 0 → is_among x (all_lexical_variables d (t ▸ ts)) ≡ true
         → (Outer s (q ++ i ∷ []) d (cs i).used (env ++ sc i) t → is_reads (pace (early b s) (cs i) (env ++ sc i) t) ≡ true → is_reads (first_of b s (moments (cs i).used (cs i).around t)) ≡ true)
         → (AllOuter s q sc (λ j. (cs j).used) (suc i) (env ++ sc i) ts → by_scopes sc (suc i) ts ≡ 0 → is_among x (all_lexical_variables d ts) ≡ true → Brings b s sc cs (suc i) (env ++ sc i) ts)
         → Brings b s sc cs i env (t ▸ ts)
@@ -163,7 +159,7 @@ module _ (b s : ℕ) where
         by (suc n) e = let u = silent_rest q sc us i env t ts a free n e in before u (here (outer_first q sc us i env t ts a free d (lexical_first d t ts u l)))
 
   -- one of their scopes does
-  inside_each : (W : Type 0) (q : Path) (d : Bool) (sc : ℕ → List Binding) (cs : ℕ → Setting) (i : ℕ) (env : Environment) (ts : Trees) → AllOuter s q sc (λ j. (cs j).used) i env ts → by_scopes sc i ts ≡ 1 → by_children (λ j. (cs j).used) i ts ≡ 0
+  pub inside_each : (W : Type 0) (q : Path) (d : Bool) (sc : ℕ → List Binding) (cs : ℕ → Setting) (i : ℕ) (env : Environment) (ts : Trees) → AllOuter s q sc (λ j. (cs j).used) i env ts → by_scopes sc i ts ≡ 1 → by_children (λ j. (cs j).used) i ts ≡ 0
       → (W → is_among x (all_lexical_variables d ts) ≡ true) → Handles b s W q d sc cs i env ts → Brings b s sc cs i env ts
   inside_each W q d sc cs i env none a e f l h = absurd (omega (arith, e))
   inside_each W q d sc cs i env (t ▸ ts) a e f l h = by (times (symbol s) (symbols_in (sc i))) refl (λ z g k. inside_each W q d sc cs (suc i) (env ++ sc i) ts z g (omega (arith, f)) k h.1)
@@ -179,7 +175,7 @@ module _ (b s : ℕ) where
 
   -- ---- the node around them
 
-  reads_over : (p m : Pace) → AtMost p m → is_reads p ≡ true → is_reads m ≡ true
+  pub reads_over : (p m : Pace) → AtMost p m → is_reads p ≡ true → is_reads m ≡ true
   reads_over Ends m a e = absurd (true≢false (sym e))
   reads_over Silent m a e = absurd (true≢false (sym e))
   reads_over Reads Ends a e = absurd a
@@ -201,11 +197,11 @@ module _ (b s : ℕ) where
   own_names u env shape.BindingIdentifier xs n ts a e = names_other s u env xs a.0 e
   own_names u env h xs n ts a e = tt
 
-  own_none : (c : Setting) (env : Environment) (h : Shape) (xs : List Name) (n : ℕ) (ts : Trees) → Scoped c.used env (node h xs n ts) → times (symbol s) (symbols_in env) ≡ 0 → (early b s).before c env h xs n ts ≡ Silent
+  pub own_none : (c : Setting) (env : Environment) (h : Shape) (xs : List Name) (n : ℕ) (ts : Trees) → Scoped c.used env (node h xs n ts) → times (symbol s) (symbols_in env) ≡ 0 → (early b s).before c env h xs n ts ≡ Silent
   own_none c env h xs n ts a e = ap reads_if (own_asked b s c.used c.around h xs (own_names c.used env h xs n ts a e))
 
   -- where its end comes last, or it has none
-  concluded : (c : Setting) (env : Environment) (h : Shape) (xs : List Name) (n : ℕ) (ts : Trees) → (is_catch b s h ≡ true → is_among x (ended_by h ts) ≡ false) → Scoped c.used env (node h xs n ts) → times (symbol s) (symbols_in env) ≡ 0
+  pub concluded : (c : Setting) (env : Environment) (h : Shape) (xs : List Name) (n : ℕ) (ts : Trees) → (is_catch b s h ≡ true → is_among x (ended_by h ts) ≡ false) → Scoped c.used env (node h xs n ts) → times (symbol s) (symbols_in env) ≡ 0
       → Brings b s (opened c.used h ts) (below ((early b s).orders c h ts) c h n) 0 env ts → is_reads (pace (early b s) c env (node h xs n ts)) ≡ true → is_reads (first_of b s (moments c.used c.around (node h xs n ts))) ≡ true
   unfolding pace moments
   concluded c env h xs n ts k a z (inl g) e = absurd (silent_before ((early b s).before c env h xs n ts) (in_turn h (paces (early b s) (opened c.used h ts) (below ((early b s).orders c h ts) c h n) 0 env ts)) (own_none c env h xs n ts a z) (unread_turn h _ g) e)
