@@ -39,7 +39,6 @@ use Rattle.mini_peephole.proofs.AnyPasses as any
 use Rattle.mini_peephole.proofs.Everywhere.{everywhere_with}
 use Rattle.mini_peephole.proofs.Heaviest.{resolved_lighter}
 use Rattle.mini_peephole.proofs.Lightest.{program_heavy}
-use Rattle.mini_peephole.proofs.ReadLess.{all_read_less}
 use Rattle.mini_peephole.proofs.Rules.{loose_contract, all_lawful, all_known, all_rest}
 use Rattle.mini_unused.specs.Allowed.{allowed_in}
 
@@ -127,10 +126,10 @@ nothing_left o m t u light f = record {
 
 module _ (d : Data) (o : CompressOptions) (m : Minified) (t : Tree) (read : Accepts d t) (free : early_fault t ≡ None) (r : IsRewriting (resolved_program t) o m) where
   lawful : (q : Tree) → DeclaresOnce q → LawfulRooted (let_go (switches o)) (writable_in q) (exactly_of q) (AllGives o q)
-  lawful = all_lawful all_read_less o
+  lawful = all_lawful o
 
   known : (q : Tree) → KeepsKnown (AllGives o q)
-  known = all_known all_read_less o
+  known = all_known o
 
   abbrev pub again : (u : Tree) × Accepts (program_data r.output) u × (text u ≡ text r.output)
   again = any.again (AllGives o) (AllRests o) o lawful known d m t read free r

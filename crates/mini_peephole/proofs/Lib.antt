@@ -6,7 +6,6 @@ mod Known
 mod Lightest
 mod Own
 mod Placing
-mod ReadLess
 mod Rules
 mod SeenLater
 mod SteadyKnown
