@@ -35,17 +35,19 @@ use Rattle.mini_rows.proofs.PastLawful.{functions_behind_lawful}
 use Rattle.mini_rows.proofs.PastModuleLawful.{module_places, module_shapes, past_modules_are_lawful}
 use Rattle.mini_rows.proofs.PastStaticLawful.{static_places, static_shapes, past_statics_are_lawful}
 use Rattle.mini_past.proofs.Lawful.{past_code_lawful}
+use Rattle.mini_less.proofs.InsideLess.{past_inside_reads_less}
+use Rattle.mini_less.proofs.InsideUnused.{inside_reads_less}
+use Rattle.mini_less.proofs.PastBlocksLess.{blocks_shapes, block_rows_read_less}
 use Rattle.mini_less.proofs.PastLess.{past_read_less}
 use Rattle.mini_peephole.specs.AnyPasses.{KeepsKnown}
 use Rattle.mini_peephole.specs.SteadyRows.{AnyCode, PastCode, InsideCode, SteadyRewrites}
 use Rattle.mini_peephole.proofs.CodeLawful.{steady_code, lexical_code, block_code}
 use Rattle.mini_peephole.proofs.Known.{known_by_less, less_is_known}
-use Rattle.mini_peephole.proofs.Own.{code_known, steady_shapes, lexical_shapes, block_places, block_shapes}
+use Rattle.mini_peephole.proofs.Own.{code_known, steady_shapes, lexical_shapes, block_places}
 use Rattle.mini_peephole.proofs.Placing.{places_join, shapes_join, places_narrowed, shapes_narrowed}
 use Rattle.mini_less.proofs.Joined.{reads_less_joins}
 use Rattle.mini_less.proofs.LexicalLess.{lexical_names_read_less}
 use Rattle.mini_less.proofs.OwnLess.{steady_rows_read_less}
-use Rattle.mini_peephole.proofs.ReadLess.{AllReadLess}
 
 -- of two relations that keep it
 pub known_join : (R Q : Position → Tree → Tree → Type 0) → KeepsKnown R → KeepsKnown Q → KeepsKnown (Either R Q)
@@ -54,7 +56,7 @@ known_join R Q f g t u s e b = elim (step_either R Q s) [ inl x ↦ f t u x e b 
 pub known_narrowed : (R Q : Position → Tree → Tree → Type 0) → ((p : Position) (n w : Tree) → R p n w → Q p n w) → KeepsKnown Q → KeepsKnown R
 known_narrowed R Q f g t u s e b = g t u (step_on f s) e b
 
-module _ (h : AllReadLess) (K : Shape → Bool) (S : BodySets) (L : Liberties) where
+module _ (K : Shape → Bool) (S : BodySets) (L : Liberties) where
   abbrev W : VariableSet
   W = L.writable
 
@@ -83,7 +85,7 @@ module _ (h : AllReadLess) (K : Shape → Bool) (S : BodySets) (L : Liberties) w
       known_by_less K W S R R (past_statics_are_lawful K L S) (λ t u s. s) (places_narrowed R Q (statics_behind S L) (static_places S W)) (shapes_narrowed R Q (statics_behind S L) (static_shapes S W)) (past_read_less.statics S L)
 
   blocks_past : KeepsKnown (AnyCode (PastBlocks L.switches) S)
-  blocks_past = code_known (PastBlocks L.switches) S K W (block_code L.switches K W S) (block_places L.switches) (block_shapes L.switches) (h.blocks L.switches)
+  blocks_past = code_known (PastBlocks L.switches) S K W (block_code L.switches K W S) (block_places L.switches) (blocks_shapes L.switches) (block_rows_read_less L.switches)
 
   past_known : KeepsKnown (PastCode S L)
   past_known =
@@ -118,11 +120,11 @@ module _ (h : AllReadLess) (K : Shape → Bool) (S : BodySets) (L : Liberties) w
   inside_past : KeepsKnown (PastInside S L)
   inside_past =
       let R = PastInside S L in
-      known_by_less K W S R R (past_inside_is_lawful K L S) (λ t u s. s) (places_narrowed R (Holds S L) (held S L) holds_places) (shapes_narrowed R (Holds S L) (held S L) holds_shapes) (h.past_inside S L)
+      known_by_less K W S R R (past_inside_is_lawful K L S) (λ t u s. s) (places_narrowed R (Holds S L) (held S L) holds_places) (shapes_narrowed R (Holds S L) (held S L) holds_shapes) (past_inside_reads_less S L)
 
   inside_known : KeepsKnown (InsideCode S L)
   inside_known =
-      known_join (InsideContracts L) (PastInside S L) (less_is_known K W none_steady (InsideContracts L) (loose_is_steady (InsideContracts L) K W none_steady (inside_loose K L)) (h.inside L)) inside_past
+      known_join (InsideContracts L) (PastInside S L) (less_is_known K W none_steady (InsideContracts L) (loose_is_steady (InsideContracts L) K W none_steady (inside_loose K L)) (inside_reads_less L)) inside_past
 
   -- ---- all that rest on what is known of bodies
 
