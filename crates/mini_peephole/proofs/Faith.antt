@@ -173,12 +173,12 @@ module _ (d : Data) (o : CompressOptions) (m : Minified) (t : Tree) (read : Acce
   enough : (v : Tree) → Accepts d v → program_weight (earlier v) ≤ max o.passes 1 → m.settled ≡ true
   enough v a h =
       settles m.settled (λ s.
-          let all = (r.passes.stopped s).0 in
-          let (w, (k, reach), near, fell) = r.passes.last s in
-          -- the program at which the last pass began is no empty one, so that it weighs more than 1
-          let heavy = program_heavy w (any.began (AllGives o) (AllRests o) o lawful known d m t read free r reach).shaped (omega (arith, fell)) in
-          let x = input_weight v a in
-          omega (arith, all, near, heavy, x, h))
+      let all = (r.passes.stopped s).0 in
+      let (w, (k, reach), near, fell) = r.passes.last s in
+      -- the program at which the last pass began is no empty one, so that it weighs more than 1
+      let heavy = program_heavy w (any.began (AllGives o) (AllRests o) o lawful known d m t read free r reach).shaped (omega (arith, fell)) in
+      let x = input_weight v a in
+      omega (arith, all, near, heavy, x, h))
 
   fixed : (v : Tree) → Accepts d v → IsRewritten o (earlier v) → Accepts (view m.program) v × (m.passes ≡ 1) × (m.settled ≡ true)
   fixed v a f =

@@ -16,7 +16,7 @@ use Rattle.mini_rows.specs.PastBlocks.{PastBlocks}
 use Rattle.mini_rows.specs.Steady.{OwnRows, LexicalRows, SteadyRow}
 use Rattle.mini_rows.specs.Switches.{Switches}
 use Rattle.mini_rows.proofs.LexicalKept.{lexical_own}
-use Rattle.mini_rows.proofs.OwnProgramLawful.{any_places, steady_places, lexical_places}
+use Rattle.mini_rows.proofs.OwnProgramLawful.{any_places}
 use Rattle.mini_rows.proofs.PastKept.{lost}
 use Rattle.mini_rows.proofs.PastLost.{loses_places}
 use Rattle.mini_rows.proofs.SteadyKept.{steady_own}

@@ -1,5 +1,5 @@
 -- The rules together, and the rows.
-use Rattle.std.proofs.Common.{ℕ, zero, suc, ◌<◌, ◌^◌, Bool, true, false, inl, inr, arith}
+use Rattle.std.proofs.Common.{ℕ, zero, suc, ◌<◌, ◌^◌, Bool, inl, inr, arith}
 use Rattle.mini_model.specs.declared.place.Position.{Position}
 use Rattle.mini_model.specs.declared.place.Position.TheVariants.{Expr, Stmt, Elsewhere}
 use Rattle.mini_model.specs.declared.shape.Shape.{Shape}
@@ -9,8 +9,7 @@ use Rattle.mini_model.specs.Weight.{weight, weights}
 use Rattle.mini_model.specs.Redex as first
 use Rattle.mini_model.specs.Rewriting.{Everywhere, EverywhereIn}
 use Rattle.mini_tree.specs.declared.options.CompressOptions.{CompressOptions}
-use Rattle.mini_tree.specs.Rule.{Both, Either}
-use Rattle.mini_laws.specs.Value.{VariableSet}
+use Rattle.mini_tree.specs.Rule.{Either}
 use Rattle.mini_laws.specs.Writable.{writable_in}
 use Rattle.mini_kept.specs.Loosely.{LawfulWith}
 use Rattle.mini_kept.specs.Rooted.{LawfulRooted}

@@ -1,21 +1,15 @@
 -- What is known of the bodies of a program is known of them after each step of the rules.
-use Rattle.std.specs.Prelude.{ℕ, ◌⊎◌, Bool}
+use Rattle.std.specs.Prelude.{Bool}
 use Rattle.std.proofs.Common.{inl, inr}
 use Rattle.mini_model.specs.declared.place.Position.{Position}
-use Rattle.mini_model.specs.declared.place.Position.TheVariants.{Elsewhere}
 use Rattle.mini_model.specs.declared.shape.Shape.{Shape}
 use Rattle.mini_model.specs.Tree.{Tree}
-use Rattle.mini_model.specs.Rewriting.{Step}
 use Rattle.mini_laws.specs.Value.{VariableSet}
 use Rattle.mini_kept.specs.KeepsFrames.{KeepsPlaces}
 use Rattle.mini_kept.specs.KeepsShapes.{KeepsShapes}
-use Rattle.mini_kept.specs.Loosely.{LawfulUnder}
-use Rattle.mini_kept.specs.Rooted.{LawfulRooted}
-use Rattle.mini_kept.specs.Without.{BodySets, Within, none_steady}
+use Rattle.mini_kept.specs.Without.{BodySets, none_steady}
 use Rattle.mini_kept.proofs.Loosely.{loose_is_steady}
 use Rattle.mini_kept.proofs.Rooted.{step_either, step_on}
-use Rattle.mini_shrink.specs.Facts.{ReadsLess}
-use Rattle.mini_tree.specs.declared.options.CompressOptions.{CompressOptions}
 use Rattle.mini_tree.specs.Rule.{Either}
 use Rattle.mini_rows.specs.Inside.{InsideContracts}
 use Rattle.mini_rows.specs.PastInside.{PastInside}
@@ -25,7 +19,7 @@ use Rattle.mini_rows.specs.Past.{PastFunction}
 use Rattle.mini_rows.specs.PastArrows.{PastArrow}
 use Rattle.mini_rows.specs.PastBlocks.{PastBlocks}
 use Rattle.mini_rows.specs.Steady.{LexicalRows, SteadyRow}
-use Rattle.mini_rows.specs.Switches.{Liberties, let_go}
+use Rattle.mini_rows.specs.Switches.{Liberties}
 use Rattle.mini_rows.proofs.InsideLawful.{inside_loose}
 use Rattle.mini_rows.proofs.OwnProgramLawful.{steady_places, lexical_places}
 use Rattle.mini_rows.proofs.PastArrowLawful.{arrows_lawful}

@@ -32,7 +32,7 @@ told_again ρ far t b =
     let shows : (s : ℕ) → not (is_shared u c (named (ρ.symbol s))) ≡ not (is_shared t b (named s)) = λ s. ap not (told.shared b (named s)) in
     let begins : (s : ℕ) → (is_steady_in_body u c (ρ.symbol s) && not (is_among (named (ρ.symbol s)) (lexical_variables false u))) ≡ (is_steady_in_body t b s && not (is_among (named s) (lexical_variables false t))) = λ s. λ i. stays s i && not (told.lexical false (named s) i) in
     let asks : list_any (asks_as c) (bodies_in u) ≡ list_any (asks_as b) (bodies_in t) =
-        ap (list_any (asks_as c)) (bodies_again ρ t) ∙ any_again (body_again ρ) (asks_as c) (asks_as b) (λ d. ap (λ n. n && d.asks_this) (same_number_again ρ far d.number b)) (bodies_in t) in
+    ap (list_any (asks_as c)) (bodies_again ρ t) ∙ any_again (body_again ρ) (asks_as c) (asks_as b) (λ d. ap (λ n. n && d.asks_this) (same_number_again ρ far d.number b)) (bodies_in t) in
     λ i. record {
       steady = λ x. of_symbols_again ρ (is_steady_in_body t b) (is_steady_in_body u c) stays x i;
       unshared = λ x. of_symbols_again ρ (λ s. not (is_shared t b (named s))) (λ s. not (is_shared u c (named s))) shows x i;

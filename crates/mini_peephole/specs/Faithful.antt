@@ -2,7 +2,7 @@
 --
 -- Both are compared in the numbers and symbols of the earlier one: the later program is resolved,
 -- and each number and symbol in it is replaced by the one that it stands for.
-use Rattle.std.specs.Prelude.{◌≡◌, ℕ, suc, ◌+◌, ◌≤◌, max, Bool, true, false, List, [], ◌∷◌, map, length, ◌⊎◌, Contains, Option, Some, None}
+use Rattle.std.specs.Prelude.{◌≡◌, ℕ, suc, ◌+◌, ◌≤◌, max, true, false, List, [], ◌∷◌, map, length, ◌⊎◌, Contains, Option, Some, None}
 use Rattle.serde_json.specs.Data.{Data}
 use Rattle.serde_json.specs.View.{view}
 use Rattle.mini_model.specs.declared.name.Name.{Name}

@@ -38,7 +38,8 @@ use mini_syntax::{
     SubstituteReturns, SubstituteSpellings,
 };
 use mini_tree::{
-    CompressOptions, Numbers, OutOfMemory, Passes, Position, Program, Then, discard, run_passes, weight,
+    CompressOptions, Numbers, OutOfMemory, Passes, Position, Program, Then, discard, run_passes,
+    weight,
 };
 use mini_unused::{RemoveUnusedNames, SubstituteCatches};
 use mini_writer::write_program;
