@@ -1,4 +1,5 @@
--- What is written for a tree is its text alone: numbers, symbols and the names of declarators aren't.
+-- What is written for a tree is its text alone: numbers, symbols and the names of declarators
+-- aren't.
 use Rattle.std.proofs.Common.{◌≡◌, List, [], ◌∷◌, refl, sym, ap, ◌∙◌}
 use Rattle.serde_json.specs.Data.{Items, item}
 use Rattle.mini_model.specs.declared.name.Name.{Name}
