@@ -1,7 +1,7 @@
-//! Rows that **read less**: what a row writes for a node asks no more of a name, shows no more of it
-//! and writes it no more than the node did, so that what is shared with a body and foreign to it only
-//! shrinks by any number of steps (`mini_shrink`). Each function's contract is a law, and its body is
-//! empty.
+//! Rows that **read less**: what a row writes for a node asks no more of a name, shows no more of
+//! it and writes it no more than the node did, so that what is shared with a body and foreign to it
+//! only shrinks by any number of steps (`mini_shrink`). Each function's contract is a law, and its
+//! body is empty.
 #![tactic(auto)]
 
 ghost use Rattle.mini_less.specs.Families.{ConstantsReadLess, SequencesReadLess, TemplatesReadLess, BooleansReadLess, NegationsReadLess, ChoicesReadLess, WritesReadLess, KeysReadLess, FoldingsReadLess, DeMorganReadsLess, WholeFamiliesReadLess, IfRowsLess, BodyRowsLess, BodyRowsOfThisLess, FirstRowsReadLess, OperandsReadLess, SpellingsReadLess, ReadsLessJoins, ReadsLessNarrows, ListRowsLess, MoreRowsLess, TurnsReadLess, TurnsShrink};
