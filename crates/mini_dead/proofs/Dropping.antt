@@ -24,8 +24,9 @@ use Rattle.mini_kept.specs.Carried.{with_number, numbers, all_numbers}
 use Rattle.mini_dead.specs.Creations.{FunctionSet, SameWithout}
 use Rattle.mini_dead.specs.Pruned.{Spot, Elsewhere, Role, DeclaratorList, role, spot_below, Lone, lone_number, Initializer, without_effect, of_function, initializer_tree, own_name, Declarator, declarator, declarator_tree, declarator_trees, item_tree, Item, function_item, declaration_item, lone_item, Pruned, prune, Prunings, end, stays, goes, declarator_goes, earlier, earlier_all, later, later_all, HoldsItems, HoldsDeclarators, AnyDeclarator, InitializerGoes, TakesValue, DeclaratorGoes, DeclaratorsGo, ItemGoes, Prunes, PrunesAll}
 use Rattle.mini_dead.specs.PrunedBodies.{MayWrite, BodyWithout, BodiesWithout}
+use Rattle.mini_dead.specs.Dead.{has_it, has_name}
 use Rattle.mini_dead.specs.Drops as law
-use Rattle.mini_dead.specs.Drops.{lost_from, declarator_name, declarator_names, item_names, gone_names, all_gone_names, gone, NameIsDead, InitializerIsDead, DeclaratorIsDead, DeclaratorsAreDead, ItemIsDead, DropsDead, AllDropDead, gone_from, times_in, NumbersOnce, ShowsShared, BodyStays, BodiesStay, Drops}
+use Rattle.mini_dead.specs.Drops.{lost_from, is_unseen, declarator_name, declarator_names, item_names, gone_names, all_gone_names, gone, NameIsDead, InitializerIsDead, DeclaratorIsDead, DeclaratorsAreDead, ItemIsDead, DropsDead, AllDropDead, gone_from, times_in, NumbersOnce, ShowsShared, BodyStays, BodiesStay, Drops}
 use Rattle.mini_dead.proofs.Effects.{without_effect_still}
 use Rattle.mini_dead.proofs.Lean.{same_variables}
 use Rattle.mini_dead.proofs.Avoiding.{unnamed_in, itself}
@@ -134,12 +135,12 @@ abbrev has_symbol_at_all : Name → Bool
 has_symbol_at_all x = is_some x.symbol
 
 module _ (t : Tree) (D : VariableSet) (rounds : ℕ → ℕ) where
-  some_symbol : (x : Name) → is_shared_always t x ≡ false → is_some x.symbol ≡ true
+  some_symbol : (x : Name) → has_name (is_unseen t D rounds) x ≡ true → is_some x.symbol ≡ true
   some_symbol x p = by x.symbol p
     where
-      by : (o : Option SymbolId) → (is_none o || is_among x (script_tops t) || is_among x (module_names t) || is_among x (seen_by_eval t) || is_among x (reached_by_arguments false t) || is_among x (caught t) || is_among x (program_pattern_writes t)) ≡ false → is_some o ≡ true
+      by : (o : Option SymbolId) → has_it (is_unseen t D rounds) o ≡ true → is_some o ≡ true
       by (Some s) q = refl
-      by None q = absurd (true≢false q)
+      by None q = absurd (true≢false (sym q))
 
   declarators_known : (cs : List Declarator) → DeclaratorsAreDead t D rounds cs → Each has_symbol_at_all (declarator_names cs)
   declarators_known [] a = tt
