@@ -48,7 +48,7 @@ last_part : {A : Type 0} (f : A → Bool) (xs ys : List A) → Each f (xs ++ ys)
 last_part f [] ys a = a
 last_part f (x ∷ xs) ys a = last_part f xs ys a.1
 
-both_parts : {A : Type 0} (f : A → Bool) (xs ys : List A) → Each f xs → Each f ys → Each f (xs ++ ys)
+pub both_parts : {A : Type 0} (f : A → Bool) (xs ys : List A) → Each f xs → Each f ys → Each f (xs ++ ys)
 both_parts f [] ys a b = b
 both_parts f (x ∷ xs) ys a b = (a.0, both_parts f xs ys a.1 b)
 
@@ -71,7 +71,7 @@ each_name f (x ∷ xs) h = (h x (ap (λ b. choose b true (is_in (variable_of x) 
 
 -- ---- what may go goes
 
-abbrev named : VariableSet → Name → Bool
+abbrev pub named : VariableSet → Name → Bool
 named D x = D (variable_of x)
 
 abbrev kept : FunctionSet → ℕ → Bool
@@ -181,7 +181,7 @@ known (y ∷ ys) a x p = by (variable_eq (variable_of y) x) refl p (known ys a.1
 
 -- ---- the symbols that go are named in the earlier tree alone
 
-each_weaker : {A : Type 0} (f g : A → Bool) (xs : List A) → ((x : A) → f x ≡ true → g x ≡ true) → Each f xs → Each g xs
+pub each_weaker : {A : Type 0} (f g : A → Bool) (xs : List A) → ((x : A) → f x ≡ true → g x ≡ true) → Each f xs → Each g xs
 each_weaker f g [] h a = tt
 each_weaker f g (x ∷ xs) h a = (h x a.0, each_weaker f g xs h a.1)
 
@@ -237,7 +237,7 @@ mutual
   all_names_named (declarator_goes c ps) = all_of (declarator_tree c) ps (declarator_name c ∷ []) (declarator_named c, tt) (all_names_named ps)
 
 -- a set that has the variable of each name has each variable of theirs
-has_each : (D : VariableSet) (xs : List Name) → Each (named D) xs → (x : Variable) → is_in x (variables xs) ≡ true → D x ≡ true
+pub has_each : (D : VariableSet) (xs : List Name) → Each (named D) xs → (x : Variable) → is_in x (variables xs) ≡ true → D x ≡ true
 has_each D [] a x p = absurd (true≢false (sym p))
 has_each D (y ∷ ys) a x p = by (variable_eq (variable_of y) x) refl p (has_each D ys a.1 x)
   where

@@ -66,10 +66,10 @@ unfoldable mutual
   any_declares_otherwise s r i none = false
   any_declares_otherwise s r i (c ▸ ts) = (if is_some (item_name r c) then declares_inside s c else declares_otherwise s (spot_below r i) c) || any_declares_otherwise s r (suc i) ts
 
-  -- behind the name of an item
+  -- of an item, but for its name
   pub declares_inside : ℕ → Tree → Bool
-  declares_inside s (node h xs n none) = false
-  declares_inside s (node h xs n (id ▸ ts)) = any_declares_otherwise s Plain 1 ts
+  declares_inside s (node h xs n none) = declares s h xs
+  declares_inside s (node h xs n (id ▸ ts)) = declares s h xs || any_declares_otherwise s Plain 1 ts
 
 abbrev pub is_unreferenced : Tree → ℕ → Bool
 is_unreferenced t s = nat_eq (read_count s t) 0 && nat_eq (write_count s t) 0

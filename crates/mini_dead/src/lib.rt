@@ -6,7 +6,7 @@ ghost use Rattle.mini_dead.specs.Creations.{WithoutNone, WithoutTwice};
 ghost use Rattle.mini_dead.specs.Differences.{UnansweredDiffers, LoneDeclarationDiffers};
 ghost use Rattle.mini_dead.specs.Pruned.{PrunedSame};
 ghost use Rattle.mini_dead.specs.PrunedBodies.{PrunedProgram};
-ghost use Rattle.mini_dead.specs.Drops.{DropsKeepBodies, DroppedBodiesStay};
+ghost use Rattle.mini_dead.specs.Drops.{DeadItemsGo, DropsKeepBodies, DroppedBodiesStay};
 
 /// A body from whose lists of statements items go does what it did, but for the creation of the
 /// functions that went, where what stays names nothing that went.
@@ -40,4 +40,10 @@ pub fn pruned_program()
 pub fn drops_keep_bodies()
     ensures bodies { DropsKeepBodies }
     ensures stay { DroppedBodiesStay }
+{}
+
+/// Dead items of a program can go at once, where with each item every other item of its name goes
+/// and a declaration that stays keeps a declarator.
+pub fn dead_items_go()
+    ensures { DeadItemsGo }
 {}
