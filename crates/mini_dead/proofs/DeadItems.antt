@@ -207,11 +207,11 @@ module _ (D : VariableSet) (s : ℕ) (goes_too : D (Declared s) ≡ true) where
 
 -- ---- dead items are dropped
 
-abbrev of_set : (ℕ → Bool) → VariableSet
+abbrev pub of_set : (ℕ → Bool) → VariableSet
 of_set S (Declared s) = S s
 of_set S (Global y) = false
 
-in_set : (S : ℕ → Bool) (x : Name) → has_name S x ≡ true → of_set S (variable_of x) ≡ true
+pub in_set : (S : ℕ → Bool) (x : Name) → has_name S x ≡ true → of_set S (variable_of x) ≡ true
 in_set S x p = by x.symbol p
   where
     by : (o : Option SymbolId) → has_it S o ≡ true → of_set S (variable_by x.spelling o) ≡ true

@@ -6,6 +6,7 @@ ghost use Rattle.mini_dead.specs.Creations.{WithoutNone, WithoutTwice};
 ghost use Rattle.mini_dead.specs.Differences.{UnansweredDiffers, LoneDeclarationDiffers};
 ghost use Rattle.mini_dead.specs.Pruned.{PrunedSame};
 ghost use Rattle.mini_dead.specs.PrunedBodies.{PrunedProgram};
+ghost use Rattle.mini_dead.specs.Marked.{MayGoDrops};
 ghost use Rattle.mini_dead.specs.Drops.{DeadItemsGo, DropsKeepBodies, DroppedBodiesStay};
 
 /// A body from whose lists of statements items go does what it did, but for the creation of the
@@ -46,4 +47,10 @@ pub fn drops_keep_bodies()
 /// and a declaration that stays keeps a declarator.
 pub fn dead_items_go()
     ensures { DeadItemsGo }
+{}
+
+/// A program less a set of symbols loses dead items alone, where no other code sees a symbol of the
+/// set and `may_go` answers that what stays names none and what goes refers to later rounds.
+pub fn may_go_drops()
+    ensures { MayGoDrops }
 {}
