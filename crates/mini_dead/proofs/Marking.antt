@@ -23,13 +23,13 @@ use Rattle.mini_dead.specs.Drops.{declarator_name, declarator_names, item_names,
 use Rattle.mini_dead.specs.Marked as law
 use Rattle.mini_dead.specs.Marked.{lone_of, of_lone, initializer_by, initializer_of, Mark, no_item, an_item, a_declarator, mark_lone, declarator_by, declarator_of, one_more, declarators_of, mark_declarator, mark_function, mark_declaration, mark_statement, mark, marked_by, marked, all_marked, refers_later, declarator_may_go, declarators_may_go, item_may_go, mark_may_go, may_go, all_may_go, AreUnseen}
 use Rattle.mini_dead.proofs.Dropping.{Each, both_parts, each_weaker, named, has_each}
-use Rattle.mini_dead.proofs.DeadItems.{of_set, in_set}
+use Rattle.mini_dead.proofs.References.{of_set, in_set}
 use Rattle.mini_dead.proofs.Declarations.{OneList, Made, AllMade, fits_made}
 
-some_is : {A : Type 0} (a b : A) → Some a ≡ Some b → a ≡ b
+pub some_is : {A : Type 0} (a b : A) → Some a ≡ Some b → a ≡ b
 some_is a b e = cc
 
-none_is : {A : Type 0} (a : A) → None ≡ Some a → ⊥
+pub none_is : {A : Type 0} (a : A) → None ≡ Some a → ⊥
 none_is a e = cc
 
 -- ---- what is marked stands there
@@ -59,10 +59,10 @@ initializer_stands t i e = by (is_without_effect t) refl e
     by false q r = function_stands t (lone_of t) refl i r
 
 module _ (S : ℕ → Bool) where
-  record DeclaratorStands (c : Declarator) (t : Tree) : Type 0 where
-    same : declarator_tree c ≡ t
-    known : has_name S (declarator_name c) ≡ true
-    fits : (n : ℕ) (x : Name) (m : ℕ) (i : Initializer) → c ≡ declarator n x m i → Fits i
+  pub record DeclaratorStands (c : Declarator) (t : Tree) : Type 0 where
+    pub same : declarator_tree c ≡ t
+    pub known : has_name S (declarator_name c) ≡ true
+    pub fits : (n : ℕ) (x : Name) (m : ℕ) (i : Initializer) → c ≡ declarator n x m i → Fits i
 
   made_declarator : (n : ℕ) (x : Name) (m : ℕ) (init : Tree) (i : Initializer) → has_name S x ≡ true → InitializerStands i init → DeclaratorStands (declarator n x m i) (node shape.VariableDeclarator [] n (own_name x m ▸ init ▸ none))
   made_declarator n x m init i p w = record { same = ap (λ z. node shape.VariableDeclarator [] n (own_name x m ▸ z ▸ none)) w.same; known = p; fits = λ n' x' m' j e. subst Fits (cc) w.fits }
@@ -122,12 +122,12 @@ module _ (S : ℕ → Bool) where
   ItemFits (declaration_item k xs n ys m c cs) = EachFits (c ∷ cs)
   ItemFits i = Unit {0}
 
-  record ItemStands (i : Item) (t : Tree) : Type 0 where
-    same : item_tree i ≡ t
-    known : Each (has_name S) (item_names i)
-    fits : ItemFits i
+  pub record ItemStands (i : Item) (t : Tree) : Type 0 where
+    pub same : item_tree i ≡ t
+    pub known : Each (has_name S) (item_names i)
+    pub fits : ItemFits i
 
-  abbrev MarkStands : Role → Mark → Tree → Type 0
+  abbrev pub MarkStands : Role → Mark → Tree → Type 0
   MarkStands r no_item t = Unit {0}
   MarkStands r (an_item i) t = HoldsItems r × ItemStands i t
   MarkStands r (a_declarator c) t = HoldsDeclarators r × DeclaratorStands c t
@@ -157,7 +157,7 @@ module _ (S : ℕ → Bool) where
   declarator_marked lexical t (Some c) p = (tt, declarator_stands t c p)
   declarator_marked lexical t None p = tt
 
-  mark_stands : (r : Role) (t : Tree) → MarkStands r (mark S r t) t
+  pub mark_stands : (r : Role) (t : Tree) → MarkStands r (mark S r t) t
   mark_stands StatementList t = statement_marked t
   mark_stands (DeclaratorList lexical) t = declarator_marked lexical t (declarator_of S t) refl
   mark_stands r t = tt

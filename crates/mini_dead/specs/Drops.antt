@@ -141,39 +141,6 @@ pub record Drops (t u : Tree) (n : ℕ) : Type 0 where
   pub unnamed : Avoids (gone pruned) u
   pub number : gone_count pruned ≡ n
 
--- ---- dead items go at once
-
--- no item that stays declares a name that goes
-abbrev pub StaysUnnamed : VariableSet → Option Name → Type 0
-StaysUnnamed D (Some x) = D (variable_of x) ≡ false
-StaysUnnamed D None = Unit {0}
-
--- of a program and the names that go: dead items go, and with an item each other item of its name
-module _ (t : Tree) (D : VariableSet) where
-  abbrev pub DeadDeclarator : Role → Declarator → Type 0
-  DeadDeclarator r (declarator n x m init) = (is_dead t r (declarator_tree (declarator n x m init)) ≡ true) × InitializerIsDead t D (λ s. 0) init
-
-  abbrev pub DeadDeclarators : Role → List Declarator → Type 0
-  DeadDeclarators r [] = Unit {0}
-  DeadDeclarators r (c ∷ cs) = DeadDeclarator r c × DeadDeclarators r cs
-
-  abbrev pub DeadItem : Item → Type 0
-  DeadItem (declaration_item k xs n ys m c cs) = DeadDeclarators (DeclaratorList (is_lexical k)) (c ∷ cs)
-  DeadItem i = is_dead t StatementList (item_tree i) ≡ true
-
-  abbrev mutual
-    pub TakesDead : Spot → Pruned → Type 0
-    TakesDead p (prune h xs n ps) = KeepsDeclarator t D (λ s. 0) (role h p) ps × AllTakeDead (role h p) 0 ps
-
-    pub AllTakeDead : Role → ℕ → Prunings → Type 0
-    AllTakeDead r i end = Unit {0}
-    AllTakeDead r i (stays p ps) = StaysUnnamed D (item_name r (earlier p)) × TakesDead (spot_below r i) p × AllTakeDead r (suc i) ps
-    AllTakeDead r i (goes c ps) = HoldsItems r × DeadItem c × AllTakeDead r (suc i) ps
-    AllTakeDead r i (declarator_goes c ps) = HoldsDeclarators r × DeadDeclarator r c × AllTakeDead r (suc i) ps
-
-abbrev pub DeadItemsGo : Type 0
-DeadItemsGo = (p : Pruned) → TakesDead (earlier p) (gone p) Elsewhere p → Drops (earlier p) (later p) (gone_count p)
-
 -- any number of times
 pub data DropsAgain : Tree → Tree → ℕ → Type 0 where
   nothing_goes : (t : Tree) → DropsAgain t t 0

@@ -11,7 +11,7 @@ use Rattle.mini_laws.specs.References.{Reference, references, references_from}
 use Rattle.mini_laws.specs.Shared.{is_shared_always}
 use Rattle.mini_laws.specs.ScopeList.{by_symbol}
 use Rattle.mini_dead.specs.Pruned.{Spot, Elsewhere, Role, StatementList, DeclaratorList, role, spot_below, Lone, a_function, an_arrow, Initializer, without_effect, of_function, initializer_tree, Declarator, declarator, Item, function_item, declaration_item, lone_item, Pruned, prune, Prunings, end, stays, goes, declarator_goes, later}
-use Rattle.mini_dead.specs.Dead.{is_without_effect, has_name}
+use Rattle.mini_dead.specs.Dead.{is_without_effect, has_name, is_dead_symbol, dead_count}
 use Rattle.mini_dead.specs.Drops.{gone_count, round_of, Drops}
 
 abbrev pub lone_of : Tree → Option Lone
@@ -148,3 +148,11 @@ AreUnseen S t = (s : ℕ) → S s ≡ true → is_shared_always t (by_symbol s) 
 -- then the program loses dead items alone
 abbrev pub MayGoDrops : Type 0
 MayGoDrops = (S : ℕ → Bool) (rounds : ℕ → ℕ) (t : Tree) → IsWellShaped t → AreUnseen S t → may_go S rounds Elsewhere t ≡ true → Drops t (less S t) (less_count S t)
+
+-- dead symbols of a program can go at once, one or more of them
+abbrev pub DeadSymbolsGo : Type 0
+DeadSymbolsGo = (S : ℕ → Bool) (t : Tree) → IsWellShaped t → ((s : ℕ) → S s ≡ true → is_dead_symbol t s ≡ true) → Drops t (less S t) (less_count S t)
+
+-- a program less all of them loses its dead items
+abbrev pub DeadItemsCounted : Type 0
+DeadItemsCounted = (t : Tree) → less_count (is_dead_symbol t) t ≡ dead_count t

@@ -6,8 +6,8 @@ ghost use Rattle.mini_dead.specs.Creations.{WithoutNone, WithoutTwice};
 ghost use Rattle.mini_dead.specs.Differences.{UnansweredDiffers, LoneDeclarationDiffers};
 ghost use Rattle.mini_dead.specs.Pruned.{PrunedSame};
 ghost use Rattle.mini_dead.specs.PrunedBodies.{PrunedProgram};
-ghost use Rattle.mini_dead.specs.Marked.{MayGoDrops};
-ghost use Rattle.mini_dead.specs.Drops.{DeadItemsGo, DropsKeepBodies, DroppedBodiesStay};
+ghost use Rattle.mini_dead.specs.Marked.{MayGoDrops, DeadSymbolsGo, DeadItemsCounted};
+ghost use Rattle.mini_dead.specs.Drops.{DropsKeepBodies, DroppedBodiesStay};
 
 /// A body from whose lists of statements items go does what it did, but for the creation of the
 /// functions that went, where what stays names nothing that went.
@@ -43,14 +43,14 @@ pub fn drops_keep_bodies()
     ensures stay { DroppedBodiesStay }
 {}
 
-/// Dead items of a program can go at once, where with each item every other item of its name goes
-/// and a declaration that stays keeps a declarator.
-pub fn dead_items_go()
-    ensures { DeadItemsGo }
-{}
-
 /// A program less a set of symbols loses dead items alone, where no other code sees a symbol of the
 /// set and `may_go` answers that what stays names none and what goes refers to later rounds.
 pub fn may_go_drops()
     ensures { MayGoDrops }
+{}
+
+/// Dead symbols of a program can go at once, one or more of them; and all of them are its dead items.
+pub fn dead_symbols_go()
+    ensures go { DeadSymbolsGo }
+    ensures counted { DeadItemsCounted }
 {}
