@@ -1,6 +1,6 @@
 -- The dead symbols of a program may go at once.
-use Rattle.std.proofs.Common.{◌≡◌, ℕ, zero, suc, Bool, true, false, List, [], ◌∷◌, length, Option, Some, None, refl, sym, ap, ◌∙◌, subst, subst₂, true≢false, eq-eqb, eqb-true, arith}
-use Rattle.std.specs.Prelude.{◌+◌, nat_le, nat_eq, not, ◌&&◌, ◌||◌, map, is_some, if◌then◌else◌}
+use Rattle.std.proofs.Common.{◌≡◌, ℕ, suc, Bool, true, false, List, [], ◌∷◌, length, Option, Some, None, refl, sym, ap, ◌∙◌, subst, true≢false, eq-eqb, eqb-true, arith}
+use Rattle.std.specs.Prelude.{◌+◌, nat_le, nat_eq, not, ◌||◌, map, is_some, if◌then◌else◌}
 use Rattle.std.specs.List.{list_any}
 use Rattle.mini_model.specs.declared.kind.VariableDeclarationKind.{VariableDeclarationKind}
 use Rattle.mini_model.specs.declared.name.Name.{Name}
@@ -9,19 +9,19 @@ use Rattle.mini_model.specs.declared.shape.Shape.{Shape}
 use Rattle.mini_model.specs.declared.shape.Shape.TheVariants as shape
 use Rattle.mini_model.specs.Tree.{Tree, Trees, node, none, ◌▸◌}
 use Rattle.mini_laws.specs.declared.names.Use.TheVariants.{Read}
-use Rattle.mini_laws.specs.Value.{Variable, Declared}
 use Rattle.mini_laws.specs.References.{Reference, has_symbol, own_references, references, references_from}
 use Rattle.mini_laws.specs.Shared.{is_shared_always}
 use Rattle.mini_laws.specs.ScopeList.{by_symbol}
 use Rattle.mini_laws.specs.Naming.{is_lexical}
-use Rattle.mini_kept.proofs.Bools.{left, right, both}
-use Rattle.mini_dead.specs.Pruned.{Spot, Elsewhere, AStatement, Role, StatementList, DeclaratorList, role, spot_below, Lone, lone_tree, Initializer, initializer_tree, own_name, Declarator, declarator, declarator_tree, declarator_trees, Item, function_item, declaration_item, lone_item, item_tree, Pruned, Prunings}
-use Rattle.mini_dead.specs.Dead.{is_function_value, is_without_effect, is_dispensable, name_if, item_name, has_this_symbol, declares, declares_otherwise, any_declares_otherwise, declares_inside, is_unreferenced, is_dead_symbol, has_it, has_name, has_item_name, is_dead, dead_items, all_dead_items, dead_count}
+use Rattle.mini_kept.proofs.Bools.{right, both}
+use Rattle.mini_dead.proofs.Basics.{neither, some_is, none_is}
+use Rattle.mini_dead.specs.Pruned.{Spot, Elsewhere, AStatement, Role, StatementList, DeclaratorList, role, spot_below, Lone, Initializer, initializer_tree, own_name, Declarator, declarator, declarator_tree, declarator_trees, Item, function_item, declaration_item, lone_item, item_tree, Pruned, Prunings}
+use Rattle.mini_dead.specs.Dead.{is_function_value, is_without_effect, is_dispensable, name_if, item_name, has_this_symbol, declares, declares_otherwise, any_declares_otherwise, declares_inside, is_unreferenced, is_dead_symbol, has_it, has_name, has_item_name, is_dead, dead_items, all_dead_items}
 use Rattle.mini_dead.specs.Drops.{round_of, item_count, gone_count, all_gone_count}
 use Rattle.mini_dead.specs.Marked as law
 use Rattle.mini_dead.specs.Marked.{lone_of, of_lone, initializer_by, initializer_of, Mark, no_item, an_item, a_declarator, declarator_by, declarator_of, mark_declarator, mark_lone, one_more, declarators_of, mark_function, mark_declaration, mark_statement, mark, marked_by, marked, all_marked, less_count, refers_later, declarator_may_go, declarators_may_go, item_may_go, mark_may_go, may_go, all_may_go, AreUnseen}
-use Rattle.mini_dead.proofs.References.{neither, NoneRefers, Free, AllFree, free_own, free_kids, free_first, free_rest, item_otherwise, unreferred, not_otherwise}
-use Rattle.mini_dead.proofs.Marking.{some_is, none_is, MarkStands, mark_stands, may_go_drops}
+use Rattle.mini_dead.proofs.References.{NoneRefers, Free, AllFree, free_own, free_kids, free_first, free_rest, item_otherwise, unreferred, not_otherwise}
+use Rattle.mini_dead.proofs.Marking.{MarkStands, mark_stands, may_go_drops}
 
 -- ---- an item whose name is in a set is marked
 

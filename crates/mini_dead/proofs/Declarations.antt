@@ -1,12 +1,12 @@
 -- A declaration of a well-shaped program holds one list of declarators, which isn't empty.
-use Rattle.std.proofs.Common.{◌≡◌, ℕ, zero, suc, Bool, true, false, List, [], ◌∷◌, Option, Some, None, refl, sym, ap, ◌∙◌, subst, true≢false, inl, inr}
+use Rattle.std.proofs.Common.{◌≡◌, ℕ, Bool, true, false, List, [], ◌∷◌, Some, None, refl, sym, ap, ◌∙◌, true≢false, inl, inr}
 use Rattle.std.specs.Prelude.{◌⊎◌, nat_le, ◌&&◌, ◌||◌}
 use Rattle.mini_model.specs.declared.kind.VariableDeclarationKind.{VariableDeclarationKind}
 use Rattle.mini_model.specs.declared.name.Name.{Name}
 use Rattle.mini_model.specs.declared.shape.Shape.{Shape}
 use Rattle.mini_model.specs.declared.shape.Shape.TheVariants as shape
-use Rattle.mini_model.specs.Tree.{Tree, Trees, node, none, ◌▸◌, count, children, child_or_absent}
-use Rattle.mini_accept.specs.WellShaped.{Class, a_statement, an_init, a_loop_left, a_declarator, an_exported_declaration, a_key, a_private_or_key, an_inner_key, Depth, in_module, in_body, nested, Slot, one, one_or_absent, many, Tagging, untagged, tagged, Filling, refused, these, each, each_or_last, pieces, filling, filling_by, class_of, slots_of, has_its_number, has_names, has_plain_fields, has_its_parts, is_whole, is_strict_in, is_last, first_item, is_head_by, is_quasi, is_quasi_by, are_quasis, fits, fill}
+use Rattle.mini_model.specs.Tree.{Tree, Trees, node, none, ◌▸◌, count, children}
+use Rattle.mini_accept.specs.WellShaped.{Class, a_statement, an_init, a_loop_left, a_declarator, an_exported_declaration, a_key, a_private_or_key, an_inner_key, in_module, in_body, nested, Slot, one, one_or_absent, many, Tagging, untagged, tagged, Filling, refused, these, each, each_or_last, pieces, filling, filling_by, class_of, slots_of, has_its_number, has_names, has_plain_fields, has_its_parts, is_whole, is_strict_in, is_last, first_item, is_head_by, is_quasi, is_quasi_by, are_quasis, fits, fill}
 use Rattle.mini_kept.proofs.Bools.{left, right}
 
 abbrev pub OneList : Trees → Type 0

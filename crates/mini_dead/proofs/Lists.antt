@@ -6,11 +6,11 @@ use Rattle.mini_model.specs.Tree.{Tree, Trees, node, none, ◌▸◌}
 use Rattle.mini_laws.specs.Value.{Variable, Declared, Global, VariableSet, Value, Undefined, Slot, Holds, Missing, Uninitialised, variable_of, variables, choose, nth}
 use Rattle.mini_laws.specs.State.{Create, FreshOf, Event, State, Completion, ok, stop, halt, out, either, Environment, Writing, Writes, WritesPresent, Refuses, Keeps}
 use Rattle.mini_laws.specs.Demand.{Want, Val, Unused, Demand, As, Stat, Declares, Binds, Request}
-use Rattle.mini_laws.specs.Command.{Naming, ret, kid, then, Kids, act, run, at_variable, start, fresh_note, note, answered, write_slot, write_global, write_name}
+use Rattle.mini_laws.specs.Command.{Naming, ret, kid, then, Kids, act, run, at_variable, start, fresh_note, note, answered, write_slot, write_name}
 use Rattle.mini_laws.specs.Naming.{summary, summaries, facts, naming, is_lexical}
 use Rattle.mini_laws.specs.Replies.{by_fixity}
 use Rattle.mini_laws.specs.Lists.{declarators}
-use Rattle.mini_laws.specs.Declarations.{declares_by, var_by, declarator_step}
+use Rattle.mini_laws.specs.Declarations.{declarator_step}
 use Rattle.mini_laws.specs.Asking.{first_demand, demand}
 use Rattle.mini_laws.specs.Step.{step, means, meaning}
 use Rattle.mini_laws.specs.Congruence.{Apart}

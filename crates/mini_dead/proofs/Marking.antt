@@ -1,6 +1,6 @@
 -- A program less a set of symbols loses dead items alone, where the set may go.
-use Rattle.std.proofs.Common.{◌≡◌, ℕ, zero, suc, Bool, true, false, List, [], ◌∷◌, ◌++◌, Option, Some, None, refl, sym, ap, ◌∙◌, subst, subst₂, true≢false, leb-true, arith}
-use Rattle.std.specs.Prelude.{◌+◌, ◌<◌, ◌≤◌, nat_le, not, ◌&&◌, ◌||◌}
+use Rattle.std.proofs.Common.{◌≡◌, ℕ, zero, suc, Bool, true, false, List, [], ◌∷◌, Option, Some, None, refl, sym, ap, ◌∙◌, subst, true≢false, leb-true}
+use Rattle.std.specs.Prelude.{◌<◌, nat_le, not, ◌||◌}
 use Rattle.std.specs.List.{list_any}
 use Rattle.mini_model.specs.declared.kind.VariableDeclarationKind.{VariableDeclarationKind}
 use Rattle.mini_model.specs.declared.name.Name.{Name}
@@ -8,29 +8,21 @@ use Rattle.mini_model.specs.declared.name.SymbolId.{SymbolId}
 use Rattle.mini_model.specs.declared.shape.Shape.{Shape}
 use Rattle.mini_model.specs.declared.shape.Shape.TheVariants as shape
 use Rattle.mini_model.specs.Tree.{Tree, Trees, node, none, ◌▸◌}
-use Rattle.mini_accept.specs.WellShaped.{IsWellShaped, one, a_program}
+use Rattle.mini_accept.specs.WellShaped.{one, a_program}
 use Rattle.mini_laws.specs.declared.names.Use.TheVariants.{Read}
-use Rattle.mini_laws.specs.Value.{Variable, Declared, Global, VariableSet, variable_by, variable_of, variables}
+use Rattle.mini_laws.specs.Value.{Variable, VariableSet, variable_by, variable_of, variables}
 use Rattle.mini_laws.specs.References.{Reference, references, references_from}
-use Rattle.mini_laws.specs.Shared.{is_shared_always}
-use Rattle.mini_laws.specs.ScopeList.{by_symbol}
-use Rattle.mini_laws.specs.Naming.{is_lexical}
 use Rattle.mini_laws.specs.Congruence.{NoneIn, Avoids, AllAvoid}
 use Rattle.mini_kept.proofs.Bools.{left, right}
-use Rattle.mini_dead.specs.Pruned.{Spot, Elsewhere, Statements, AStatement, Declarators, CaseList, OneCase, Role, Plain, HasStatements, HasCases, StatementList, Declaration, DeclaratorList, CasesOf, CaseOf, role, spot_below, Lone, a_function, an_arrow, lone_tree, Initializer, without_effect, of_function, initializer_tree, own_name, Declarator, declarator, declarator_tree, declarator_trees, Item, function_item, declaration_item, lone_item, item_tree, Pruned, prune, Prunings, end, stays, goes, declarator_goes, earlier, earlier_all, later, later_all, HoldsItems, HoldsDeclarators}
+use Rattle.mini_dead.proofs.Basics.{some_is, none_is}
+use Rattle.mini_dead.specs.Pruned.{Spot, Elsewhere, AStatement, Declarators, OneCase, Role, HasCases, StatementList, Declaration, DeclaratorList, CaseOf, role, spot_below, Lone, a_function, an_arrow, lone_tree, Initializer, without_effect, of_function, initializer_tree, own_name, Declarator, declarator, declarator_tree, declarator_trees, Item, function_item, declaration_item, lone_item, item_tree, Pruned, Prunings, earlier, earlier_all, later, later_all, HoldsItems, HoldsDeclarators}
 use Rattle.mini_dead.specs.Dead.{is_without_effect, has_it, has_name}
-use Rattle.mini_dead.specs.Drops.{declarator_name, declarator_names, item_names, gone_names, all_gone_names, gone, gone_count, round_of, GoLater, is_unseen, InitializerIsDead, NameIsDead, DeclaratorIsDead, DeclaratorsAreDead, ItemIsDead, some_stay, KeepsDeclarator, DropsDead, AllDropDead, Drops}
+use Rattle.mini_dead.specs.Drops.{declarator_name, declarator_names, item_names, gone_names, all_gone_names, gone, round_of, GoLater, is_unseen, InitializerIsDead, NameIsDead, DeclaratorIsDead, DeclaratorsAreDead, ItemIsDead, some_stay, KeepsDeclarator, DropsDead, AllDropDead}
 use Rattle.mini_dead.specs.Marked as law
 use Rattle.mini_dead.specs.Marked.{lone_of, of_lone, initializer_by, initializer_of, Mark, no_item, an_item, a_declarator, mark_lone, declarator_by, declarator_of, one_more, declarators_of, mark_declarator, mark_function, mark_declaration, mark_statement, mark, marked_by, marked, all_marked, refers_later, declarator_may_go, declarators_may_go, item_may_go, mark_may_go, may_go, all_may_go, AreUnseen}
 use Rattle.mini_dead.proofs.Dropping.{Each, both_parts, each_weaker, named, has_each}
 use Rattle.mini_dead.proofs.References.{of_set, in_set}
 use Rattle.mini_dead.proofs.Declarations.{OneList, Made, AllMade, fits_made}
-
-pub some_is : {A : Type 0} (a b : A) → Some a ≡ Some b → a ≡ b
-some_is a b e = cc
-
-pub none_is : {A : Type 0} (a : A) → None ≡ Some a → ⊥
-none_is a e = cc
 
 -- ---- what is marked stands there
 
@@ -292,9 +284,10 @@ module _ (S : ℕ → Bool) where
 
     go_later : (k : ℕ) (rs : List Reference) → refers_later S rounds k rs ≡ true → GoLater T D rounds k rs
     go_later k [] e = tt
-    go_later k (r ∷ rs) e =
-        (λ p. later_round (has_name S r.name) k (round_of rounds r.name) (its_symbol r.name (within (variable_of r.name) p)) (left (not (has_name S r.name) || nat_le (suc k) (round_of rounds r.name)) (refers_later S rounds k rs) e),
-        go_later k rs (right (not (has_name S r.name) || nat_le (suc k) (round_of rounds r.name)) (refers_later S rounds k rs) e))
+    go_later k (r ∷ rs) e = (
+      λ p. later_round (has_name S r.name) k (round_of rounds r.name) (its_symbol r.name (within (variable_of r.name) p)) (left (not (has_name S r.name) || nat_le (suc k) (round_of rounds r.name)) (refers_later S rounds k rs) e),
+      go_later k rs (right (not (has_name S r.name) || nat_le (suc k) (round_of rounds r.name)) (refers_later S rounds k rs) e),
+    )
 
     name_dead : (x : Name) (rs : List Reference) → has_name S x ≡ true → refers_later S rounds (round_of rounds x) rs ≡ true → NameIsDead T D rounds x rs
     name_dead x rs p e = (by x.symbol p, go_later (round_of rounds x) rs e)

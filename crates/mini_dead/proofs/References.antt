@@ -1,7 +1,6 @@
 -- References to a symbol and declarations of it: a dead symbol has neither outside the names of items.
-use Rattle.std.proofs.Common.{◌≡◌, ℕ, zero, suc, Bool, true, false, List, [], ◌∷◌, ◌++◌, Option, Some, None, refl, sym, ap, ◌∙◌, subst, true≢false, eqb-true, eq-eqb, arith}
-use Rattle.std.specs.Prelude.{◌+◌, ◌<◌, nat_eq, not, ◌&&◌, ◌||◌, cond, count_by, map, is_some, if◌then◌else◌}
-use Rattle.std.specs.List.{list_any}
+use Rattle.std.proofs.Common.{◌≡◌, ℕ, suc, Bool, true, false, List, [], ◌∷◌, ◌++◌, Option, Some, None, refl, sym, ap, ◌∙◌, true≢false, eqb-true, arith}
+use Rattle.std.specs.Prelude.{◌+◌, nat_eq, not, ◌&&◌, ◌||◌, cond, count_by, map}
 use Rattle.std.proofs.lemmas.List.Sums.{sum_by-cons}
 use Rattle.mini_model.specs.declared.name.Name.{Name}
 use Rattle.mini_model.specs.declared.name.SymbolId.{SymbolId}
@@ -10,26 +9,15 @@ use Rattle.mini_model.specs.declared.shape.Shape.TheVariants as shape
 use Rattle.mini_model.specs.Tree.{Tree, Trees, node, none, ◌▸◌}
 use Rattle.mini_laws.specs.declared.names.Use.{Use}
 use Rattle.mini_laws.specs.declared.names.Use.TheVariants.{Read, Write}
-use Rattle.mini_laws.specs.Value.{Variable, Declared, Global, VariableSet, variable_by, variable_of, variables, variable_eq, choose, is_in}
+use Rattle.mini_laws.specs.Value.{Declared, Global, VariableSet, variable_by, variable_of}
 use Rattle.mini_laws.specs.Scopes.{use_of}
 use Rattle.mini_laws.specs.References.{Reference, has_symbol, reads, writes, read_count, write_count, own_references, references, references_from}
 use Rattle.mini_laws.specs.Shared.{is_shared_always}
 use Rattle.mini_laws.specs.ScopeList.{by_symbol}
-use Rattle.mini_laws.specs.Naming.{is_lexical}
-use Rattle.mini_laws.specs.Congruence.{NoneIn, Avoids, AllAvoid}
-use Rattle.mini_laws.specs.Substitution.{alone}
 use Rattle.mini_kept.proofs.Bools.{left, right}
-use Rattle.mini_kept.proofs.Refixed.{avoids_all}
-use Rattle.mini_dead.specs.Pruned.{Spot, Elsewhere, Role, Plain, StatementList, DeclaratorList, role, spot_below, Initializer, initializer_tree, own_name, Declarator, declarator, declarator_tree, declarator_trees, Item, function_item, declaration_item, lone_item, item_tree, Pruned, prune, Prunings, end, stays, goes, declarator_goes, earlier, earlier_all, later, later_all, HoldsItems, HoldsDeclarators}
-use Rattle.mini_dead.specs.Dead.{is_dispensable, name_if, item_name, has_this_symbol, declares, declares_otherwise, any_declares_otherwise, declares_inside, is_unreferenced, is_dead_symbol, has_it, has_name, has_item_name, is_dead}
-use Rattle.mini_dead.specs.Drops as law
-use Rattle.mini_dead.specs.Drops.{declarator_name, declarator_names, item_names, gone_names, all_gone_names, gone, gone_count, round_of, GoLater, is_unseen, InitializerIsDead, NameIsDead, DeclaratorIsDead, DeclaratorsAreDead, ItemIsDead, DropsDead, AllDropDead, Drops}
-use Rattle.mini_dead.proofs.Lean.{same_variables}
-use Rattle.mini_dead.proofs.Dropping.{Each, both_parts, each_weaker, named, has_each}
-
-pub neither : (a b : Bool) → (a || b) ≡ false → (a ≡ false) × (b ≡ false)
-neither true b p = absurd (true≢false p)
-neither false b p = (refl, p)
+use Rattle.mini_dead.proofs.Basics.{some_is, none_is}
+use Rattle.mini_dead.specs.Pruned.{Spot, Elsewhere, Role, Plain, StatementList, DeclaratorList}
+use Rattle.mini_dead.specs.Dead.{is_dispensable, name_if, item_name, has_this_symbol, declares, declares_otherwise, any_declares_otherwise, declares_inside, is_unreferenced, is_dead_symbol, has_it, has_name}
 
 -- ---- references to a symbol
 
@@ -113,15 +101,9 @@ module _ (s : ℕ) where
 -- ---- items of other names
 
 module _ (s : ℕ) where
-  pub none_some : (y : Name) → None ≡ Some y → ⊥
-  none_some y e = cc
-
-  pub some_same : (x y : Name) → Some x ≡ Some y → x ≡ y
-  some_same x y e = cc
-
   if_same : (b : Bool) (x y : Name) → name_if b x ≡ Some y → x ≡ y
-  if_same true x y e = cc
-  if_same false x y e = cc
+  if_same true x y e = some_is x y e
+  if_same false x y e = absurd (none_is y e)
 
   named_apart : (x y : Name) (b c : Bool) → x ≡ y → has_this_symbol s y ≡ false → (b || c) ≡ false → (b || (((has_this_symbol s x || false) || false) || c)) ≡ false
   named_apart x y true c e f i = absurd (true≢false i)
@@ -130,9 +112,9 @@ module _ (s : ℕ) where
   -- an item of another name declares no more than its inside
   pub item_otherwise : (r : Role) (c : Tree) (y : Name) → item_name r c ≡ Some y → has_this_symbol s y ≡ false → declares_inside s c ≡ false → (p : Spot) → declares_otherwise s p c ≡ false
   unfolding declares_otherwise
-  item_otherwise StatementList (node (shape.Function true g ds) xs n (node shape.BindingIdentifier (x ∷ []) m none ▸ ts)) y e f i p = named_apart x y (declares s (shape.Function true g ds) xs) (any_declares_otherwise s Plain 1 ts) (some_same x y e) f i
+  item_otherwise StatementList (node (shape.Function true g ds) xs n (node shape.BindingIdentifier (x ∷ []) m none ▸ ts)) y e f i p = named_apart x y (declares s (shape.Function true g ds) xs) (any_declares_otherwise s Plain 1 ts) (some_is x y e) f i
   item_otherwise (DeclaratorList lexical) (node shape.VariableDeclarator [] n (node shape.BindingIdentifier (x ∷ []) m none ▸ init ▸ none)) y e f i p = named_apart x y false (any_declares_otherwise s Plain 1 (init ▸ none)) (if_same (is_dispensable init) x y e) f i
-  item_otherwise r c y e f i p = absurd (none_some y e)
+  item_otherwise r c y e f i p = absurd (none_is y e)
 
 -- ---- sets of symbols
 

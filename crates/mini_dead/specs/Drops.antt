@@ -5,24 +5,22 @@ use Rattle.std.specs.Prelude.{◌≡◌, ℕ, suc, ◌+◌, ◌<◌, nat_eq, Boo
 use Rattle.std.specs.List.{list_any}
 use Rattle.mini_model.specs.declared.name.Name.{Name}
 use Rattle.mini_model.specs.declared.name.SymbolId.{SymbolId}
-use Rattle.mini_model.specs.Tree.{Tree, Trees}
+use Rattle.mini_model.specs.Tree.{Tree}
 use Rattle.mini_accept.specs.WellShaped.{IsWellShaped}
-use Rattle.mini_laws.specs.declared.names.Use.{Use}
 use Rattle.mini_laws.specs.declared.names.Use.TheVariants.{Read}
 use Rattle.mini_laws.specs.References.{Reference, references, references_from}
 use Rattle.mini_laws.specs.Shared.{is_shared_always, is_shared}
 use Rattle.mini_laws.specs.ScopeList.{by_symbol}
-use Rattle.mini_laws.specs.Value.{Variable, Declared, Global, VariableSet, variable_of, variables, is_in}
+use Rattle.mini_laws.specs.Value.{Declared, Global, VariableSet, variable_of, variables, is_in}
 use Rattle.mini_laws.specs.Writable.{mentions}
-use Rattle.mini_laws.specs.Naming.{is_lexical}
 use Rattle.mini_laws.specs.Congruence.{Avoids}
 use Rattle.mini_laws.specs.Body.{environment_in}
 use Rattle.mini_laws.specs.Bodies.{Body, bodies_in}
 use Rattle.mini_kept.specs.Carried.{numbers}
 use Rattle.mini_dead.specs.Creations.{FunctionSet, SameWithout}
-use Rattle.mini_dead.specs.Pruned.{Spot, Elsewhere, Role, StatementList, DeclaratorList, role, spot_below, Initializer, without_effect, of_function, initializer_tree, Declarator, declarator, declarator_tree, Item, item_tree, function_item, declaration_item, lone_item, Pruned, prune, Prunings, end, stays, goes, declarator_goes, earlier, later, HoldsItems, HoldsDeclarators}
+use Rattle.mini_dead.specs.Pruned.{Spot, Elsewhere, Role, DeclaratorList, role, spot_below, Initializer, without_effect, of_function, initializer_tree, Declarator, declarator, Item, function_item, declaration_item, lone_item, Pruned, prune, Prunings, end, stays, goes, declarator_goes, earlier, later, HoldsItems, HoldsDeclarators}
 use Rattle.mini_dead.specs.PrunedBodies.{BodiesWithout}
-use Rattle.mini_dead.specs.Dead.{is_without_effect, has_name, item_name, is_dead}
+use Rattle.mini_dead.specs.Dead.{is_without_effect, has_name}
 
 -- ---- what goes
 
