@@ -5,4 +5,5 @@ pub mod Drops
 pub mod Marked
 pub mod Differences
 pub mod DeadExamples
+pub mod MarkedExamples
 pub mod PrunedBodies
