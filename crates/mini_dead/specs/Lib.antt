@@ -3,6 +3,7 @@ pub mod Pruned
 pub mod Dead
 pub mod Drops
 pub mod Marked
+pub mod Counting
 pub mod Differences
 pub mod DeadExamples
 pub mod MarkedExamples

@@ -6,6 +6,7 @@ ghost use Rattle.mini_dead.specs.Creations.{WithoutNone, WithoutTwice};
 ghost use Rattle.mini_dead.specs.Differences.{UnansweredDiffers, LoneDeclarationDiffers};
 ghost use Rattle.mini_dead.specs.Pruned.{PrunedSame};
 ghost use Rattle.mini_dead.specs.PrunedBodies.{PrunedProgram};
+ghost use Rattle.mini_dead.specs.Counting.{DropsCount, NoneGoes};
 ghost use Rattle.mini_dead.specs.Marked.{MayGoDrops, DeadSymbolsGo, DeadItemsCounted};
 ghost use Rattle.mini_dead.specs.Drops.{DropsKeepBodies, DroppedBodiesStay};
 
@@ -53,4 +54,11 @@ pub fn may_go_drops()
 pub fn dead_symbols_go()
     ensures go { DeadSymbolsGo }
     ensures counted { DeadItemsCounted }
+{}
+
+/// The counts of each symbol fall by the references that go with items, and by nothing else; and
+/// where no item goes, the program is what it was.
+pub fn drops_are_counted()
+    ensures fall { DropsCount }
+    ensures none { NoneGoes }
 {}
