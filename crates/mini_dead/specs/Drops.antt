@@ -144,6 +144,10 @@ pub data DropsAgain : Tree → Tree → ℕ → Type 0 where
   nothing_goes : (t : Tree) → DropsAgain t t 0
   more_goes : (t u v : Tree) (m n : ℕ) → DropsAgain t u m → Drops u v n → DropsAgain t v (m + n)
 
+-- a program from which dead items go is a program of ESTree still
+abbrev pub DropsKeepShape : Type 0
+DropsKeepShape = (t u : Tree) (n : ℕ) → DropsAgain t u n → IsWellShaped t → IsWellShaped u
+
 -- ---- what a program does without them
 
 -- the numbers of what went
