@@ -1,20 +1,19 @@
 -- A program from which dead items go is a program of ESTree still.
-use Rattle.std.proofs.Common.{◌≡◌, ℕ, zero, suc, Bool, true, false, List, [], ◌∷◌, length, Option, Some, None, refl, sym, ap, ◌∙◌, subst, subst₂, true≢false, le-leb, inl, inr, arith}
+use Rattle.std.proofs.Common.{◌≡◌, ℕ, zero, suc, Bool, true, false, List, [], ◌∷◌, length, Option, Some, None, refl, sym, ap, ◌∙◌, subst, true≢false, le-leb, inl, inr, arith}
 use Rattle.std.specs.Prelude.{◌⊎◌, nat_eq, nat_le, not, ◌&&◌, ◌||◌, if◌then◌else◌}
 use Rattle.mini_model.specs.declared.kind.MethodDefinitionKind.{MethodDefinitionKind}
 use Rattle.mini_model.specs.declared.kind.MethodDefinitionKind.TheVariants as method
-use Rattle.mini_model.specs.declared.kind.PropertyKind.{PropertyKind}
 use Rattle.mini_model.specs.declared.kind.VariableDeclarationKind.{VariableDeclarationKind}
 use Rattle.mini_model.specs.declared.name.Name.{Name}
 use Rattle.mini_model.specs.declared.operator.UnaryOperator.TheVariants.{UnaryNegation}
 use Rattle.mini_model.specs.declared.shape.Shape.{Shape}
 use Rattle.mini_model.specs.declared.shape.Shape.TheVariants as shape
-use Rattle.mini_model.specs.Tree.{Tree, Trees, node, none, ◌▸◌, count, children, child_or_absent, shape_of, is_absent, is_absent_shape}
+use Rattle.mini_model.specs.Tree.{Tree, Trees, node, none, ◌▸◌, count, children, child_or_absent, shape_of, is_absent}
 use Rattle.mini_laws.specs.Value.{VariableSet}
-use Rattle.mini_accept.specs.WellShaped.{Class, a_program, a_statement, a_loop_left, a_method, an_exported_declaration, an_export, a_string, a_key, a_private_or_key, an_inner_key, Depth, in_module, in_body, nested, Slot, one, one_or_absent, many, Tagging, untagged, tagged, Filling, refused, these, each, each_or_last, pieces, filling, filling_by, class_of, slots_of, has_its_number, has_names, has_plain_fields, has_its_parts, is_whole, is_strict_in, is_last, first_item, is_function_body, is_reference, is_initialized, is_var, is_head_by, is_same_flag, spelling, without_default, repeats_key, is_same_spelling, holds_its_name, names_constructor, is_constructor, has_its_kind, is_init, is_whole_property, has_optional, has_optional_by, is_not_positive_number, are_locals, is_whole_export, is_quasi, is_quasi_by, are_quasis, fits, fill, IsWellShaped}
+use Rattle.mini_accept.specs.WellShaped.{Class, a_program, a_statement, a_loop_left, a_method, an_exported_declaration, an_export, a_string, a_key, a_private_or_key, an_inner_key, in_module, in_body, nested, Slot, one, one_or_absent, many, Tagging, Filling, refused, these, each, each_or_last, pieces, filling, filling_by, class_of, slots_of, has_its_number, has_names, has_plain_fields, has_its_parts, is_whole, is_strict_in, is_last, first_item, is_function_body, is_reference, is_var, is_head_by, is_same_flag, spelling, without_default, repeats_key, is_same_spelling, holds_its_name, names_constructor, has_its_kind, is_init, has_optional, is_not_positive_number, are_locals, is_whole_export, is_quasi, are_quasis, fits, fill, IsWellShaped}
 use Rattle.mini_kept.proofs.Bools.{left, right, both}
 use Rattle.mini_dead.proofs.Declarations.{OneList, fits_made}
-use Rattle.mini_dead.specs.Pruned.{Spot, Elsewhere, AStatement, Declarators, OneCase, Role, Plain, StatementList, Declaration, DeclaratorList, role, spot_below, Lone, lone_tree, initializer_tree, own_name, Declarator, declarator, declarator_tree, declarator_trees, Item, function_item, declaration_item, lone_item, item_tree, Pruned, prune, Prunings, end, stays, goes, declarator_goes, earlier, earlier_all, later, later_all, HoldsItems, HoldsDeclarators}
+use Rattle.mini_dead.specs.Pruned.{Spot, Elsewhere, AStatement, Declarators, OneCase, Role, Plain, Declaration, DeclaratorList, role, spot_below, lone_tree, initializer_tree, own_name, Declarator, declarator, declarator_tree, declarator_trees, Item, function_item, declaration_item, lone_item, item_tree, Pruned, prune, Prunings, end, stays, goes, declarator_goes, earlier, earlier_all, later, later_all, HoldsItems, HoldsDeclarators}
 use Rattle.mini_dead.specs.Drops as law
 use Rattle.mini_dead.specs.Drops.{gone, some_stay, KeepsDeclarator, DropsDead, AllDropDead, Drops, DropsAgain, nothing_goes, more_goes}
 
