@@ -290,7 +290,7 @@ module _ (t : Tree) (D : VariableSet) (rounds : ℕ → ℕ) where
 
   -- ---- a declaration keeps a declarator
 
-  some_left : (lexical : Bool) (i : ℕ) (ps : Prunings) → some_stay t D rounds ps ≡ true → nat_le 1 (count (later_all ps)) ≡ true
+  some_left : (lexical : Bool) (i : ℕ) (ps : Prunings) → some_stay ps ≡ true → nat_le 1 (count (later_all ps)) ≡ true
   some_left lexical i end e = absurd (true≢false (sym e))
   some_left lexical i (stays x ps) e = le-leb 1 (suc (count (later_all ps))) (omega arith)
   some_left lexical i (goes c ps) e = some_left lexical i ps e
@@ -321,7 +321,7 @@ module _ (t : Tree) (D : VariableSet) (rounds : ℕ → ℕ) where
   one_declarator b k i (goes c ps) a e = absurd a.0
   one_declarator b k i (declarator_goes c ps) a e = absurd a.0
 
-  one_left : (b : Bool) (k : VariableDeclarationKind) (lexical : Bool) (i : ℕ) (ps : Prunings) → some_stay t D rounds ps ≡ true → AllDrop (DeclaratorList lexical) i ps → is_head_by b k (earlier_all ps) ≡ true → is_head_by b k (later_all ps) ≡ true
+  one_left : (b : Bool) (k : VariableDeclarationKind) (lexical : Bool) (i : ℕ) (ps : Prunings) → some_stay ps ≡ true → AllDrop (DeclaratorList lexical) i ps → is_head_by b k (earlier_all ps) ≡ true → is_head_by b k (later_all ps) ≡ true
   one_left b k lexical i end w a e = e
   one_left b k lexical i (stays x end) w a e = sym (ap (λ c. not (not c) || (b && is_var k)) (second_absent x a.0)) ∙ e
   one_left b k lexical i (stays x (stays y ps)) w a e = absurd (true≢false (sym e))
