@@ -7,6 +7,7 @@ ghost use Rattle.mini_dead.specs.Differences.{UnansweredDiffers, LoneDeclaration
 ghost use Rattle.mini_dead.specs.Pruned.{PrunedSame};
 ghost use Rattle.mini_dead.specs.PrunedBodies.{PrunedProgram};
 ghost use Rattle.mini_dead.specs.Counting.{DropsCount, NoneGoes};
+ghost use Rattle.mini_dead.specs.Frames.{DropsKeepFrames};
 ghost use Rattle.mini_dead.specs.Marked.{MayGoDrops, DeadSymbolsGo, DeadItemsCounted};
 ghost use Rattle.mini_dead.specs.Drops.{DropsKeepShape, DropsKeepBodies, DroppedBodiesStay};
 
@@ -66,4 +67,10 @@ pub fn drops_are_counted()
 /// A program from which dead items go is a program of ESTree still.
 pub fn drops_keep_shape()
     ensures { DropsKeepShape }
+{}
+
+/// Each function and each carried node that is left has the frame that it had. The frame of the
+/// program itself isn't spoken of here.
+pub fn drops_keep_frames()
+    ensures { DropsKeepFrames }
 {}
