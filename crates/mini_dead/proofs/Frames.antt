@@ -1,6 +1,6 @@
 -- The frames of nodes with a number, once dead items are gone.
 use Rattle.std.proofs.Common.{◌≡◌, ℕ, zero, suc, Bool, true, false, List, [], ◌∷◌, ◌++◌, Option, Some, None, refl, sym, ap, ◌∙◌, subst, subst₂, true≢false, inl, inr, arith}
-use Rattle.std.specs.Prelude.{◌⊎◌, Contains, ◌==◌, not, ◌&&◌, ◌||◌, if◌then◌else◌}
+use Rattle.std.specs.Prelude.{◌⊎◌, Contains, ◌==◌, ◌&&◌, ◌||◌}
 use Rattle.std.proofs.Math.Dec.{eqb-suc-zero}
 use Rattle.std.proofs.lemmas.List.Elements.{Contains-append_left, Contains-append_right, Contains-append_cases}
 use Rattle.mini_model.specs.declared.kind.PropertyKind.{PropertyKind}
@@ -14,16 +14,16 @@ use Rattle.mini_laws.specs.declared.names.Declared.TheVariants as declared
 use Rattle.mini_laws.specs.declared.names.Place.{Place}
 use Rattle.mini_laws.specs.DeclaredNames.{place_of, names_by, names_of, first_names, all_names, body_names}
 use Rattle.mini_laws.specs.Value.{VariableSet}
-use Rattle.mini_accept.specs.WellShaped.{Class, a_statement, an_init, a_loop_left, a_declarator, an_exported_declaration, a_default_export, a_key, a_private_or_key, an_inner_key, Depth, in_module, in_body, nested, Slot, one, one_or_absent, many, many_or_holes, many_and_rest, many_or_holes_and_rest, quasis, Filling, refused, these, each, each_or_last, pieces, filling, filling_by, class_of, slots_of, has_its_number, is_whole, is_strict_in, is_last, is_quasi, are_quasis, fits, fill, a_program, IsWellShaped}
+use Rattle.mini_accept.specs.WellShaped.{Class, a_statement, an_init, a_loop_left, a_declarator, an_exported_declaration, a_default_export, a_key, a_private_or_key, an_inner_key, Slot, one, one_or_absent, Filling, refused, these, each, each_or_last, pieces, filling, filling_by, class_of, slots_of, is_whole, is_strict_in, is_last, fits, fill, a_program, IsWellShaped}
 use Rattle.mini_kept.specs.SameNames.{is_among}
-use Rattle.mini_kept.specs.Frames.{Showing, Whole, Named, Hidden, showing, in_full, keyed, part, parts, is_declaration, declaration, shown, shown_from, own, outline, globals, Frame, property_below, frame_of, frames, frames_from, frames_in}
+use Rattle.mini_kept.specs.Frames.{Showing, Whole, Named, Hidden, showing, in_full, keyed, part, parts, declaration, shown, shown_from, own, outline, globals, Frame, property_below, frame_of, frames, frames_from, frames_in}
 use Rattle.mini_kept.proofs.Bools.{left, right}
 use Rattle.mini_kept.proofs.FrameSteps.{its_number}
-use Rattle.mini_kept.proofs.FramePlaces.{Are, is_part_slot, is_declared_slot, shows_right, Outlined, of_static_block, own_right, part_right, numbered_outline}
-use Rattle.mini_dead.specs.Pruned.{Spot, Elsewhere, AStatement, OneCase, Role, Plain, role, spot_below, Lone, lone_tree, Initializer, initializer_tree, own_name, Declarator, declarator, declarator_tree, declarator_trees, Item, function_item, declaration_item, lone_item, item_tree, Pruned, prune, Prunings, end, stays, goes, declarator_goes, earlier, earlier_all, later, later_all, HoldsItems, HoldsDeclarators}
-use Rattle.mini_dead.specs.Drops.{gone, DropsDead, AllDropDead, Drops, DropsAgain, nothing_goes, more_goes}
+use Rattle.mini_kept.proofs.FramePlaces.{Are, is_part_slot, shows_right, Outlined, of_static_block, own_right, part_right, numbered_outline}
+use Rattle.mini_dead.specs.Pruned.{Spot, Elsewhere, Role, Plain, role, spot_below, lone_tree, initializer_tree, own_name, Declarator, declarator, declarator_tree, declarator_trees, Item, function_item, declaration_item, lone_item, item_tree, Pruned, prune, Prunings, end, stays, goes, declarator_goes, earlier, earlier_all, later, later_all, HoldsItems, HoldsDeclarators}
+use Rattle.mini_dead.specs.Drops.{gone, DropsDead, AllDropDead, Drops, nothing_goes, more_goes}
 use Rattle.mini_dead.specs.Frames as law
-use Rattle.mini_dead.proofs.Shapes.{drops_keep_shape, AllStay, all_stay, stay_elsewhere, quasis_first, pieces_same, item_no_piece, declarator_no_piece}
+use Rattle.mini_dead.proofs.Shapes.{drops_keep_shape, AllStay, all_stay, quasis_first, pieces_same, item_no_piece, declarator_no_piece}
 
 -- ---- no item is a part of a frame
 
