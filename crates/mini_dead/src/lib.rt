@@ -51,7 +51,8 @@ pub fn may_go_drops()
     ensures { MayGoDrops }
 {}
 
-/// Dead symbols of a program can go at once, one or more of them; and all of them are its dead items.
+/// Dead symbols of a program can go at once, one or more of them; and all of them are its dead
+/// items.
 pub fn dead_symbols_go()
     ensures go { DeadSymbolsGo }
     ensures counted { DeadItemsCounted }
