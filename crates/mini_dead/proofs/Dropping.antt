@@ -31,11 +31,11 @@ abbrev pub Each : {A : Type 0} → (A → Bool) → List A → Type 0
 Each f [] = Unit {0}
 Each f (x ∷ xs) = (f x ≡ true) × Each f xs
 
-first_part : {A : Type 0} (f : A → Bool) (xs ys : List A) → Each f (xs ++ ys) → Each f xs
+pub first_part : {A : Type 0} (f : A → Bool) (xs ys : List A) → Each f (xs ++ ys) → Each f xs
 first_part f [] ys a = tt
 first_part f (x ∷ xs) ys a = (a.0, first_part f xs ys a.1)
 
-last_part : {A : Type 0} (f : A → Bool) (xs ys : List A) → Each f (xs ++ ys) → Each f ys
+pub last_part : {A : Type 0} (f : A → Bool) (xs ys : List A) → Each f (xs ++ ys) → Each f ys
 last_part f [] ys a = a
 last_part f (x ∷ xs) ys a = last_part f xs ys a.1
 
