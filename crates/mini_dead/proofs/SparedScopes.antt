@@ -101,7 +101,7 @@ both_found : (h : Bool) (env : Environment) (xs ys : List Name) → AllFound h e
 both_found h env [] ys a b = b
 both_found h env (x ∷ xs) ys a b = (a.0, both_found h env xs ys a.1 b)
 
-by_reads : (h : Bool) (env : Environment) (xs : List Name) → NamesScoped Read env xs → AllFound h env xs
+pub by_reads : (h : Bool) (env : Environment) (xs : List Name) → NamesScoped Read env xs → AllFound h env xs
 by_reads h env [] a = tt
 by_reads h env (x ∷ xs) a = (record { use_made = Read; served = λ y. refl; symbol = a.0 }, by_reads h env xs a.1)
 

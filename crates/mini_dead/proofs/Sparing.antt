@@ -25,6 +25,60 @@ abbrev pub sparing : VariableSet → List Name → List Name
 sparing D [] = []
 sparing D (x ∷ xs) = if D (variable_of x) then sparing D xs else x ∷ sparing D xs
 
+-- ---- what is no list keeps its children
+
+abbrev pub AllStay : Prunings → Type 0
+AllStay end = Unit {0}
+AllStay (stays x ps) = AllStay ps
+AllStay (goes c ps) = ⊥
+AllStay (declarator_goes c ps) = ⊥
+
+abbrev pub is_list : Shape → Bool
+is_list shape.Listed = true
+is_list h = false
+
+no_items : (h : Shape) (p : Spot) → is_list h ≡ false → HoldsItems (role h p) → ⊥
+no_items shape.Listed p e k = true≢false e
+no_items (shape.VariableDeclaration v) Elsewhere e k = k
+no_items (shape.VariableDeclaration v) Statements e k = k
+no_items (shape.VariableDeclaration v) AStatement e k = k
+no_items (shape.VariableDeclaration v) (Declarators b) e k = k
+no_items (shape.VariableDeclaration v) CaseList e k = k
+no_items (shape.VariableDeclaration v) OneCase e k = k
+no_items shape.SwitchCase Elsewhere e k = k
+no_items shape.SwitchCase Statements e k = k
+no_items shape.SwitchCase AStatement e k = k
+no_items shape.SwitchCase (Declarators b) e k = k
+no_items shape.SwitchCase CaseList e k = k
+no_items shape.SwitchCase OneCase e k = k
+no_items h p e k = k
+
+no_declarators : (h : Shape) (p : Spot) → is_list h ≡ false → HoldsDeclarators (role h p) → ⊥
+no_declarators shape.Listed p e k = true≢false e
+no_declarators (shape.VariableDeclaration v) Elsewhere e k = k
+no_declarators (shape.VariableDeclaration v) Statements e k = k
+no_declarators (shape.VariableDeclaration v) AStatement e k = k
+no_declarators (shape.VariableDeclaration v) (Declarators b) e k = k
+no_declarators (shape.VariableDeclaration v) CaseList e k = k
+no_declarators (shape.VariableDeclaration v) OneCase e k = k
+no_declarators shape.SwitchCase Elsewhere e k = k
+no_declarators shape.SwitchCase Statements e k = k
+no_declarators shape.SwitchCase AStatement e k = k
+no_declarators shape.SwitchCase (Declarators b) e k = k
+no_declarators shape.SwitchCase CaseList e k = k
+no_declarators shape.SwitchCase OneCase e k = k
+no_declarators h p e k = k
+
+abbrev pub list_or_not : (h : Shape) (P : Type 0) → (h ≡ shape.Listed → P) → (is_list h ≡ false → P) → P
+list_or_not shape.Listed P f g = f refl
+list_or_not h P f g = g refl
+
+listed : (d : Declared) (xs : List Name) (n : ℕ) (ts : Trees) → names_of d (node shape.Listed xs n ts) ≡ all_names d ts
+unfolding names_of
+listed declared.Bound xs n ts = refl
+listed declared.Lexical xs n ts = refl
+listed declared.Hoisted xs n ts = refl
+
 module _ (D : VariableSet) where
   pub spared_both : (xs ys : List Name) → sparing D (xs ++ ys) ≡ sparing D xs ++ sparing D ys
   spared_both [] ys = refl
@@ -65,50 +119,6 @@ module _ (D : VariableSet) where
         (tidy t rounds (spot_below r i) x a.0 (first_part (named D) (gone_names x) (all_gone_names ps) m), all_tidy t rounds r (suc i) ps a.1 (last_part (named D) (gone_names x) (all_gone_names ps) m))
     all_tidy t rounds r i (goes c ps) a m = (a.0, first_part (named D) (item_names c) (all_gone_names ps) m, all_tidy t rounds r (suc i) ps a.2 (last_part (named D) (item_names c) (all_gone_names ps) m))
     all_tidy t rounds r i (declarator_goes c ps) a m = (a.0, m.0, all_tidy t rounds r (suc i) ps a.2 m.1)
-
-  -- ---- what is no list keeps its children
-
-  abbrev pub AllStay : Prunings → Type 0
-  AllStay end = Unit {0}
-  AllStay (stays x ps) = AllStay ps
-  AllStay (goes c ps) = ⊥
-  AllStay (declarator_goes c ps) = ⊥
-
-  abbrev pub is_list : Shape → Bool
-  is_list shape.Listed = true
-  is_list h = false
-
-  no_items : (h : Shape) (p : Spot) → is_list h ≡ false → HoldsItems (role h p) → ⊥
-  no_items shape.Listed p e k = true≢false e
-  no_items (shape.VariableDeclaration v) Elsewhere e k = k
-  no_items (shape.VariableDeclaration v) Statements e k = k
-  no_items (shape.VariableDeclaration v) AStatement e k = k
-  no_items (shape.VariableDeclaration v) (Declarators b) e k = k
-  no_items (shape.VariableDeclaration v) CaseList e k = k
-  no_items (shape.VariableDeclaration v) OneCase e k = k
-  no_items shape.SwitchCase Elsewhere e k = k
-  no_items shape.SwitchCase Statements e k = k
-  no_items shape.SwitchCase AStatement e k = k
-  no_items shape.SwitchCase (Declarators b) e k = k
-  no_items shape.SwitchCase CaseList e k = k
-  no_items shape.SwitchCase OneCase e k = k
-  no_items h p e k = k
-
-  no_declarators : (h : Shape) (p : Spot) → is_list h ≡ false → HoldsDeclarators (role h p) → ⊥
-  no_declarators shape.Listed p e k = true≢false e
-  no_declarators (shape.VariableDeclaration v) Elsewhere e k = k
-  no_declarators (shape.VariableDeclaration v) Statements e k = k
-  no_declarators (shape.VariableDeclaration v) AStatement e k = k
-  no_declarators (shape.VariableDeclaration v) (Declarators b) e k = k
-  no_declarators (shape.VariableDeclaration v) CaseList e k = k
-  no_declarators (shape.VariableDeclaration v) OneCase e k = k
-  no_declarators shape.SwitchCase Elsewhere e k = k
-  no_declarators shape.SwitchCase Statements e k = k
-  no_declarators shape.SwitchCase AStatement e k = k
-  no_declarators shape.SwitchCase (Declarators b) e k = k
-  no_declarators shape.SwitchCase CaseList e k = k
-  no_declarators shape.SwitchCase OneCase e k = k
-  no_declarators h p e k = k
 
   all_stay : (r : Role) (i : ℕ) (ps : Prunings) → (HoldsItems r → ⊥) → (HoldsDeclarators r → ⊥) → AllTidy r i ps → AllStay ps
   all_stay r i end f g a = tt
@@ -159,16 +169,6 @@ module _ (D : VariableSet) where
   by_place place.Bound xs first first' bound bound' below below' a b c d = c
   by_place place.Below xs first first' bound bound' below below' a b c d = d
   by_place place.Nowhere xs first first' bound bound' below below' a b c d = refl
-
-  abbrev list_or_not : (h : Shape) (P : Type 0) → (h ≡ shape.Listed → P) → (is_list h ≡ false → P) → P
-  list_or_not shape.Listed P f g = f refl
-  list_or_not h P f g = g refl
-
-  listed : (d : Declared) (xs : List Name) (n : ℕ) (ts : Trees) → names_of d (node shape.Listed xs n ts) ≡ all_names d ts
-  unfolding names_of
-  listed declared.Bound xs n ts = refl
-  listed declared.Lexical xs n ts = refl
-  listed declared.Hoisted xs n ts = refl
 
   gone_first : (ws bs ds : List Name) → sparing D ws ≡ [] → ds ≡ sparing D bs → ds ≡ sparing D (ws ++ bs)
   gone_first ws bs ds e f = f ∙ sym (spared_both ws bs ∙ ap (λ r. r ++ sparing D bs) e)
