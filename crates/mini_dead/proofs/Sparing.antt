@@ -6,7 +6,7 @@ use Rattle.mini_model.specs.declared.kind.VariableDeclarationKind.TheVariants.{V
 use Rattle.mini_model.specs.declared.name.Name.{Name}
 use Rattle.mini_model.specs.declared.shape.Shape.{Shape}
 use Rattle.mini_model.specs.declared.shape.Shape.TheVariants as shape
-use Rattle.mini_model.specs.Tree.{Tree, Trees, node, none, ◌▸◌}
+use Rattle.mini_model.specs.Tree.{Tree, Trees, node, none, ◌▸◌, child_or_absent, shape_of}
 use Rattle.mini_laws.specs.declared.names.Declared.{Declared}
 use Rattle.mini_laws.specs.declared.names.Declared.TheVariants as declared
 use Rattle.mini_laws.specs.declared.names.Place.{Place}
@@ -79,6 +79,37 @@ listed declared.Bound xs n ts = refl
 listed declared.Lexical xs n ts = refl
 listed declared.Hoisted xs n ts = refl
 
+-- the child at a place
+abbrev absent_pruned : Pruned
+absent_pruned = prune shape.Absent [] 0 end
+
+abbrev pub pick : ℕ → Prunings → Pruned
+pick i end = absent_pruned
+pick zero (stays x ps) = x
+pick (suc i) (stays x ps) = pick i ps
+pick i (goes c ps) = absent_pruned
+pick i (declarator_goes c ps) = absent_pruned
+
+pub pick_earlier : (i : ℕ) (ps : Prunings) → AllStay ps → earlier (pick i ps) ≡ child_or_absent (earlier_all ps) i
+pick_earlier i end s = refl
+pick_earlier zero (stays x ps) s = refl
+pick_earlier (suc i) (stays x ps) s = pick_earlier i ps s
+pick_earlier i (goes c ps) s = absurd s
+pick_earlier i (declarator_goes c ps) s = absurd s
+
+pub pick_later : (i : ℕ) (ps : Prunings) → AllStay ps → later (pick i ps) ≡ child_or_absent (later_all ps) i
+pick_later i end s = refl
+pick_later zero (stays x ps) s = refl
+pick_later (suc i) (stays x ps) s = pick_later i ps s
+pick_later i (goes c ps) s = absurd s
+pick_later i (declarator_goes c ps) s = absurd s
+
+pub same_shape : (x : Pruned) → shape_of (later x) ≡ shape_of (earlier x)
+same_shape (prune h xs n ps) = refl
+
+pub shape_at : (i : ℕ) (ps : Prunings) → AllStay ps → shape_of (child_or_absent (later_all ps) i) ≡ shape_of (child_or_absent (earlier_all ps) i)
+shape_at i ps s = sym (ap shape_of (pick_later i ps s)) ∙ same_shape (pick i ps) ∙ ap shape_of (pick_earlier i ps s)
+
 module _ (D : VariableSet) where
   pub spared_both : (xs ys : List Name) → sparing D (xs ++ ys) ≡ sparing D xs ++ sparing D ys
   spared_both [] ys = refl
@@ -131,6 +162,25 @@ module _ (D : VariableSet) where
 
   pub plain_stay : (i : ℕ) (ps : Prunings) → AllTidy Plain i ps → AllStay ps
   plain_stay i ps a = all_stay Plain i ps (λ k. k) (λ k. k) a
+
+  -- outside lists of statements nothing goes but below
+  pub elsewhere_stay : (h : Shape) (ps : Prunings) → AllTidy (role h Elsewhere) 0 ps → AllStay ps
+  elsewhere_stay h ps a = list_or_not h (AllStay ps) (λ e. plain_stay 0 ps (subst (λ g. AllTidy (role g Elsewhere) 0 ps) e a)) (λ e. children_stay h Elsewhere ps e a)
+
+  -- the child at a place stands at some spot
+  pub pick_tidy : (r : Role) (k i : ℕ) (ps : Prunings) → AllTidy r k ps → (p : Spot) × Tidy p (pick i ps)
+  pick_tidy r k i end a = (Elsewhere, tt)
+  pick_tidy r k zero (stays x ps) a = (spot_below r k, a.0)
+  pick_tidy r k (suc i) (stays x ps) a = pick_tidy r (suc k) i ps a.1
+  pick_tidy r k i (goes c ps) a = (Elsewhere, tt)
+  pick_tidy r k i (declarator_goes c ps) a = (Elsewhere, tt)
+
+  pub pick_plain : (k i : ℕ) (ps : Prunings) → AllTidy Plain k ps → Tidy Elsewhere (pick i ps)
+  pick_plain k i end a = tt
+  pick_plain k zero (stays x ps) a = a.0
+  pick_plain k (suc i) (stays x ps) a = pick_plain (suc k) i ps a.1
+  pick_plain k i (goes c ps) a = tt
+  pick_plain k i (declarator_goes c ps) a = tt
 
   -- ---- the names that are declared
 
