@@ -77,7 +77,7 @@ module _ (t : Tree) (D : VariableSet) (rounds : ℕ → ℕ) (d : FunctionSet) (
   takes true x p = tt
   takes false x p = may x p
 
-  initializer_goes : (i : Initializer) → InitializerIsDead t D rounds i → Each d (initializer_functions i) → InitializerGoes d D e i
+  initializer_goes : (i : Initializer) → InitializerIsDead i → Each d (initializer_functions i) → InitializerGoes d D e i
   initializer_goes (without_effect c) a f = λ s. without_effect_still e c a s
   initializer_goes (of_function v) a f = f.0
 
@@ -127,10 +127,10 @@ abbrev has_symbol_at_all : Name → Bool
 has_symbol_at_all x = is_some x.symbol
 
 module _ (t : Tree) (D : VariableSet) (rounds : ℕ → ℕ) where
-  some_symbol : (x : Name) → has_name (is_unseen t D rounds) x ≡ true → is_some x.symbol ≡ true
+  some_symbol : (x : Name) → has_name (is_unseen t) x ≡ true → is_some x.symbol ≡ true
   some_symbol x p = by x.symbol p
     where
-      by : (o : Option SymbolId) → has_it (is_unseen t D rounds) o ≡ true → is_some o ≡ true
+      by : (o : Option SymbolId) → has_it (is_unseen t) o ≡ true → is_some o ≡ true
       by (Some s) q = refl
       by None q = absurd (true≢false (sym q))
 

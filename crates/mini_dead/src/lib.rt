@@ -8,7 +8,7 @@ ghost use Rattle.mini_dead.specs.Pruned.{PrunedSame};
 ghost use Rattle.mini_dead.specs.PrunedBodies.{PrunedProgram};
 ghost use Rattle.mini_dead.specs.Counting.{DropsCount, NoneGoes};
 ghost use Rattle.mini_dead.specs.Marked.{MayGoDrops, DeadSymbolsGo, DeadItemsCounted};
-ghost use Rattle.mini_dead.specs.Drops.{DropsKeepBodies, DroppedBodiesStay};
+ghost use Rattle.mini_dead.specs.Drops.{DropsKeepShape, DropsKeepBodies, DroppedBodiesStay};
 
 /// A body from whose lists of statements items go does what it did, but for the creation of the
 /// functions that went, where what stays names nothing that went.
@@ -61,4 +61,9 @@ pub fn dead_symbols_go()
 pub fn drops_are_counted()
     ensures fall { DropsCount }
     ensures none { NoneGoes }
+{}
+
+/// A program from which dead items go is a program of ESTree still.
+pub fn drops_keep_shape()
+    ensures { DropsKeepShape }
 {}
