@@ -8,6 +8,7 @@ ghost use Rattle.mini_dead.specs.Pruned.{PrunedSame};
 ghost use Rattle.mini_dead.specs.PrunedBodies.{PrunedProgram};
 ghost use Rattle.mini_dead.specs.Counting.{DropsCount, NoneGoes};
 ghost use Rattle.mini_dead.specs.Marked.{MayGoDrops, DeadSymbolsGo, DeadItemsCounted};
+ghost use Rattle.mini_dead.specs.KeptNames.{DropsKeepNames};
 ghost use Rattle.mini_dead.specs.Drops.{DropsKeepShape, DropsKeepBodies, DroppedBodiesStay};
 
 /// A body from whose lists of statements items go does what it did, but for the creation of the
@@ -66,4 +67,11 @@ pub fn drops_are_counted()
 /// A program from which dead items go is a program of ESTree still.
 pub fn drops_keep_shape()
     ensures { DropsKeepShape }
+{}
+
+/// A program that lost dead items, any number of times, keeps its names: each that is left has the
+/// symbol that the scopes around it give, no symbol is declared twice, nothing else is declared, and
+/// it has no early error.
+pub fn drops_keep_names()
+    ensures { DropsKeepNames }
 {}
