@@ -19,23 +19,23 @@ use Rattle.mini_dead.specs.Drops.{gone, some_stay, KeepsDeclarator, DropsDead, A
 
 -- ---- where nothing goes
 
-abbrev AllStay : Prunings → Type 0
+abbrev pub AllStay : Prunings → Type 0
 AllStay end = Unit {0}
 AllStay (stays x ps) = AllStay ps
 AllStay (goes i ps) = ⊥
 AllStay (declarator_goes c ps) = ⊥
 
-absent_pruned : Pruned
+pub absent_pruned : Pruned
 absent_pruned = prune shape.Absent [] 0 end
 
-kid : ℕ → Prunings → Pruned
+pub kid : ℕ → Prunings → Pruned
 kid i end = absent_pruned
 kid zero (stays x ps) = x
 kid (suc i) (stays x ps) = kid i ps
 kid i (goes c ps) = absent_pruned
 kid i (declarator_goes c ps) = absent_pruned
 
-earlier_kid : (i : ℕ) (ps : Prunings) → AllStay ps → child_or_absent (earlier_all ps) i ≡ earlier (kid i ps)
+pub earlier_kid : (i : ℕ) (ps : Prunings) → AllStay ps → child_or_absent (earlier_all ps) i ≡ earlier (kid i ps)
 unfolding kid absent_pruned
 earlier_kid i end a = refl
 earlier_kid zero (stays x ps) a = refl
@@ -43,7 +43,7 @@ earlier_kid (suc i) (stays x ps) a = earlier_kid i ps a
 earlier_kid i (goes c ps) a = absurd a
 earlier_kid i (declarator_goes c ps) a = absurd a
 
-later_kid : (i : ℕ) (ps : Prunings) → AllStay ps → child_or_absent (later_all ps) i ≡ later (kid i ps)
+pub later_kid : (i : ℕ) (ps : Prunings) → AllStay ps → child_or_absent (later_all ps) i ≡ later (kid i ps)
 unfolding kid absent_pruned
 later_kid i end a = refl
 later_kid zero (stays x ps) a = refl
@@ -51,7 +51,7 @@ later_kid (suc i) (stays x ps) a = later_kid i ps a
 later_kid i (goes c ps) a = absurd a
 later_kid i (declarator_goes c ps) a = absurd a
 
-same_count : (ps : Prunings) → AllStay ps → count (earlier_all ps) ≡ count (later_all ps)
+pub same_count : (ps : Prunings) → AllStay ps → count (earlier_all ps) ≡ count (later_all ps)
 same_count end a = refl
 same_count (stays x ps) a = ap suc (same_count ps a)
 same_count (goes c ps) a = absurd a
@@ -184,12 +184,12 @@ no_piece : (g : Tagging) (last : Bool) (h : Shape) (xs : List Name) (n : ℕ) (c
 no_piece g last h [] n c ts e = true≢false (sym e)
 no_piece g last h (x ∷ xs) n c ts e = true≢false (sym e)
 
-item_no_piece : (g : Tagging) (last : Bool) (i : Item) → is_quasi g last (item_tree i) ≡ true → ⊥
+pub item_no_piece : (g : Tagging) (last : Bool) (i : Item) → is_quasi g last (item_tree i) ≡ true → ⊥
 item_no_piece g last (function_item b ds xs n x m ts) e = no_piece g last (shape.Function true b ds) xs n (own_name x m) ts e
 item_no_piece g last (declaration_item k xs n ys m c cs) e = no_piece g last (shape.VariableDeclaration k) xs n (node shape.Listed ys m (declarator_trees (c ∷ cs))) none e
 item_no_piece g last (lone_item xs n f) e = no_piece g last shape.ExpressionStatement xs n (lone_tree f) none e
 
-declarator_no_piece : (g : Tagging) (last : Bool) (c : Declarator) → is_quasi g last (declarator_tree c) ≡ true → ⊥
+pub declarator_no_piece : (g : Tagging) (last : Bool) (c : Declarator) → is_quasi g last (declarator_tree c) ≡ true → ⊥
 declarator_no_piece g last (declarator n x m i) e = no_piece g last shape.VariableDeclarator [] n (own_name x m) (initializer_tree i ▸ none) e
 
 no_role : (k : VariableDeclarationKind) (q : Spot) → HoldsItems (role (shape.VariableDeclaration k) q) → ⊥
@@ -227,13 +227,13 @@ module _ (t : Tree) (D : VariableSet) (rounds : ℕ → ℕ) where
   abbrev AllDrop : Role → ℕ → Prunings → Type 0
   AllDrop r i ps = AllDropDead t D rounds r i ps
 
-  all_stay : (r : Role) (i : ℕ) (ps : Prunings) → (HoldsItems r → ⊥) → (HoldsDeclarators r → ⊥) → AllDrop r i ps → AllStay ps
+  pub all_stay : (r : Role) (i : ℕ) (ps : Prunings) → (HoldsItems r → ⊥) → (HoldsDeclarators r → ⊥) → AllDrop r i ps → AllStay ps
   all_stay r i end f g a = tt
   all_stay r i (stays x ps) f g a = all_stay r (suc i) ps f g a.1
   all_stay r i (goes c ps) f g a = absurd (f a.0)
   all_stay r i (declarator_goes c ps) f g a = absurd (g a.0)
 
-  stay_elsewhere : (h : Shape) (xs : List Name) (n : ℕ) (ps : Prunings) → Drop Elsewhere (prune h xs n ps) → AllStay ps
+  pub stay_elsewhere : (h : Shape) (xs : List Name) (n : ℕ) (ps : Prunings) → Drop Elsewhere (prune h xs n ps) → AllStay ps
   stay_elsewhere h xs n ps a = all_stay (role h Elsewhere) 0 ps (no_items h) (no_declarators h) a.1
 
   -- the children of a plain node
@@ -445,7 +445,7 @@ module _ (t : Tree) (D : VariableSet) (rounds : ℕ → ℕ) where
   piece_same g last (prune h xs n (goes i ps)) e = absurd (no_piece g last h xs n (item_tree i) (earlier_all ps) e)
   piece_same g last (prune h xs n (declarator_goes c ps)) e = absurd (no_piece g last h xs n (declarator_tree c) (earlier_all ps) e)
 
-  quasis_first : (g : Tagging) (t : Tree) (ts : Trees) → are_quasis g (t ▸ ts) ≡ true → (last : Bool) × (is_quasi g last t ≡ true)
+  pub quasis_first : (g : Tagging) (t : Tree) (ts : Trees) → are_quasis g (t ▸ ts) ≡ true → (last : Bool) × (is_quasi g last t ≡ true)
   quasis_first g t none e = (true, e)
   quasis_first g t (u ▸ ts) e = (false, left (is_quasi g false t) _ e)
 
@@ -457,7 +457,7 @@ module _ (t : Tree) (D : VariableSet) (rounds : ℕ → ℕ) where
   quasis_rest g t none e = tt
   quasis_rest g t (u ▸ ts) e = right (is_quasi g false t) _ e
 
-  pieces_same : (g : Tagging) (ps : Prunings) → NoneOrQuasis g (earlier_all ps) → later_all ps ≡ earlier_all ps
+  pub pieces_same : (g : Tagging) (ps : Prunings) → NoneOrQuasis g (earlier_all ps) → later_all ps ≡ earlier_all ps
   pieces_same g end e = refl
   pieces_same g (stays x ps) e =
       let first = quasis_first g (earlier x) (earlier_all ps) e in
@@ -473,7 +473,7 @@ module _ (t : Tree) (D : VariableSet) (rounds : ℕ → ℕ) where
   either_still false false c d e f g h p = absurd (true≢false (sym p))
 
   mutual
-    fits_still : (strict : Bool) (s : Slot) (q : Spot) (x : Pruned) → Drop q x → fits strict s (earlier x) ≡ true → fits strict s (later x) ≡ true
+    pub fits_still : (strict : Bool) (s : Slot) (q : Spot) (x : Pruned) → Drop q x → fits strict s (earlier x) ≡ true → fits strict s (later x) ≡ true
     fits_still strict s q (prune h xs n ps) a e =
         both (is_whole (class_of s) h xs n (later_all ps)) (fill (is_strict_in strict h) (filling strict s h) (later_all ps))
         (whole_still (class_of s) h q xs n ps a.1 (has_lists strict s h xs n (earlier_all ps) e) (left (is_whole (class_of s) h xs n (earlier_all ps)) _ e))

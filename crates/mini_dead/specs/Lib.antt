@@ -9,3 +9,4 @@ pub mod DeadExamples
 pub mod MarkedExamples
 pub mod PrunedBodies
 pub mod KeptNames
+pub mod Frames

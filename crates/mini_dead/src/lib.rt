@@ -7,6 +7,7 @@ ghost use Rattle.mini_dead.specs.Differences.{UnansweredDiffers, LoneDeclaration
 ghost use Rattle.mini_dead.specs.Pruned.{PrunedSame};
 ghost use Rattle.mini_dead.specs.PrunedBodies.{PrunedProgram};
 ghost use Rattle.mini_dead.specs.Counting.{DropsCount, NoneGoes};
+ghost use Rattle.mini_dead.specs.Frames.{DropsKeepFrames};
 ghost use Rattle.mini_dead.specs.Marked.{MayGoDrops, DeadSymbolsGo, DeadItemsCounted};
 ghost use Rattle.mini_dead.specs.KeptNames.{DropsKeepNames};
 ghost use Rattle.mini_dead.specs.Drops.{DropsKeepShape, DropsKeepBodies, DroppedBodiesStay};
@@ -51,7 +52,8 @@ pub fn may_go_drops()
     ensures { MayGoDrops }
 {}
 
-/// Dead symbols of a program can go at once, one or more of them; and all of them are its dead items.
+/// Dead symbols of a program can go at once, one or more of them; and all of them are its dead
+/// items.
 pub fn dead_symbols_go()
     ensures go { DeadSymbolsGo }
     ensures counted { DeadItemsCounted }
@@ -74,4 +76,10 @@ pub fn drops_keep_shape()
 /// it has no early error.
 pub fn drops_keep_names()
     ensures { DropsKeepNames }
+{}
+
+/// Each function and each carried node that is left has the frame that it had. The frame of the
+/// program itself isn't spoken of here.
+pub fn drops_keep_frames()
+    ensures { DropsKeepFrames }
 {}
