@@ -67,7 +67,7 @@ root_still : (p : Pruned) → later p ≡ over (earlier p) (children (later p))
 root_still (prune h xs n ps) = refl
 
 module _ (p : Pruned) (rounds : ℕ → ℕ) (dead : DropsDead (earlier p) (gone p) rounds Elsewhere p) (unnamed : Avoids (gone p) (later p)) where
-  only : (s : List ℕ) → gone p (Global s) ≡ false
+  pub only : (s : List ℕ) → gone p (Global s) ≡ false
   only s = by (gone p (Global s)) refl
     where
       by : (b : Bool) → gone p (Global s) ≡ b → gone p (Global s) ≡ false

@@ -105,7 +105,7 @@ pub by_reads : (h : Bool) (env : Environment) (xs : List Name) → NamesScoped R
 by_reads h env [] a = tt
 by_reads h env (x ∷ xs) a = (record { use_made = Read; served = λ y. refl; symbol = a.0 }, by_reads h env xs a.1)
 
-by_hoists : (env : Environment) (xs : List Name) → NamesScoped Hoisted env xs → AllFound true env xs
+pub by_hoists : (env : Environment) (xs : List Name) → NamesScoped Hoisted env xs → AllFound true env xs
 by_hoists env [] a = tt
 by_hoists env (x ∷ xs) a = (record { use_made = Hoisted; served = λ y. refl; symbol = a.0 }, by_hoists env xs a.1)
 

@@ -7,7 +7,7 @@ ghost use Rattle.mini_dead.specs.Differences.{UnansweredDiffers, LoneDeclaration
 ghost use Rattle.mini_dead.specs.Pruned.{PrunedSame};
 ghost use Rattle.mini_dead.specs.PrunedBodies.{PrunedProgram};
 ghost use Rattle.mini_dead.specs.Counting.{DropsCount, NoneGoes};
-ghost use Rattle.mini_dead.specs.Frames.{DropsKeepFrames};
+ghost use Rattle.mini_dead.specs.Frames.{DropsKeepFrames, DropsKeepProgram};
 ghost use Rattle.mini_dead.specs.Marked.{MayGoDrops, DeadSymbolsGo, DeadItemsCounted};
 ghost use Rattle.mini_dead.specs.KeptNames.{DropsKeepNames};
 ghost use Rattle.mini_dead.specs.Drops.{DropsKeepShape, DropsKeepBodies, DroppedBodiesStay};
@@ -78,8 +78,10 @@ pub fn drops_keep_names()
     ensures { DropsKeepNames }
 {}
 
-/// Each function and each carried node that is left has the frame that it had. The frame of the
-/// program itself isn't spoken of here.
+/// Each function and each carried node that is left has the frame that it had, and so has the
+/// program itself, where its names are resolved: its imports, its exports and what a script gives
+/// the global object stay.
 pub fn drops_keep_frames()
-    ensures { DropsKeepFrames }
+    ensures below { DropsKeepFrames }
+    ensures program { DropsKeepProgram }
 {}
