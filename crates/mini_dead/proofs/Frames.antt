@@ -262,7 +262,7 @@ module _ (t : Tree) (D : VariableSet) (rounds : ℕ → ℕ) where
   hidden_same i (declarator_goes c ps) a = absurd a
 
   -- a node with a number that is no program
-  own_same : (strict : Bool) (s : Slot) (h : Shape) (q : Spot) (xs : List Name) (n : ℕ) (ps : Prunings) → Outlined h → Drop q (prune h xs n ps) → fits strict s (node h xs n (earlier_all ps)) ≡ true → own (node h xs n (earlier_all ps)) ≡ own (node h xs n (later_all ps))
+  pub own_same : (strict : Bool) (s : Slot) (h : Shape) (q : Spot) (xs : List Name) (n : ℕ) (ps : Prunings) → Outlined h → Drop q (prune h xs n ps) → fits strict s (node h xs n (earlier_all ps)) ≡ true → own (node h xs n (earlier_all ps)) ≡ own (node h xs n (later_all ps))
   own_same strict s _ q xs n ps of_static_block a e = ap (node shape.StaticBlock xs n) (hidden_same 0 ps (all_stay t D rounds (role shape.StaticBlock q) 0 ps (λ b. b) (λ b. b) a.1))
   own_same strict s h q xs n ps o a e = ap (node h xs n) (shown_same (is_strict_in strict h) (showing h) (filling strict s h) 0 ps a.1 (own_right strict s h o) (right (is_whole (class_of s) h xs n (earlier_all ps)) _ e))
 

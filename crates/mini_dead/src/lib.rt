@@ -7,8 +7,9 @@ ghost use Rattle.mini_dead.specs.Differences.{UnansweredDiffers, LoneDeclaration
 ghost use Rattle.mini_dead.specs.Pruned.{PrunedSame};
 ghost use Rattle.mini_dead.specs.PrunedBodies.{PrunedProgram};
 ghost use Rattle.mini_dead.specs.Counting.{DropsCount, NoneGoes};
-ghost use Rattle.mini_dead.specs.Frames.{DropsKeepFrames};
+ghost use Rattle.mini_dead.specs.Frames.{DropsKeepFrames, DropsKeepProgram};
 ghost use Rattle.mini_dead.specs.Marked.{MayGoDrops, DeadSymbolsGo, DeadItemsCounted};
+ghost use Rattle.mini_dead.specs.KeptNames.{DropsKeepNames};
 ghost use Rattle.mini_dead.specs.Drops.{DropsKeepShape, DropsKeepBodies, DroppedBodiesStay};
 
 /// A body from whose lists of statements items go does what it did, but for the creation of the
@@ -70,8 +71,17 @@ pub fn drops_keep_shape()
     ensures { DropsKeepShape }
 {}
 
-/// Each function and each carried node that is left has the frame that it had. The frame of the
-/// program itself isn't spoken of here.
+/// A program that lost dead items, any number of times, keeps its names: each that is left has the
+/// symbol that the scopes around it give, no symbol is declared twice, nothing else is declared, and
+/// it has no early error.
+pub fn drops_keep_names()
+    ensures { DropsKeepNames }
+{}
+
+/// Each function and each carried node that is left has the frame that it had, and so has the
+/// program itself, where its names are resolved: its imports, its exports and what a script gives
+/// the global object stay.
 pub fn drops_keep_frames()
-    ensures { DropsKeepFrames }
+    ensures below { DropsKeepFrames }
+    ensures program { DropsKeepProgram }
 {}
