@@ -1,15 +1,14 @@
 -- The names of a program from which dead items go.
-use Rattle.std.proofs.Common.{◌≡◌, ℕ, zero, suc, Bool, true, false, List, [], ◌∷◌, ◌++◌, refl, sym, ap, ◌∙◌, subst, subst₂, true≢false, eqb-true, eq-eqb, inl, inr, arith}
-use Rattle.std.specs.Prelude.{◌+◌, ◌≤◌, ◌<◌, ◌⊎◌, nat_eq, Contains, if◌then◌else◌}
+use Rattle.std.proofs.Common.{◌≡◌, ℕ, Bool, true, false, List, [], ◌∷◌, refl, sym, ap, ◌∙◌, subst, subst₂, true≢false, eqb-true, eq-eqb, inl, inr, arith}
+use Rattle.std.specs.Prelude.{◌+◌, ◌≤◌, nat_eq, Contains, if◌then◌else◌}
 use Rattle.std.proofs.lemmas.List.Elements.{Contains-append_left, Contains-append_right, Contains-append_cases}
 use Rattle.mini_model.specs.declared.name.Name.{Name}
-use Rattle.mini_model.specs.Tree.{Tree, Trees, node, none, ◌▸◌, children}
+use Rattle.mini_model.specs.Tree.{Tree, Trees, node, children}
 use Rattle.mini_accept.specs.WellShaped.{IsWellShaped, one, a_program}
 use Rattle.mini_laws.specs.declared.names.Use.TheVariants.{Read}
 use Rattle.mini_laws.specs.Early.{no_targets}
 use Rattle.mini_laws.specs.Scoped.{Scoped}
-use Rattle.mini_laws.specs.Symbols.{declared_symbols}
-use Rattle.mini_laws.specs.Value.{Variable, Declared, Global, VariableSet, variables, is_in}
+use Rattle.mini_laws.specs.Value.{Global}
 use Rattle.mini_laws.specs.Congruence.{Avoids}
 use Rattle.mini_kept.specs.Carried.{numbers}
 use Rattle.mini_kept.specs.Declaring.{declared_by, declared, declared_all}
@@ -17,10 +16,10 @@ use Rattle.mini_kept.specs.Kept.{over}
 use Rattle.mini_kept.specs.KeepsNames.{count_of}
 use Rattle.mini_kept.specs.Lifted.{ProgramKeeps}
 use Rattle.mini_dead.specs.Pruned.{Elsewhere, Pruned, prune, Prunings, end, stays, goes, declarator_goes, earlier, earlier_all, later, later_all, item_tree, declarator_tree}
-use Rattle.mini_dead.specs.Drops.{gone_names, gone, DropsDead, times_in, Drops, DropsAgain, nothing_goes, more_goes}
+use Rattle.mini_dead.specs.Drops.{gone_names, gone, DropsDead, times_in, Drops, nothing_goes, more_goes}
 use Rattle.mini_dead.specs.KeptNames as law
 use Rattle.mini_dead.specs.KeptNames.{NamesStay}
-use Rattle.mini_dead.proofs.Dropping.{Each, named, each_name, known, names_known}
+use Rattle.mini_dead.proofs.Dropping.{named, each_name, known, names_known}
 use Rattle.mini_dead.proofs.Numbers.{fewer}
 use Rattle.mini_dead.proofs.Parameters.{fits_params}
 use Rattle.mini_dead.proofs.Shapes.{drops_keep_shape}

@@ -1,6 +1,6 @@
 -- The parameters of a function have the inner expressions that they had where items go: no list of
 -- statements stands among them but in such an expression (ECMA-262, "FormalParameters").
-use Rattle.std.specs.Prelude.{ℕ, ◌≡◌, refl, ◌⊎◌, ◌||◌, ◌&&◌, not, Bool, true, false, List, [], ◌∷◌, Option, Some, None, pos, negsuc, if◌then◌else◌}
+use Rattle.std.specs.Prelude.{ℕ, ◌≡◌, refl, ◌⊎◌, ◌||◌, ◌&&◌, not, Bool, true, false, List, [], ◌∷◌, Option, Some, None, pos, negsuc}
 use Rattle.std.proofs.Common.{sym, inl, inr}
 use Rattle.std.proofs.lemmas.Bool.{false≢true}
 use Rattle.mini_model.specs.declared.name.Name.{Name}
@@ -9,15 +9,13 @@ use Rattle.mini_model.specs.declared.shape.Shape.TheVariants as shape
 use Rattle.mini_model.specs.Tree.{Tree, Trees, node, none, ◌▸◌}
 use Rattle.mini_accept.specs.WellShaped.{Tagging, is_quasi, are_quasis, in_module, in_body, nested, Class, a_statement, a_method, a_parameter, a_key, a_private_or_key, an_inner, an_inner_key, a_pattern, a_pattern_element, a_pattern_property, a_pattern_rest, Slot, one, one_or_absent, many, many_or_holes, many_and_rest, many_or_holes_and_rest, quasis, Filling, refused, these, each, each_or_last, pieces, slots_of, filling, filling_by, class_of, is_whole, is_strict_in, is_last, fits, fill}
 use Rattle.mini_laws.specs.DeclaredNames.{is_inner}
-use Rattle.mini_model.specs.declared.kind.VariableDeclarationKind.{VariableDeclarationKind}
-use Rattle.mini_model.specs.declared.kind.VariableDeclarationKind.TheVariants.{Var, Let, Const}
 use Rattle.mini_kept.proofs.Bools.{left, right}
 use Rattle.mini_kept.proofs.Expressions.{refused_here}
 use Rattle.std.proofs.Common.{suc, ap, ◌∙◌, subst}
 use Rattle.mini_laws.specs.DeclaredNames.{has_inner, any_inner}
 use Rattle.mini_laws.specs.Value.{VariableSet}
 use Rattle.mini_dead.specs.Pruned.{Spot, Elsewhere, Role, Plain, role, spot_below, Pruned, prune, Prunings, end, stays, goes, declarator_goes, earlier, earlier_all, later, later_all, item_tree, declarator_tree}
-use Rattle.mini_dead.proofs.Sparing.{Tidy, AllTidy, AllStay}
+use Rattle.mini_dead.proofs.Sparing.{Tidy, AllTidy}
 use Rattle.mini_dead.proofs.StillScoped.{ParamsKept, KeepsParams, AllKeepParams}
 
 -- what holds a list of statements, or cases that hold one

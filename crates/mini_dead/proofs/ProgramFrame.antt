@@ -1,30 +1,25 @@
 -- A program from which dead items go has the imports and exports that it had, and a script the
 -- names that it gives the global object.
-use Rattle.std.proofs.Common.{◌≡◌, ℕ, zero, suc, Bool, true, false, List, [], ◌∷◌, ◌++◌, Option, Some, None, refl, sym, ap, ◌∙◌, subst, subst₂, true≢false, eqb-true, eq-eqb}
-use Rattle.std.specs.Prelude.{nat_eq, not, ◌||◌, ◌&&◌, if◌then◌else◌}
-use Rattle.std.specs.List.{list_any}
-use Rattle.std.proofs.lemmas.List.{append-nil}
+use Rattle.std.proofs.Common.{◌≡◌, ℕ, suc, Bool, true, false, List, [], ◌∷◌, ◌++◌, Option, Some, None, refl, sym, ap, ◌∙◌, subst, subst₂, true≢false, eq-eqb}
+use Rattle.std.specs.Prelude.{not, ◌||◌, if◌then◌else◌}
 use Rattle.mini_model.specs.declared.name.Name.{Name}
 use Rattle.mini_model.specs.declared.name.SymbolId.{SymbolId}
-use Rattle.mini_model.specs.declared.shape.Shape.{Shape}
 use Rattle.mini_model.specs.declared.shape.Shape.TheVariants as shape
-use Rattle.mini_model.specs.Tree.{Tree, Trees, node, none, ◌▸◌, children, child_or_absent, shape_of}
-use Rattle.mini_model.specs.Weight.{same_text}
-use Rattle.mini_accept.specs.WellShaped.{Depth, in_module, in_body, a_statement, a_program, Slot, one, many, refused, each, class_of, is_whole, is_strict_in, filling, fits, fill, IsWellShaped}
+use Rattle.mini_model.specs.Tree.{Tree, node, none, ◌▸◌, children, shape_of}
+use Rattle.mini_accept.specs.WellShaped.{Depth, in_module, in_body, a_statement, a_program, one, many, each, is_whole, is_strict_in, fits, fill, IsWellShaped}
 use Rattle.mini_laws.specs.declared.names.Use.{Use}
 use Rattle.mini_laws.specs.declared.names.Use.TheVariants.{Read}
-use Rattle.mini_laws.specs.declared.names.Binding.{Binding}
 use Rattle.mini_laws.specs.declared.names.Declared.TheVariants as declared
 use Rattle.mini_laws.specs.DeclaredNames.{names_of, all_names, body_names, all_body_names}
 use Rattle.mini_laws.specs.Mentions.{same_variable, is_among}
 use Rattle.mini_laws.specs.Resolved.{Environment, or_else, is_for, own_symbol, symbol_of}
-use Rattle.mini_laws.specs.Scopes.{scopes_by, body_scope, opened}
+use Rattle.mini_laws.specs.Scopes.{scopes_by, body_scope}
 use Rattle.mini_laws.specs.ScopeList.{by_symbol, names_in}
 use Rattle.mini_laws.specs.Scoped.{Scoped}
 use Rattle.mini_laws.specs.Shared.{script_tops, is_shared_always}
 use Rattle.mini_laws.specs.Value.{Variable, Declared, Global, VariableSet, variable_by, variable_of, variables, variable_eq, is_in, choose}
 use Rattle.mini_laws.specs.Congruence.{NoneIn, Avoids}
-use Rattle.mini_kept.specs.Frames.{own, is_port, ports, outline, globals, frame_of, Frame}
+use Rattle.mini_kept.specs.Frames.{own, is_port, ports, globals}
 use Rattle.mini_kept.specs.SameNames.{is_among as has_among}
 use Rattle.mini_kept.proofs.Bools.{left, right}
 use Rattle.mini_kept.proofs.Expressions.{refused_here}
@@ -39,8 +34,8 @@ use Rattle.mini_dead.proofs.Dropping.{Each, named, both_parts, each_name}
 use Rattle.mini_dead.proofs.Frames.{own_same}
 use Rattle.mini_dead.proofs.KeptNames.{drops_keep_names, only}
 use Rattle.mini_dead.proofs.Lean.{same_variables}
-use Rattle.mini_dead.proofs.Sparing.{sparing, spared_none, Tidy, AllTidy, tidy, names_spared}
-use Rattle.mini_dead.proofs.SparedScopes.{Found, AllFound, by_hoists, body_found}
+use Rattle.mini_dead.proofs.Sparing.{spared_none, Tidy, AllTidy, tidy, names_spared}
+use Rattle.mini_dead.proofs.SparedScopes.{AllFound, by_hoists, body_found}
 
 -- ---- no other code sees a name that goes
 
@@ -75,7 +70,7 @@ not_seen : (b : Bool) → not b ≡ true → b ≡ false
 not_seen true e = absurd (true≢false (sym e))
 not_seen false e = refl
 
--- it is no top name of a script
+-- a symbol that no other code sees is no top name of a script
 no_top : (t : Tree) (s : ℕ) → is_unseen t s ≡ true → is_among (by_symbol s) (script_tops t) ≡ false
 no_top t s e = first (is_among (by_symbol s) (script_tops t)) _ _ _ _ _ (not_seen (is_shared_always t (by_symbol s)) e)
   where
@@ -104,7 +99,7 @@ unseen_symbol t (x ∷ xs) a z e = by (unseen_symbol t xs a.1 z) (variable_eq (v
 itself_among : (s : SymbolId) (z : Name) → z.symbol ≡ Some s → same_variable (by_symbol s.0) z ≡ true
 itself_among s z e = ap (λ o. same_variable (by_symbol s.0) (record { spelling = z.spelling; symbol = o })) e ∙ eq-eqb s.0 s.0 refl
 
--- so none of a script's top names goes
+-- none of a script's top names goes
 module _ (t : Tree) (D : VariableSet) (xs : List Name) (all : Each (has_name (is_unseen t)) xs) (is_gone : (x : Variable) → D x ≡ true → is_in x (variables xs) ≡ true) where
   none_top : (zs : List Name) → ((s : ℕ) → is_unseen t s ≡ true → is_among (by_symbol s) zs ≡ false) → NoneIn D (variables zs)
   none_top [] f = tt

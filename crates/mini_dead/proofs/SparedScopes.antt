@@ -1,11 +1,10 @@
 -- Each name keeps its symbol where scopes lose names that nothing mentions.
-use Rattle.std.proofs.Common.{◌≡◌, ℕ, zero, suc, Bool, true, false, List, [], ◌∷◌, ◌++◌, Option, Some, None, refl, sym, ap, ◌∙◌, subst, true≢false, append_assoc, arith}
-use Rattle.std.specs.Prelude.{◌+◌, ◌≤◌, ◌&&◌, ◌||◌, length, drop, map, if◌then◌else◌}
+use Rattle.std.proofs.Common.{◌≡◌, ℕ, suc, Bool, true, false, List, [], ◌∷◌, ◌++◌, Option, Some, None, refl, sym, ap, ◌∙◌, subst, true≢false, append_assoc, arith}
+use Rattle.std.specs.Prelude.{◌≤◌, ◌&&◌, ◌||◌, length, drop, if◌then◌else◌}
 use Rattle.std.proofs.lemmas.List.{append-nil}
 use Rattle.mini_model.specs.declared.kind.VariableDeclarationKind.TheVariants.{Var}
 use Rattle.mini_model.specs.declared.name.Name.{Name}
 use Rattle.mini_model.specs.declared.name.SymbolId.{SymbolId}
-use Rattle.mini_model.specs.declared.shape.Shape.{Shape}
 use Rattle.mini_model.specs.declared.shape.Shape.TheVariants as shape
 use Rattle.mini_model.specs.Tree.{Tree, Trees, node, none, ◌▸◌}
 use Rattle.mini_model.specs.Weight.{same_text}
@@ -14,18 +13,18 @@ use Rattle.mini_laws.specs.declared.names.Use.TheVariants.{Read, Hoisted}
 use Rattle.mini_laws.specs.declared.names.Binding.{Binding}
 use Rattle.mini_laws.specs.declared.names.Declared.TheVariants as declared
 use Rattle.mini_laws.specs.declared.names.Opening.TheVariants as opening
-use Rattle.mini_laws.specs.DeclaredNames.{names_of, first_names, all_names, is_spelled, with_names, body_names, all_body_names, is_statement_list}
-use Rattle.mini_laws.specs.Scopes.{is_alone, use_of, opening_of, scopes_by, at_or_empty, opened, lexical_scope, body_scope}
+use Rattle.mini_laws.specs.DeclaredNames.{names_of, first_names, all_names, is_spelled, with_names, body_names, all_body_names}
+use Rattle.mini_laws.specs.Scopes.{is_alone, scopes_by, at_or_empty, opened, lexical_scope, body_scope}
 use Rattle.mini_laws.specs.Resolved.{Environment, or_else, serves, own_symbol, symbol_of}
 use Rattle.mini_laws.specs.Scoped.{NamesScoped, Scoped, AllScoped, NoneCarries, Unmentioned, AllUnmentioned}
-use Rattle.mini_laws.specs.Symbols.{symbols_in, is_same, times}
-use Rattle.mini_laws.specs.Value.{Variable, Declared, Global, VariableSet, variable_by, variable_of, variables}
+use Rattle.mini_laws.specs.Symbols.{symbols_in, times}
+use Rattle.mini_laws.specs.Value.{Global, VariableSet, variable_by, variable_of, variables}
 use Rattle.mini_laws.specs.Congruence.{NoneIn, Avoids, AllAvoid}
 use Rattle.mini_laws.proofs.Drops.{dropped}
 use Rattle.mini_laws.proofs.Numbers.{none_if, symbol_of_both, bound, fresh, with_fresh, not_fresh}
 use Rattle.mini_kept.proofs.SameScopes.{same_texts, text_itself}
 use Rattle.mini_kept.proofs.Hoisting.{bound_scoped, hoisted_scoped}
-use Rattle.mini_dead.proofs.Sparing.{sparing, spared_both}
+use Rattle.mini_dead.proofs.Sparing.{sparing}
 
 -- ---- the names that a scoped tree declares directly have the symbols that the scopes around give
 
@@ -109,7 +108,7 @@ pub by_hoists : (env : Environment) (xs : List Name) → NamesScoped Hoisted env
 by_hoists env [] a = tt
 by_hoists env (x ∷ xs) a = (record { use_made = Hoisted; served = λ y. refl; symbol = a.0 }, by_hoists env xs a.1)
 
--- those of a body
+-- the names of a body of statements are found so
 mutual
   unfolding body_names Scoped scopes_by
 
@@ -229,7 +228,7 @@ module _ (D : VariableSet) (only : (s : List ℕ) → D (Global s) ≡ false) wh
             ∙ ap (λ o. or_else (or_else o (own_symbol u x.spelling (record { name = x; hoists = h }))) (symbol_of u x.spelling (bound h before))) (unspelled u x.spelling h after last)
             ∙ ap (λ o. or_else o (symbol_of u x.spelling (bound h before))) (own ∙ q) ∙ sym q
 
-    -- so of the names that are spelled like it none stays
+    -- of the names that are spelled like the first one of a spelling, which goes, none stays
     none_like : (ys : List Name) → AllFound h (env ++ bound h (before ++ x ∷ after)) ys → is_spelled x.spelling (sparing D ys) ≡ false
     none_like [] a = refl
     none_like (y ∷ ys) a = by (none_like ys a.1) (D (variable_of y)) refl (same_text y.spelling x.spelling) refl

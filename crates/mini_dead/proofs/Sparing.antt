@@ -1,8 +1,7 @@
 -- The names that a tree declares from which items go: those that it declared, but the ones that go.
 use Rattle.std.proofs.Common.{◌≡◌, ℕ, zero, suc, Bool, true, false, List, [], ◌∷◌, ◌++◌, refl, sym, ap, ◌∙◌, subst, true≢false}
 use Rattle.std.specs.Prelude.{if◌then◌else◌}
-use Rattle.mini_model.specs.declared.kind.VariableDeclarationKind.{VariableDeclarationKind}
-use Rattle.mini_model.specs.declared.kind.VariableDeclarationKind.TheVariants.{Var, Let, Const}
+use Rattle.mini_model.specs.declared.kind.VariableDeclarationKind.TheVariants.{Var}
 use Rattle.mini_model.specs.declared.name.Name.{Name}
 use Rattle.mini_model.specs.declared.shape.Shape.{Shape}
 use Rattle.mini_model.specs.declared.shape.Shape.TheVariants as shape
@@ -11,12 +10,11 @@ use Rattle.mini_laws.specs.declared.names.Declared.{Declared}
 use Rattle.mini_laws.specs.declared.names.Declared.TheVariants as declared
 use Rattle.mini_laws.specs.declared.names.Place.{Place}
 use Rattle.mini_laws.specs.declared.names.Place.TheVariants as place
-use Rattle.mini_laws.specs.DeclaredNames.{place_of, bound_place, names_by, names_of, first_names, all_names, is_statement_list, body_names, all_body_names}
-use Rattle.mini_laws.specs.Naming.{is_lexical}
+use Rattle.mini_laws.specs.DeclaredNames.{place_of, names_by, names_of, first_names, all_names, is_statement_list, body_names, all_body_names}
 use Rattle.mini_laws.specs.Value.{VariableSet, variable_of, variables}
 use Rattle.mini_laws.specs.Congruence.{NoneIn, Avoids, AllAvoid}
-use Rattle.mini_dead.specs.Pruned.{Spot, Elsewhere, Statements, AStatement, Declarators, CaseList, OneCase, Role, Plain, StatementList, DeclaratorList, role, spot_below, own_name, Declarator, declarator, declarator_tree, declarator_trees, Item, function_item, declaration_item, lone_item, item_tree, Pruned, prune, Prunings, end, stays, goes, declarator_goes, earlier, earlier_all, later, later_all, HoldsItems, HoldsDeclarators}
-use Rattle.mini_dead.specs.Drops.{declarator_name, declarator_names, item_names, gone_names, all_gone_names, DropsDead, AllDropDead, KeepsDeclarator}
+use Rattle.mini_dead.specs.Pruned.{Spot, Elsewhere, Statements, AStatement, Declarators, CaseList, OneCase, Role, Plain, role, spot_below, Declarator, declarator, declarator_tree, declarator_trees, Item, function_item, declaration_item, lone_item, item_tree, Pruned, prune, Prunings, end, stays, goes, declarator_goes, earlier, earlier_all, later, later_all, HoldsItems, HoldsDeclarators}
+use Rattle.mini_dead.specs.Drops.{declarator_name, declarator_names, item_names, gone_names, all_gone_names, DropsDead, AllDropDead}
 use Rattle.mini_dead.proofs.Dropping.{Each, named, first_part, last_part}
 
 -- ---- lists of names without those of a set
@@ -79,7 +77,7 @@ listed declared.Bound xs n ts = refl
 listed declared.Lexical xs n ts = refl
 listed declared.Hoisted xs n ts = refl
 
--- the child at a place
+-- the child at a place of a node all of whose children stay
 abbrev absent_pruned : Pruned
 absent_pruned = prune shape.Absent [] 0 end
 

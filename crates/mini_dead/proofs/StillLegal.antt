@@ -1,25 +1,23 @@
 -- A tree without early errors has none once items are gone: fewer names are declared, and each jump
 -- keeps its target.
-use Rattle.std.proofs.Common.{◌≡◌, ℕ, zero, suc, Bool, true, false, List, [], ◌∷◌, ◌++◌, refl, sym, ap, ◌∙◌, subst, subst₂, arith, true≢false}
-use Rattle.std.specs.Prelude.{not, ◌&&◌, ◌≤◌, unwrap_or, if◌then◌else◌}
+use Rattle.std.proofs.Common.{◌≡◌, ℕ, suc, Bool, true, false, List, [], ◌∷◌, ◌++◌, refl, sym, ap, ◌∙◌, subst, subst₂, arith}
+use Rattle.std.specs.Prelude.{not, ◌&&◌, unwrap_or, if◌then◌else◌}
 use Rattle.mini_model.specs.declared.name.Name.{Name}
 use Rattle.mini_model.specs.declared.shape.Shape.{Shape}
 use Rattle.mini_model.specs.declared.shape.Shape.TheVariants as shape
-use Rattle.mini_model.specs.Tree.{Tree, Trees, node, none, ◌▸◌, shape_of, child_or_absent}
+use Rattle.mini_model.specs.Tree.{Trees, node, shape_of, child_or_absent}
 use Rattle.mini_laws.specs.declared.names.Clash.{Clash}
 use Rattle.mini_laws.specs.declared.names.Clash.TheVariants as clash
 use Rattle.mini_laws.specs.declared.names.Declaration.{Declaration}
 use Rattle.mini_laws.specs.declared.names.Declared.{Declared}
 use Rattle.mini_laws.specs.declared.names.Declared.TheVariants as declared
-use Rattle.mini_laws.specs.declared.names.Jump.{Jump}
-use Rattle.mini_laws.specs.declared.names.Jump.TheVariants as jump
 use Rattle.mini_laws.specs.declared.names.Place.{Place}
 use Rattle.mini_laws.specs.declared.names.Place.TheVariants as place
 use Rattle.mini_laws.specs.declared.names.Targets.{Targets}
 use Rattle.mini_laws.specs.declared.names.Turn.{Turn}
 use Rattle.mini_laws.specs.declared.names.Turn.TheVariants as turn
 use Rattle.mini_laws.specs.DeclaredNames.{place_of}
-use Rattle.mini_laws.specs.Early.{Path, choose_by, own_declarations, declarations, first_declarations, all_declarations, is_function_shape, statement_declarations, holds_statements, body_declarations, all_body_declarations, is_pattern_shape, clash_of, at_child, in_body, children_of_node, in_param, in_block, declarations_by, scope_declarations, clashing, early_names, all_early_names, label_by, label_in, is_labeled, is_loop_shape, is_loop, last_is_loop, last_by, turn_of, label_for, turned, targets_of, jump_of, is_bad, is_bad_jump, early_jumps, all_early_jumps}
+use Rattle.mini_laws.specs.Early.{Path, choose_by, own_declarations, declarations, first_declarations, all_declarations, is_function_shape, statement_declarations, holds_statements, body_declarations, all_body_declarations, is_pattern_shape, clash_of, at_child, in_body, children_of_node, in_param, in_block, declarations_by, scope_declarations, clashing, early_names, all_early_names, label_by, is_loop, last_is_loop, last_by, turn_of, turned, targets_of, jump_of, is_bad, is_bad_jump, early_jumps, all_early_jumps}
 use Rattle.mini_laws.specs.Value.{VariableSet}
 use Rattle.mini_kept.specs.KeepsNames.{unplaced}
 use Rattle.mini_kept.specs.SameNames.{NoMoreClash}

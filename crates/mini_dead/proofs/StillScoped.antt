@@ -1,21 +1,20 @@
 -- Each name of a scoped tree keeps its symbol where items go.
 use Rattle.std.proofs.Common.{◌≡◌, ℕ, zero, suc, Bool, true, false, List, [], ◌∷◌, ◌++◌, Option, refl, sym, ap, ◌∙◌, subst, append_assoc, arith}
-use Rattle.std.specs.Prelude.{◌+◌, ◌≤◌, if◌then◌else◌}
+use Rattle.std.specs.Prelude.{◌≤◌, if◌then◌else◌}
 use Rattle.std.proofs.lemmas.List.{append-nil}
-use Rattle.mini_model.specs.declared.kind.VariableDeclarationKind.{VariableDeclarationKind}
-use Rattle.mini_model.specs.declared.kind.VariableDeclarationKind.TheVariants.{Var, Let, Const}
+use Rattle.mini_model.specs.declared.kind.VariableDeclarationKind.TheVariants.{Var}
 use Rattle.mini_model.specs.declared.name.Name.{Name}
 use Rattle.mini_model.specs.declared.name.SymbolId.{SymbolId}
 use Rattle.mini_model.specs.declared.shape.Shape.{Shape}
 use Rattle.mini_model.specs.declared.shape.Shape.TheVariants as shape
 use Rattle.mini_model.specs.Tree.{Tree, Trees, node, none, ◌▸◌, is_absent}
 use Rattle.mini_laws.specs.declared.names.Use.{Use}
-use Rattle.mini_laws.specs.declared.names.Use.TheVariants.{Read, Write}
+use Rattle.mini_laws.specs.declared.names.Use.TheVariants.{Read}
 use Rattle.mini_laws.specs.declared.names.Binding.{Binding}
 use Rattle.mini_laws.specs.declared.names.Declared.TheVariants as declared
 use Rattle.mini_laws.specs.declared.names.Opening.TheVariants as opening
 use Rattle.mini_laws.specs.DeclaredNames.{names_of, has_inner, body_names, bound_names}
-use Rattle.mini_laws.specs.Scopes.{is_alone, use_of, opening_of, scopes_by, at_or_empty, opened, lexical_scope, body_scope, merged, name_if}
+use Rattle.mini_laws.specs.Scopes.{is_alone, use_of, scopes_by, at_or_empty, opened, lexical_scope, body_scope, merged, name_if}
 use Rattle.mini_laws.specs.Resolved.{Environment, plain_name, written_name}
 use Rattle.mini_laws.specs.Scoped.{NamesScoped, AreNames, OwnScoped, Scoped, AllScoped}
 use Rattle.mini_laws.specs.Symbols.{symbols_in, declared as declared_in, declared_from, times, Within}
@@ -25,7 +24,7 @@ use Rattle.mini_laws.proofs.Changes.{times_three}
 use Rattle.mini_laws.proofs.Writing.{SpelledAlike, written_over}
 use Rattle.mini_kept.proofs.Hoisting.{bound_scoped}
 use Rattle.mini_dead.specs.Pruned.{Spot, Elsewhere, Role, role, spot_below, Pruned, prune, Prunings, end, stays, goes, declarator_goes, earlier, earlier_all, later, later_all}
-use Rattle.mini_dead.proofs.Sparing.{sparing, Tidy, AllTidy, AllStay, is_list, list_or_not, children_stay, names_spared, body_spared, bound_stays}
+use Rattle.mini_dead.proofs.Sparing.{Tidy, AllTidy, AllStay, is_list, list_or_not, children_stay, names_spared, body_spared, bound_stays}
 use Rattle.mini_dead.proofs.SparedScopes.{lexical_scoped, by_reads, body_found, spared_bindings, body_scope_spared, lexical_scope_spared, bindings_both, fewer_symbols, spared_scoped}
 
 -- ---- the parameters of functions have the inner expressions that they had

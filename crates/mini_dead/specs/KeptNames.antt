@@ -1,5 +1,5 @@
--- What a program that loses dead items keeps of its names: `function g() { function h() {} return 1; }`
--- without h resolves each name that is left as before.
+-- What a program that loses dead items keeps of its names: each name that is left in
+-- `function g() { function h() {} return g; }` without h is resolved as before.
 use Rattle.std.specs.Prelude.{◌≡◌, ℕ, Contains}
 use Rattle.mini_model.specs.declared.name.Name.{Name}
 use Rattle.mini_model.specs.Tree.{Tree, children}
