@@ -5,14 +5,13 @@ use Rattle.std.specs.Prelude.{◌≡◌, ℕ, suc, ◌+◌, ◌<◌, nat_eq, Boo
 use Rattle.std.specs.List.{list_any}
 use Rattle.mini_model.specs.declared.name.Name.{Name}
 use Rattle.mini_model.specs.declared.name.SymbolId.{SymbolId}
-use Rattle.mini_model.specs.Tree.{Tree, Trees}
+use Rattle.mini_model.specs.Tree.{Tree}
 use Rattle.mini_accept.specs.WellShaped.{IsWellShaped}
-use Rattle.mini_laws.specs.declared.names.Use.{Use}
 use Rattle.mini_laws.specs.declared.names.Use.TheVariants.{Read}
 use Rattle.mini_laws.specs.References.{Reference, references, references_from}
 use Rattle.mini_laws.specs.Shared.{is_shared_always, is_shared}
 use Rattle.mini_laws.specs.ScopeList.{by_symbol}
-use Rattle.mini_laws.specs.Value.{Variable, Declared, Global, VariableSet, variable_of, variables, is_in}
+use Rattle.mini_laws.specs.Value.{Declared, Global, VariableSet, variable_of, variables, is_in}
 use Rattle.mini_laws.specs.Writable.{mentions}
 use Rattle.mini_laws.specs.Congruence.{Avoids}
 use Rattle.mini_laws.specs.Body.{environment_in}
@@ -21,7 +20,7 @@ use Rattle.mini_kept.specs.Carried.{numbers}
 use Rattle.mini_dead.specs.Creations.{FunctionSet, SameWithout}
 use Rattle.mini_dead.specs.Pruned.{Spot, Elsewhere, Role, DeclaratorList, role, spot_below, Initializer, without_effect, of_function, initializer_tree, Declarator, declarator, Item, function_item, declaration_item, lone_item, Pruned, prune, Prunings, end, stays, goes, declarator_goes, earlier, later, HoldsItems, HoldsDeclarators}
 use Rattle.mini_dead.specs.PrunedBodies.{BodiesWithout}
-use Rattle.mini_dead.specs.Dead.{is_without_effect}
+use Rattle.mini_dead.specs.Dead.{is_without_effect, has_name}
 
 -- ---- what goes
 
@@ -90,8 +89,11 @@ module _ (t : Tree) (D : VariableSet) (rounds : ℕ → ℕ) where
   InitializerIsDead (of_function f) = Unit {0}
 
   -- no other code sees the name, and what goes with it refers to names of later rounds
+  abbrev pub is_unseen : ℕ → Bool
+  is_unseen s = not (is_shared_always t (by_symbol s))
+
   abbrev pub NameIsDead : Name → List Reference → Type 0
-  NameIsDead x rs = (is_shared_always t x ≡ false) × GoLater (round_of rounds x) rs
+  NameIsDead x rs = (has_name is_unseen x ≡ true) × GoLater (round_of rounds x) rs
 
   abbrev pub DeclaratorIsDead : Declarator → Type 0
   DeclaratorIsDead (declarator n x m init) = NameIsDead x (references Read (initializer_tree init)) × InitializerIsDead init
@@ -141,6 +143,10 @@ pub record Drops (t u : Tree) (n : ℕ) : Type 0 where
 pub data DropsAgain : Tree → Tree → ℕ → Type 0 where
   nothing_goes : (t : Tree) → DropsAgain t t 0
   more_goes : (t u v : Tree) (m n : ℕ) → DropsAgain t u m → Drops u v n → DropsAgain t v (m + n)
+
+-- a program from which dead items go is a program of ESTree still
+abbrev pub DropsKeepShape : Type 0
+DropsKeepShape = (t u : Tree) (n : ℕ) → DropsAgain t u n → IsWellShaped t → IsWellShaped u
 
 -- ---- what a program does without them
 
