@@ -2,7 +2,7 @@
 use Rattle.std.proofs.Common.{◌≡◌, ℕ, zero, suc, ◌+◌, ◌<◌, Bool, false, List, [], ◌∷◌, ◌++◌, length, refl, sym, ap, ◌∙◌, subst, arith}
 use Rattle.std.specs.Prelude.{not, nat_eq, ◌&&◌, ◌||◌, slice_index, replicate}
 use Rattle.mini_model.specs.Tree.{Tree}
-use Rattle.mini_laws.specs.References.{reads, writes, read_count}
+use Rattle.mini_laws.specs.References.{read_count}
 use Rattle.mini_laws.specs.Mentions.{is_among}
 use Rattle.mini_laws.specs.Shared.{is_shared_always, script_tops, module_names, reached_by_arguments, caught}
 use Rattle.mini_laws.specs.ScopeList.{by_symbol, seen_by_eval}
@@ -11,9 +11,9 @@ use Rattle.mini_context.specs.declared.context.TraverseCtx.{TraverseCtx}
 use Rattle.mini_context.specs.Facts.{Facts, Told, shared_always}
 use Rattle.mini_context.specs.Holders.{AllBelow}
 use Rattle.mini_context.specs.Known.{Knows}
+use Rattle.mini_context.specs.Laws.{CountsTell}
 use Rattle.mini_context.specs.Tables.{mark_at, named}
 use Rattle.mini_context.proofs.Known.{told_length}
-use Rattle.mini_context.proofs.Numbers.{counts_are_times}
 use Rattle.mini_dead.specs.Pruned.{Elsewhere}
 use Rattle.mini_dead.specs.Dead.{declares_otherwise, is_unreferenced, is_dead_symbol}
 use Rattle.mini_drop.specs.Symbols.{Adds, DeadSymbols, ListsDead, dead_by, unreferenced_by}
@@ -50,14 +50,14 @@ always_shared f n t w s h =
     ∙ ap (λ b. is_among (named s) (script_tops t) || is_among (named s) (module_names t) || is_among (named s) (seen_by_eval t) || is_among (named s) (reached_by_arguments false t) || b || mark_at f.pattern_writes s) (w.looked.caught_told s h)
     ∙ ap (λ b. is_among (named s) (script_tops t) || is_among (named s) (module_names t) || is_among (named s) (seen_by_eval t) || is_among (named s) (reached_by_arguments false t) || is_among (named s) (caught t) || b) (w.looked.pattern_writes_told s h)
 
-unreferenced : (f : Facts) (n : ℕ) (t : Tree) → Told f n t → (s : ℕ) → s < n → unreferenced_by f s ≡ is_unreferenced t s
-unreferenced f n t w s h =
-    ap (λ k. nat_eq k 0 && nat_eq (slice_index f.writes s) 0) (ap (λ ks. slice_index ks s) w.reads_told ∙ counts_are_times reads n t s h)
-    ∙ ap (λ k. nat_eq (read_count s t) 0 && nat_eq k 0) (ap (λ ks. slice_index ks s) w.writes_told ∙ counts_are_times writes n t s h)
+unreferenced : CountsTell → (f : Facts) (n : ℕ) (t : Tree) → Told f n t → (s : ℕ) → s < n → unreferenced_by f s ≡ is_unreferenced t s
+unreferenced counts f n t w s h =
+    ap (λ k. nat_eq k 0 && nat_eq (slice_index f.writes s) 0) (ap (λ ks. slice_index ks s) w.reads_told ∙ (counts n t s h).0)
+    ∙ ap (λ k. nat_eq (read_count s t) 0 && nat_eq k 0) (ap (λ ks. slice_index ks s) w.writes_told ∙ (counts n t s h).1)
 
-dead_told : (f : Facts) (n : ℕ) (t : Tree) → Told f n t → (s : ℕ) → s < n → (b : Bool) → b ≡ declares_otherwise s Elsewhere t → dead_by f s b ≡ is_dead_symbol t s
-dead_told f n t w s h b e =
-    ap (λ c. c && (not b && not (shared_always f s))) (unreferenced f n t w s h)
+dead_told : CountsTell → (f : Facts) (n : ℕ) (t : Tree) → Told f n t → (s : ℕ) → s < n → (b : Bool) → b ≡ declares_otherwise s Elsewhere t → dead_by f s b ≡ is_dead_symbol t s
+dead_told counts f n t w s h b e =
+    ap (λ c. c && (not b && not (shared_always f s))) (unreferenced counts f n t w s h)
     ∙ ap (λ c. is_unreferenced t s && (not c && not (shared_always f s))) e
     ∙ ap (λ c. is_unreferenced t s && (not (declares_otherwise s Elsewhere t) && not c)) (always_shared f n t w s h)
 
@@ -70,14 +70,14 @@ many : (n : ℕ) → length {A = Bool} (replicate n false) ≡ n
 many zero = refl
 many (suc n) = ap suc (many n)
 
-pub all_listed : (c : TraverseCtx) (t : Tree) → ((o : CompressOptions) × Knows c o t) → (n : ℕ) (xs ys zs : List Bool) → n ≡ length c.scopes.reads → xs ≡ replicate n false → Adds (λ s. declares_otherwise s Elsewhere t) xs ys → ListsDead c.scopes ys n zs → DeadSymbols t zs
-all_listed c t (o, k) n xs ys zs e f a w =
+pub all_listed : CountsTell → (c : TraverseCtx) (t : Tree) → ((o : CompressOptions) × Knows c o t) → (n : ℕ) (xs ys zs : List Bool) → n ≡ length c.scopes.reads → xs ≡ replicate n false → Adds (λ s. declares_otherwise s Elsewhere t) xs ys → ListsDead c.scopes ys n zs → DeadSymbols t zs
+all_listed counts c t (o, k) n xs ys zs e f a w =
     let room : length k.told.reads ≡ n = sym (told_length c.scopes (length k.told.reads) t k.refreshed.told) ∙ sym e in
     let told : Told c.scopes n t = subst (λ m. Told c.scopes m t) room k.refreshed.told in
     let long : length xs ≡ n = ap length f ∙ many n in
     record {
       each = λ s h.
           let l : s < n = omega (arith, h, w.symbols) in
-          w.each s l ∙ dead_told c.scopes n t told s l (mark_at ys s) (a.each s (omega (arith, l, long)) ∙ ap (λ us. mark_at us s || declares_otherwise s Elsewhere t) f ∙ ap (λ b. b || declares_otherwise s Elsewhere t) (none_marked n s));
+          w.each s l ∙ dead_told counts c.scopes n t told s l (mark_at ys s) (a.each s (omega (arith, l, long)) ∙ ap (λ us. mark_at us s || declares_otherwise s Elsewhere t) f ∙ ap (λ b. b || declares_otherwise s Elsewhere t) (none_marked n s));
       whole = subst (λ m. AllBelow m t) (sym w.symbols) told.whole;
     }

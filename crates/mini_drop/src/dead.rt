@@ -3,12 +3,15 @@
 ghost use Rattle.std.specs.Prelude.{◌≡◌, ℕ, ◌<◌, ◌&&◌, ◌++◌, ◌∷◌, [], nat_eq, slice_index, length, replicate, false, not, IfOk, OnOk};
 ghost use Rattle.mini_tree.specs.declared.options.CompressOptions.{CompressOptions};
 ghost use Rattle.mini_context.specs.Tables.{mark_at};
+ghost use Rattle.mini_context.specs.Facts.{shared_always};
 ghost use Rattle.mini_context.specs.Known.{Knows};
 ghost use Rattle.mini_drop.specs.Symbols.{DeadSymbols, ListsDead, dead_by, unreferenced_by};
 
 use crate::declared::mark_declared;
+use crate::homes::{first_homes, home_of, note_homes};
 use crate::place::Spot;
-use mini_context::{TraverseCtx, is_marked, no_marks};
+use crate::tables::{is_marked, no_marks};
+use mini_context::{TraverseCtx, counts_tell};
 use mini_model::{OutOfMemory, SymbolId};
 use mini_node::Node;
 use std::alloc::Global;
@@ -19,11 +22,33 @@ fn is_unreferenced(context: &TraverseCtx, symbol: u32) -> bool
     context.scopes.reads(SymbolId(symbol)) == 0 && context.scopes.writes(SymbolId(symbol)) == 0
 }
 
-// Whether a symbol is dead, of which it is told whether anything but an item declares it.
-fn is_dead(context: &TraverseCtx, symbol: u32, is_declared: bool) -> bool
-    ensures { result ≡ dead_by context.now.scopes symbol is_declared }
+// Whether every body shares a symbol that mentions it, which is told of a body that alone mentions
+// it. Memory counts as run out where another one does, too: a program that was resolved has no
+// symbol that items alone declare in more than one body, and that nothing refers to.
+fn is_shared_always(context: &TraverseCtx, symbol: u32, home: u32) -> Result<bool, OutOfMemory>
+    ensures { IfOk result (λ shared. shared ≡ shared_always context.now.scopes symbol) }
 {
-    is_unreferenced(context, symbol) && (!is_declared && !context.scopes.is_shared_always(symbol))
+    if context.scopes.is_mentioned_outside(SymbolId(symbol), home) {
+        return Err(OutOfMemory);
+    }
+    Ok(context.scopes.is_shared(SymbolId(symbol), home))
+}
+
+// Whether a symbol is dead, of which it is told whether anything but an item declares it, and in
+// which body it is declared.
+fn is_dead(
+    context: &TraverseCtx,
+    symbol: u32,
+    is_declared: bool,
+    home: u32,
+) -> Result<bool, OutOfMemory>
+    ensures { IfOk result (λ dead. dead ≡ dead_by context.now.scopes symbol is_declared) }
+{
+    if !is_unreferenced(context, symbol) || is_declared {
+        return Ok(false);
+    }
+    let shared = is_shared_always(context, symbol, home)?;
+    Ok(!shared)
 }
 
 fn push(marks: &mut Vec<bool>, mark: bool) -> Result<(), OutOfMemory>
@@ -39,6 +64,7 @@ fn push(marks: &mut Vec<bool>, mark: bool) -> Result<(), OutOfMemory>
 fn list_dead(
     alloc: Global,
     declared: &[bool],
+    homes: &[u32],
     context: &TraverseCtx,
     room: u32,
 ) -> Result<Vec<bool>, OutOfMemory>
@@ -46,21 +72,23 @@ fn list_dead(
 {
     let mut dead = Vec::new(alloc);
     for symbol in 0..room {
-        push(
-            &mut dead,
-            is_dead(context, symbol, is_marked(declared, symbol)),
-        )?;
+        let home = home_of(homes, symbol);
+        let mark = is_dead(context, symbol, is_marked(declared, symbol), home)?;
+        push(&mut dead, mark)?;
     }
     Ok(dead)
 }
 
+// For how many symbols there is room. Memory counts as run out where there are 2^32 - 1.
 fn room_of(context: &TraverseCtx) -> Result<u32, OutOfMemory>
     ensures { IfOk result (λ room. room ≡ length context.now.scopes.reads) }
 {
-    match u32::try_from(context.scopes.room()) {
-        Ok(room) => Ok(room),
-        Err(_) => Err(OutOfMemory),
+    for symbol in 0..u32::MAX {
+        if context.scopes.is_past(SymbolId(symbol)) {
+            return Ok(symbol);
+        }
     }
+    Err(OutOfMemory)
 }
 
 /// The dead symbols of a program that the context knows. The only error is that memory runs out.
@@ -72,8 +100,11 @@ pub fn dead_symbols(
     requires { ((o : CompressOptions) × Knows context.now o program.now) }
     ensures { IfOk result (λ dead. DeadSymbols program.now dead.items) }
 {
+    counts_tell();
     let room = room_of(context)?;
+    let mut homes = first_homes(alloc, room)?;
+    note_homes(&mut homes, 0, program);
     let mut declared = no_marks(alloc, room)?;
     mark_declared(&mut declared, Spot::Elsewhere, program);
-    list_dead(alloc, declared.as_slice(), context, room)
+    list_dead(alloc, declared.as_slice(), homes.as_slice(), context, room)
 }

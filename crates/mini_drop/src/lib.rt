@@ -4,8 +4,10 @@
 mod dead;
 mod declared;
 mod dropping;
+mod homes;
 mod items;
 mod place;
 mod rounds;
+mod tables;
 
 pub use rounds::drop_dead;
