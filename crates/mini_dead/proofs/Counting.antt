@@ -1,21 +1,20 @@
 -- Counts of references, once items are gone.
-use Rattle.std.proofs.Common.{◌≡◌, ℕ, zero, suc, Bool, true, false, List, [], ◌∷◌, ◌++◌, length, refl, sym, ap, ◌∙◌, subst, subst₂, inl, inr, arith}
-use Rattle.std.specs.Prelude.{◌+◌, ◌⊎◌, cond, count_by, ◌&&◌}
+use Rattle.std.proofs.Common.{◌≡◌, ℕ, suc, Bool, List, [], ◌∷◌, ◌++◌, refl, sym, ap, ◌∙◌, subst, subst₂, inl, inr, arith}
+use Rattle.std.specs.Prelude.{◌+◌, ◌⊎◌, cond, ◌&&◌}
 use Rattle.std.proofs.lemmas.List.Sums.{sum_by-append}
 use Rattle.mini_model.specs.declared.kind.VariableDeclarationKind.{VariableDeclarationKind}
 use Rattle.mini_model.specs.declared.kind.VariableDeclarationKind.TheVariants.{Var}
-use Rattle.mini_model.specs.declared.name.Name.{Name}
 use Rattle.mini_model.specs.declared.shape.Shape.{Shape}
 use Rattle.mini_model.specs.declared.shape.Shape.TheVariants as shape
-use Rattle.mini_model.specs.Tree.{Tree, Trees, node, none, ◌▸◌}
+use Rattle.mini_model.specs.Tree.{Tree, node, ◌▸◌}
 use Rattle.mini_laws.specs.declared.names.Use.{Use}
 use Rattle.mini_laws.specs.declared.names.Use.TheVariants.{Read}
 use Rattle.mini_laws.specs.Value.{VariableSet}
 use Rattle.mini_laws.specs.Scopes.{use_of, hoisted_by}
 use Rattle.mini_laws.specs.References.{Reference, has_symbol, reads, writes, own_references, references, references_from}
 use Rattle.mini_laws.specs.Counts.{times_of}
-use Rattle.mini_dead.specs.Pruned.{Spot, Elsewhere, Role, role, spot_below, Initializer, initializer_tree, own_name, Declarator, declarator, declarator_tree, declarator_trees, Item, function_item, declaration_item, lone_item, item_tree, Pruned, prune, Prunings, end, stays, goes, declarator_goes, earlier, earlier_all, later, later_all, HoldsItems, HoldsDeclarators}
-use Rattle.mini_dead.specs.Drops.{item_count, gone, gone_count, all_gone_count, DropsDead, AllDropDead, Drops, DropsAgain, nothing_goes, more_goes}
+use Rattle.mini_dead.specs.Pruned.{Spot, Elsewhere, Role, role, spot_below, Declarator, declarator, declarator_tree, declarator_trees, Item, function_item, declaration_item, lone_item, item_tree, Pruned, prune, Prunings, end, stays, goes, declarator_goes, earlier, earlier_all, later, later_all, HoldsItems, HoldsDeclarators}
+use Rattle.mini_dead.specs.Drops.{item_count, gone, gone_count, all_gone_count, DropsDead, AllDropDead, Drops, nothing_goes, more_goes}
 use Rattle.mini_dead.specs.Counting as law
 use Rattle.mini_dead.specs.Counting.{gone_references, all_gone_references, CountsFall}
 

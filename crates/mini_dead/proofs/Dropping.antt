@@ -31,11 +31,11 @@ abbrev pub Each : {A : Type 0} → (A → Bool) → List A → Type 0
 Each f [] = Unit {0}
 Each f (x ∷ xs) = (f x ≡ true) × Each f xs
 
-first_part : {A : Type 0} (f : A → Bool) (xs ys : List A) → Each f (xs ++ ys) → Each f xs
+pub first_part : {A : Type 0} (f : A → Bool) (xs ys : List A) → Each f (xs ++ ys) → Each f xs
 first_part f [] ys a = tt
 first_part f (x ∷ xs) ys a = (a.0, first_part f xs ys a.1)
 
-last_part : {A : Type 0} (f : A → Bool) (xs ys : List A) → Each f (xs ++ ys) → Each f ys
+pub last_part : {A : Type 0} (f : A → Bool) (xs ys : List A) → Each f (xs ++ ys) → Each f ys
 last_part f [] ys a = a
 last_part f (x ∷ xs) ys a = last_part f xs ys a.1
 
@@ -56,7 +56,7 @@ later_name y x xs p = by (variable_eq x y)
     by true = refl
     by false = p
 
-each_name : (f : Name → Bool) (xs : List Name) → ((x : Name) → is_in (variable_of x) (variables xs) ≡ true → f x ≡ true) → Each f xs
+pub each_name : (f : Name → Bool) (xs : List Name) → ((x : Name) → is_in (variable_of x) (variables xs) ≡ true → f x ≡ true) → Each f xs
 each_name f [] h = tt
 each_name f (x ∷ xs) h = (h x (ap (λ b. choose b true (is_in (variable_of x) (variables xs))) (itself (variable_of x))), each_name f xs (λ y p. h y (later_name (variable_of y) (variable_of x) (variables xs) p)))
 
@@ -77,7 +77,7 @@ module _ (t : Tree) (D : VariableSet) (rounds : ℕ → ℕ) (d : FunctionSet) (
   takes true x p = tt
   takes false x p = may x p
 
-  initializer_goes : (i : Initializer) → InitializerIsDead t D rounds i → Each d (initializer_functions i) → InitializerGoes d D e i
+  initializer_goes : (i : Initializer) → InitializerIsDead i → Each d (initializer_functions i) → InitializerGoes d D e i
   initializer_goes (without_effect c) a f = λ s. without_effect_still e c a s
   initializer_goes (of_function v) a f = f.0
 
@@ -127,10 +127,10 @@ abbrev has_symbol_at_all : Name → Bool
 has_symbol_at_all x = is_some x.symbol
 
 module _ (t : Tree) (D : VariableSet) (rounds : ℕ → ℕ) where
-  some_symbol : (x : Name) → has_name (is_unseen t D rounds) x ≡ true → is_some x.symbol ≡ true
+  some_symbol : (x : Name) → has_name (is_unseen t) x ≡ true → is_some x.symbol ≡ true
   some_symbol x p = by x.symbol p
     where
-      by : (o : Option SymbolId) → has_it (is_unseen t D rounds) o ≡ true → is_some o ≡ true
+      by : (o : Option SymbolId) → has_it (is_unseen t) o ≡ true → is_some o ≡ true
       by (Some s) q = refl
       by None q = absurd (true≢false (sym q))
 
@@ -147,7 +147,7 @@ module _ (t : Tree) (D : VariableSet) (rounds : ℕ → ℕ) where
   item_known (lone_item xs n f) a = tt
 
   mutual
-    names_known : (p : Spot) (x : Pruned) → DropsDead t D rounds p x → Each has_symbol_at_all (gone_names x)
+    pub names_known : (p : Spot) (x : Pruned) → DropsDead t D rounds p x → Each has_symbol_at_all (gone_names x)
     names_known p (prune h xs n ps) a = all_names_known (role h p) 0 ps a.1
 
     all_names_known : (r : Role) (i : ℕ) (ps : Prunings) → AllDropDead t D rounds r i ps → Each has_symbol_at_all (all_gone_names ps)
@@ -163,7 +163,7 @@ by_its_symbol : (s : List ℕ) (o : Option SymbolId) → is_some o ≡ true → 
 by_its_symbol s (Some k) p = (k.0, refl)
 by_its_symbol s None p = absurd (true≢false (sym p))
 
-known : (xs : List Name) → Each has_symbol_at_all xs → (x : Variable) → is_in x (variables xs) ≡ true → Known x
+pub known : (xs : List Name) → Each has_symbol_at_all xs → (x : Variable) → is_in x (variables xs) ≡ true → Known x
 known [] a x p = absurd (true≢false (sym p))
 known (y ∷ ys) a x p = by (variable_eq (variable_of y) x) refl p (known ys a.1 x)
   where

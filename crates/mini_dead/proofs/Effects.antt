@@ -5,7 +5,7 @@ use Rattle.mini_model.specs.declared.name.Name.{Name}
 use Rattle.mini_model.specs.declared.shape.Shape.{Shape}
 use Rattle.mini_model.specs.declared.shape.Shape.TheVariants as shape
 use Rattle.mini_model.specs.Tree.{Tree, Trees, node, is_absent_shape}
-use Rattle.mini_laws.specs.State.{State, Completion, ok, stop, halt, out, Environment}
+use Rattle.mini_laws.specs.State.{State, Environment}
 use Rattle.mini_laws.specs.Demand.{Val, As}
 use Rattle.mini_laws.specs.Step.{step, means}
 use Rattle.mini_terms.specs.Effects.{ef}

@@ -250,17 +250,17 @@ module _ (S : ℕ → Bool) where
   children_ready h p xs n ts w a = tt
 
   module _ (rounds : ℕ → ℕ) (T : Tree) (D : VariableSet) (within : (x : Variable) → D x ≡ true → of_set S x ≡ true) (hidden : AreUnseen S T) where
-    one_stays : (o : Option Declarator) (os : Option (List Declarator)) → one_more S o os ≡ None → (p : Pruned) (ps : Prunings) → (os ≡ None → some_stay T D rounds ps ≡ true) → some_stay T D rounds (marked_by S (mark_declarator S o) p ps) ≡ true
+    one_stays : (o : Option Declarator) (os : Option (List Declarator)) → one_more S o os ≡ None → (p : Pruned) (ps : Prunings) → (os ≡ None → some_stay ps ≡ true) → some_stay (marked_by S (mark_declarator S o) p ps) ≡ true
     one_stays None os e p ps f = refl
     one_stays (Some c) None e p ps f = f refl
     one_stays (Some c) (Some cs) e p ps f = absurd (none_is (c ∷ cs) (sym e))
 
-    some_stays : (lexical : Bool) (i : ℕ) (ts : Trees) → declarators_of S ts ≡ None → some_stay T D rounds (all_marked S (DeclaratorList lexical) i ts) ≡ true
+    some_stays : (lexical : Bool) (i : ℕ) (ts : Trees) → declarators_of S ts ≡ None → some_stay (all_marked S (DeclaratorList lexical) i ts) ≡ true
     unfolding marked
     some_stays lexical i none e = absurd (none_is [] (sym e))
     some_stays lexical i (t ▸ ts) e = one_stays (declarator_of S t) (declarators_of S ts) e (marked S (spot_below (DeclaratorList lexical) i) t) (all_marked S (DeclaratorList lexical) (suc i) ts) (λ f. some_stays lexical (suc i) ts f)
 
-    keeps : (h : Shape) (p : Spot) (xs : List Name) (n : ℕ) (ts : Trees) → Ready p (node h xs n ts) → KeepsDeclarator T D rounds (role h p) (all_marked S (role h p) 0 ts)
+    keeps : (h : Shape) (p : Spot) (xs : List Name) (n : ℕ) (ts : Trees) → Ready p (node h xs n ts) → KeepsDeclarator (role h p) (all_marked S (role h p) 0 ts)
     keeps shape.Listed (Declarators lexical) xs n ts a = some_stays lexical 0 ts a
     keeps shape.Listed p xs n ts a = tt
     keeps (shape.VariableDeclaration k) AStatement xs n ts a = tt
@@ -292,11 +292,11 @@ module _ (S : ℕ → Bool) where
     name_dead : (x : Name) (rs : List Reference) → has_name S x ≡ true → refers_later S rounds (round_of rounds x) rs ≡ true → NameIsDead T D rounds x rs
     name_dead x rs p e = (by x.symbol p, go_later (round_of rounds x) rs e)
       where
-        by : (o : Option SymbolId) → has_it S o ≡ true → has_it (is_unseen T D rounds) o ≡ true
+        by : (o : Option SymbolId) → has_it S o ≡ true → has_it (is_unseen T) o ≡ true
         by (Some s) q = ap not (hidden s.0 q)
         by None q = q
 
-    initializer_dead : (i : Initializer) → Fits i → InitializerIsDead T D rounds i
+    initializer_dead : (i : Initializer) → Fits i → InitializerIsDead i
     initializer_dead (without_effect c) a = a
     initializer_dead (of_function f) a = tt
 

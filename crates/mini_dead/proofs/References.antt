@@ -1,4 +1,5 @@
--- References to a symbol and declarations of it: a dead symbol has neither outside the names of items.
+-- References to a symbol and declarations of it: a dead symbol has neither outside the names of
+-- items.
 use Rattle.std.proofs.Common.{◌≡◌, ℕ, suc, Bool, true, false, List, [], ◌∷◌, ◌++◌, Option, Some, None, refl, sym, ap, ◌∙◌, true≢false, eqb-true, arith}
 use Rattle.std.specs.Prelude.{◌+◌, nat_eq, not, ◌&&◌, ◌||◌, cond, count_by, map}
 use Rattle.std.proofs.lemmas.List.Sums.{sum_by-cons}

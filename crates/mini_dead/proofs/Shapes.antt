@@ -1,42 +1,41 @@
 -- A program from which dead items go is a program of ESTree still.
-use Rattle.std.proofs.Common.{◌≡◌, ℕ, zero, suc, Bool, true, false, List, [], ◌∷◌, length, Option, Some, None, refl, sym, ap, ◌∙◌, subst, subst₂, true≢false, le-leb, inl, inr, arith}
+use Rattle.std.proofs.Common.{◌≡◌, ℕ, zero, suc, Bool, true, false, List, [], ◌∷◌, length, Option, Some, None, refl, sym, ap, ◌∙◌, subst, true≢false, le-leb, inl, inr, arith}
 use Rattle.std.specs.Prelude.{◌⊎◌, nat_eq, nat_le, not, ◌&&◌, ◌||◌, if◌then◌else◌}
 use Rattle.mini_model.specs.declared.kind.MethodDefinitionKind.{MethodDefinitionKind}
 use Rattle.mini_model.specs.declared.kind.MethodDefinitionKind.TheVariants as method
-use Rattle.mini_model.specs.declared.kind.PropertyKind.{PropertyKind}
 use Rattle.mini_model.specs.declared.kind.VariableDeclarationKind.{VariableDeclarationKind}
 use Rattle.mini_model.specs.declared.name.Name.{Name}
 use Rattle.mini_model.specs.declared.operator.UnaryOperator.TheVariants.{UnaryNegation}
 use Rattle.mini_model.specs.declared.shape.Shape.{Shape}
 use Rattle.mini_model.specs.declared.shape.Shape.TheVariants as shape
-use Rattle.mini_model.specs.Tree.{Tree, Trees, node, none, ◌▸◌, count, children, child_or_absent, shape_of, is_absent, is_absent_shape}
+use Rattle.mini_model.specs.Tree.{Tree, Trees, node, none, ◌▸◌, count, children, child_or_absent, shape_of, is_absent}
 use Rattle.mini_laws.specs.Value.{VariableSet}
-use Rattle.mini_accept.specs.WellShaped.{Class, a_program, a_statement, a_loop_left, a_method, an_exported_declaration, an_export, a_string, a_key, a_private_or_key, an_inner_key, Depth, in_module, in_body, nested, Slot, one, one_or_absent, many, Tagging, untagged, tagged, Filling, refused, these, each, each_or_last, pieces, filling, filling_by, class_of, slots_of, has_its_number, has_names, has_plain_fields, has_its_parts, is_whole, is_strict_in, is_last, first_item, is_function_body, is_reference, is_initialized, is_var, is_head_by, is_same_flag, spelling, without_default, repeats_key, is_same_spelling, holds_its_name, names_constructor, is_constructor, has_its_kind, is_init, is_whole_property, has_optional, has_optional_by, is_not_positive_number, are_locals, is_whole_export, is_quasi, is_quasi_by, are_quasis, fits, fill, IsWellShaped}
+use Rattle.mini_accept.specs.WellShaped.{Class, a_program, a_statement, a_loop_left, a_method, an_exported_declaration, an_export, a_string, a_key, a_private_or_key, an_inner_key, in_module, in_body, nested, Slot, one, one_or_absent, many, Tagging, Filling, refused, these, each, each_or_last, pieces, filling, filling_by, class_of, slots_of, has_its_number, has_names, has_plain_fields, has_its_parts, is_whole, is_strict_in, is_last, first_item, is_function_body, is_reference, is_var, is_head_by, is_same_flag, spelling, without_default, repeats_key, is_same_spelling, holds_its_name, names_constructor, has_its_kind, is_init, has_optional, is_not_positive_number, are_locals, is_whole_export, is_quasi, are_quasis, fits, fill, IsWellShaped}
 use Rattle.mini_kept.proofs.Bools.{left, right, both}
 use Rattle.mini_dead.proofs.Declarations.{OneList, fits_made}
-use Rattle.mini_dead.specs.Pruned.{Spot, Elsewhere, AStatement, Declarators, OneCase, Role, Plain, StatementList, Declaration, DeclaratorList, role, spot_below, Lone, lone_tree, initializer_tree, own_name, Declarator, declarator, declarator_tree, declarator_trees, Item, function_item, declaration_item, lone_item, item_tree, Pruned, prune, Prunings, end, stays, goes, declarator_goes, earlier, earlier_all, later, later_all, HoldsItems, HoldsDeclarators}
+use Rattle.mini_dead.specs.Pruned.{Spot, Elsewhere, AStatement, Declarators, OneCase, Role, Plain, Declaration, DeclaratorList, role, spot_below, lone_tree, initializer_tree, own_name, Declarator, declarator, declarator_tree, declarator_trees, Item, function_item, declaration_item, lone_item, item_tree, Pruned, prune, Prunings, end, stays, goes, declarator_goes, earlier, earlier_all, later, later_all, HoldsItems, HoldsDeclarators}
 use Rattle.mini_dead.specs.Drops as law
 use Rattle.mini_dead.specs.Drops.{gone, some_stay, KeepsDeclarator, DropsDead, AllDropDead, Drops, DropsAgain, nothing_goes, more_goes}
 
 -- ---- where nothing goes
 
-abbrev AllStay : Prunings → Type 0
+abbrev pub AllStay : Prunings → Type 0
 AllStay end = Unit {0}
 AllStay (stays x ps) = AllStay ps
 AllStay (goes i ps) = ⊥
 AllStay (declarator_goes c ps) = ⊥
 
-absent_pruned : Pruned
+pub absent_pruned : Pruned
 absent_pruned = prune shape.Absent [] 0 end
 
-kid : ℕ → Prunings → Pruned
+pub kid : ℕ → Prunings → Pruned
 kid i end = absent_pruned
 kid zero (stays x ps) = x
 kid (suc i) (stays x ps) = kid i ps
 kid i (goes c ps) = absent_pruned
 kid i (declarator_goes c ps) = absent_pruned
 
-earlier_kid : (i : ℕ) (ps : Prunings) → AllStay ps → child_or_absent (earlier_all ps) i ≡ earlier (kid i ps)
+pub earlier_kid : (i : ℕ) (ps : Prunings) → AllStay ps → child_or_absent (earlier_all ps) i ≡ earlier (kid i ps)
 unfolding kid absent_pruned
 earlier_kid i end a = refl
 earlier_kid zero (stays x ps) a = refl
@@ -44,7 +43,7 @@ earlier_kid (suc i) (stays x ps) a = earlier_kid i ps a
 earlier_kid i (goes c ps) a = absurd a
 earlier_kid i (declarator_goes c ps) a = absurd a
 
-later_kid : (i : ℕ) (ps : Prunings) → AllStay ps → child_or_absent (later_all ps) i ≡ later (kid i ps)
+pub later_kid : (i : ℕ) (ps : Prunings) → AllStay ps → child_or_absent (later_all ps) i ≡ later (kid i ps)
 unfolding kid absent_pruned
 later_kid i end a = refl
 later_kid zero (stays x ps) a = refl
@@ -52,7 +51,7 @@ later_kid (suc i) (stays x ps) a = later_kid i ps a
 later_kid i (goes c ps) a = absurd a
 later_kid i (declarator_goes c ps) a = absurd a
 
-same_count : (ps : Prunings) → AllStay ps → count (earlier_all ps) ≡ count (later_all ps)
+pub same_count : (ps : Prunings) → AllStay ps → count (earlier_all ps) ≡ count (later_all ps)
 same_count end a = refl
 same_count (stays x ps) a = ap suc (same_count ps a)
 same_count (goes c ps) a = absurd a
@@ -185,12 +184,12 @@ no_piece : (g : Tagging) (last : Bool) (h : Shape) (xs : List Name) (n : ℕ) (c
 no_piece g last h [] n c ts e = true≢false (sym e)
 no_piece g last h (x ∷ xs) n c ts e = true≢false (sym e)
 
-item_no_piece : (g : Tagging) (last : Bool) (i : Item) → is_quasi g last (item_tree i) ≡ true → ⊥
+pub item_no_piece : (g : Tagging) (last : Bool) (i : Item) → is_quasi g last (item_tree i) ≡ true → ⊥
 item_no_piece g last (function_item b ds xs n x m ts) e = no_piece g last (shape.Function true b ds) xs n (own_name x m) ts e
 item_no_piece g last (declaration_item k xs n ys m c cs) e = no_piece g last (shape.VariableDeclaration k) xs n (node shape.Listed ys m (declarator_trees (c ∷ cs))) none e
 item_no_piece g last (lone_item xs n f) e = no_piece g last shape.ExpressionStatement xs n (lone_tree f) none e
 
-declarator_no_piece : (g : Tagging) (last : Bool) (c : Declarator) → is_quasi g last (declarator_tree c) ≡ true → ⊥
+pub declarator_no_piece : (g : Tagging) (last : Bool) (c : Declarator) → is_quasi g last (declarator_tree c) ≡ true → ⊥
 declarator_no_piece g last (declarator n x m i) e = no_piece g last shape.VariableDeclarator [] n (own_name x m) (initializer_tree i ▸ none) e
 
 no_role : (k : VariableDeclarationKind) (q : Spot) → HoldsItems (role (shape.VariableDeclaration k) q) → ⊥
@@ -228,13 +227,13 @@ module _ (t : Tree) (D : VariableSet) (rounds : ℕ → ℕ) where
   abbrev AllDrop : Role → ℕ → Prunings → Type 0
   AllDrop r i ps = AllDropDead t D rounds r i ps
 
-  all_stay : (r : Role) (i : ℕ) (ps : Prunings) → (HoldsItems r → ⊥) → (HoldsDeclarators r → ⊥) → AllDrop r i ps → AllStay ps
+  pub all_stay : (r : Role) (i : ℕ) (ps : Prunings) → (HoldsItems r → ⊥) → (HoldsDeclarators r → ⊥) → AllDrop r i ps → AllStay ps
   all_stay r i end f g a = tt
   all_stay r i (stays x ps) f g a = all_stay r (suc i) ps f g a.1
   all_stay r i (goes c ps) f g a = absurd (f a.0)
   all_stay r i (declarator_goes c ps) f g a = absurd (g a.0)
 
-  stay_elsewhere : (h : Shape) (xs : List Name) (n : ℕ) (ps : Prunings) → Drop Elsewhere (prune h xs n ps) → AllStay ps
+  pub stay_elsewhere : (h : Shape) (xs : List Name) (n : ℕ) (ps : Prunings) → Drop Elsewhere (prune h xs n ps) → AllStay ps
   stay_elsewhere h xs n ps a = all_stay (role h Elsewhere) 0 ps (no_items h) (no_declarators h) a.1
 
   -- the children of a plain node
@@ -291,7 +290,7 @@ module _ (t : Tree) (D : VariableSet) (rounds : ℕ → ℕ) where
 
   -- ---- a declaration keeps a declarator
 
-  some_left : (lexical : Bool) (i : ℕ) (ps : Prunings) → some_stay t D rounds ps ≡ true → nat_le 1 (count (later_all ps)) ≡ true
+  some_left : (lexical : Bool) (i : ℕ) (ps : Prunings) → some_stay ps ≡ true → nat_le 1 (count (later_all ps)) ≡ true
   some_left lexical i end e = absurd (true≢false (sym e))
   some_left lexical i (stays x ps) e = le-leb 1 (suc (count (later_all ps))) (omega arith)
   some_left lexical i (goes c ps) e = some_left lexical i ps e
@@ -322,7 +321,7 @@ module _ (t : Tree) (D : VariableSet) (rounds : ℕ → ℕ) where
   one_declarator b k i (goes c ps) a e = absurd a.0
   one_declarator b k i (declarator_goes c ps) a e = absurd a.0
 
-  one_left : (b : Bool) (k : VariableDeclarationKind) (lexical : Bool) (i : ℕ) (ps : Prunings) → some_stay t D rounds ps ≡ true → AllDrop (DeclaratorList lexical) i ps → is_head_by b k (earlier_all ps) ≡ true → is_head_by b k (later_all ps) ≡ true
+  one_left : (b : Bool) (k : VariableDeclarationKind) (lexical : Bool) (i : ℕ) (ps : Prunings) → some_stay ps ≡ true → AllDrop (DeclaratorList lexical) i ps → is_head_by b k (earlier_all ps) ≡ true → is_head_by b k (later_all ps) ≡ true
   one_left b k lexical i end w a e = e
   one_left b k lexical i (stays x end) w a e = sym (ap (λ c. not (not c) || (b && is_var k)) (second_absent x a.0)) ∙ e
   one_left b k lexical i (stays x (stays y ps)) w a e = absurd (true≢false (sym e))
@@ -446,7 +445,7 @@ module _ (t : Tree) (D : VariableSet) (rounds : ℕ → ℕ) where
   piece_same g last (prune h xs n (goes i ps)) e = absurd (no_piece g last h xs n (item_tree i) (earlier_all ps) e)
   piece_same g last (prune h xs n (declarator_goes c ps)) e = absurd (no_piece g last h xs n (declarator_tree c) (earlier_all ps) e)
 
-  quasis_first : (g : Tagging) (t : Tree) (ts : Trees) → are_quasis g (t ▸ ts) ≡ true → (last : Bool) × (is_quasi g last t ≡ true)
+  pub quasis_first : (g : Tagging) (t : Tree) (ts : Trees) → are_quasis g (t ▸ ts) ≡ true → (last : Bool) × (is_quasi g last t ≡ true)
   quasis_first g t none e = (true, e)
   quasis_first g t (u ▸ ts) e = (false, left (is_quasi g false t) _ e)
 
@@ -458,7 +457,7 @@ module _ (t : Tree) (D : VariableSet) (rounds : ℕ → ℕ) where
   quasis_rest g t none e = tt
   quasis_rest g t (u ▸ ts) e = right (is_quasi g false t) _ e
 
-  pieces_same : (g : Tagging) (ps : Prunings) → NoneOrQuasis g (earlier_all ps) → later_all ps ≡ earlier_all ps
+  pub pieces_same : (g : Tagging) (ps : Prunings) → NoneOrQuasis g (earlier_all ps) → later_all ps ≡ earlier_all ps
   pieces_same g end e = refl
   pieces_same g (stays x ps) e =
       let first = quasis_first g (earlier x) (earlier_all ps) e in
@@ -474,7 +473,7 @@ module _ (t : Tree) (D : VariableSet) (rounds : ℕ → ℕ) where
   either_still false false c d e f g h p = absurd (true≢false (sym p))
 
   mutual
-    fits_still : (strict : Bool) (s : Slot) (q : Spot) (x : Pruned) → Drop q x → fits strict s (earlier x) ≡ true → fits strict s (later x) ≡ true
+    pub fits_still : (strict : Bool) (s : Slot) (q : Spot) (x : Pruned) → Drop q x → fits strict s (earlier x) ≡ true → fits strict s (later x) ≡ true
     fits_still strict s q (prune h xs n ps) a e =
         both (is_whole (class_of s) h xs n (later_all ps)) (fill (is_strict_in strict h) (filling strict s h) (later_all ps))
         (whole_still (class_of s) h q xs n ps a.1 (has_lists strict s h xs n (earlier_all ps) e) (left (is_whole (class_of s) h xs n (earlier_all ps)) _ e))

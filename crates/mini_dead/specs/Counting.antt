@@ -1,7 +1,6 @@
 -- How often the symbols of a program are read and written, once dead items are gone.
-use Rattle.std.specs.Prelude.{◌≡◌, ℕ, ◌+◌, Bool, List, [], ◌∷◌, ◌++◌}
+use Rattle.std.specs.Prelude.{◌≡◌, ℕ, ◌+◌, List, [], ◌++◌}
 use Rattle.mini_model.specs.Tree.{Tree}
-use Rattle.mini_laws.specs.declared.names.Use.{Use}
 use Rattle.mini_laws.specs.declared.names.Use.TheVariants.{Read}
 use Rattle.mini_laws.specs.References.{Reference, reads, writes, references, read_count, write_count}
 use Rattle.mini_laws.specs.Counts.{times_of}

@@ -74,9 +74,9 @@ unfoldable mutual
 abbrev pub is_unreferenced : Tree → ℕ → Bool
 is_unreferenced t s = nat_eq (read_count s t) 0 && nat_eq (write_count s t) 0
 
--- Nothing reads or writes the symbol, items alone declare it, and no other code sees it: it is no top
--- name of a script, neither imported nor exported, in no reach of a direct eval or of `arguments`,
--- and that of no `var` under a parameter of `catch` of its name
+-- Nothing reads or writes the symbol, items alone declare it, and no other code sees it: it is no
+-- top name of a script, neither imported nor exported, in no reach of a direct eval or of
+-- `arguments`, and that of no `var` under a parameter of `catch` of its name
 abbrev pub is_dead_symbol : Tree → ℕ → Bool
 is_dead_symbol t s = is_unreferenced t s && (not (declares_otherwise s Elsewhere t) && not (is_shared_always t (by_symbol s)))
 

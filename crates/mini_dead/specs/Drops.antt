@@ -77,6 +77,25 @@ round_of_symbol rounds None = 0
 abbrev pub round_of : (ℕ → ℕ) → Name → ℕ
 round_of rounds x = round_of_symbol rounds x.symbol
 
+-- no other code sees a symbol
+abbrev pub is_unseen : Tree → ℕ → Bool
+is_unseen t s = not (is_shared_always t (by_symbol s))
+
+abbrev pub InitializerIsDead : Initializer → Type 0
+InitializerIsDead (without_effect c) = is_without_effect c ≡ true
+InitializerIsDead (of_function f) = Unit {0}
+
+abbrev pub some_stay : Prunings → Bool
+some_stay end = false
+some_stay (stays p ps) = true
+some_stay (goes i ps) = some_stay ps
+some_stay (declarator_goes c ps) = some_stay ps
+
+-- a declaration that stays keeps a declarator
+abbrev pub KeepsDeclarator : Role → Prunings → Type 0
+KeepsDeclarator (DeclaratorList lexical) ps = some_stay ps ≡ true
+KeepsDeclarator r ps = Unit {0}
+
 -- of a program, the names that go, and the round of each symbol
 module _ (t : Tree) (D : VariableSet) (rounds : ℕ → ℕ) where
   -- each name that goes and that is among these references goes after this round
@@ -84,16 +103,9 @@ module _ (t : Tree) (D : VariableSet) (rounds : ℕ → ℕ) where
   GoLater k [] = Unit {0}
   GoLater k (r ∷ rs) = (D (variable_of r.name) ≡ true → k < round_of rounds r.name) × GoLater k rs
 
-  abbrev pub InitializerIsDead : Initializer → Type 0
-  InitializerIsDead (without_effect c) = is_without_effect c ≡ true
-  InitializerIsDead (of_function f) = Unit {0}
-
   -- no other code sees the name, and what goes with it refers to names of later rounds
-  abbrev pub is_unseen : ℕ → Bool
-  is_unseen s = not (is_shared_always t (by_symbol s))
-
   abbrev pub NameIsDead : Name → List Reference → Type 0
-  NameIsDead x rs = (has_name is_unseen x ≡ true) × GoLater (round_of rounds x) rs
+  NameIsDead x rs = (has_name (is_unseen t) x ≡ true) × GoLater (round_of rounds x) rs
 
   abbrev pub DeclaratorIsDead : Declarator → Type 0
   DeclaratorIsDead (declarator n x m init) = NameIsDead x (references Read (initializer_tree init)) × InitializerIsDead init
@@ -106,17 +118,6 @@ module _ (t : Tree) (D : VariableSet) (rounds : ℕ → ℕ) where
   ItemIsDead (function_item is_generator directives xs n x m ts) = NameIsDead x (references_from (λ i. Read) 0 ts)
   ItemIsDead (declaration_item k xs n ys m c cs) = DeclaratorsAreDead (c ∷ cs)
   ItemIsDead (lone_item xs n f) = Unit {0}
-
-  abbrev pub some_stay : Prunings → Bool
-  some_stay end = false
-  some_stay (stays p ps) = true
-  some_stay (goes i ps) = some_stay ps
-  some_stay (declarator_goes c ps) = some_stay ps
-
-  -- a declaration that stays keeps a declarator
-  abbrev pub KeepsDeclarator : Role → Prunings → Type 0
-  KeepsDeclarator (DeclaratorList lexical) ps = some_stay ps ≡ true
-  KeepsDeclarator r ps = Unit {0}
 
   -- dead items alone go, from lists of statements and of declarators
   abbrev mutual

@@ -8,3 +8,5 @@ pub mod Differences
 pub mod DeadExamples
 pub mod MarkedExamples
 pub mod PrunedBodies
+pub mod KeptNames
+pub mod Frames

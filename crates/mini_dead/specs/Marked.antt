@@ -131,8 +131,8 @@ module _ (S : ℕ → Bool) (rounds : ℕ → ℕ) where
   mark_may_go (an_item i) b = item_may_go i
   mark_may_go (a_declarator c) b = declarator_may_go c
 
-  -- Whether the items of the set may go from a tree: no node that stays has a symbol of the set, and
-  -- what goes refers to symbols of later rounds
+  -- Whether the items of the set may go from a tree: no node that stays has a symbol of the set,
+  -- and what goes refers to symbols of later rounds
   unfoldable mutual
     pub may_go : Spot → Tree → Bool
     may_go p (node h xs n ts) = not (list_any (has_name S) xs) && all_may_go (role h p) 0 ts

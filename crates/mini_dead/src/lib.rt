@@ -7,7 +7,9 @@ ghost use Rattle.mini_dead.specs.Differences.{UnansweredDiffers, LoneDeclaration
 ghost use Rattle.mini_dead.specs.Pruned.{PrunedSame};
 ghost use Rattle.mini_dead.specs.PrunedBodies.{PrunedProgram};
 ghost use Rattle.mini_dead.specs.Counting.{DropsCount, NoneGoes};
+ghost use Rattle.mini_dead.specs.Frames.{DropsKeepFrames, DropsKeepProgram};
 ghost use Rattle.mini_dead.specs.Marked.{MayGoDrops, DeadSymbolsGo, DeadItemsCounted};
+ghost use Rattle.mini_dead.specs.KeptNames.{DropsKeepNames};
 ghost use Rattle.mini_dead.specs.Drops.{DropsKeepShape, DropsKeepBodies, DroppedBodiesStay};
 
 /// A body from whose lists of statements items go does what it did, but for the creation of the
@@ -50,7 +52,8 @@ pub fn may_go_drops()
     ensures { MayGoDrops }
 {}
 
-/// Dead symbols of a program can go at once, one or more of them; and all of them are its dead items.
+/// Dead symbols of a program can go at once, one or more of them; and all of them are its dead
+/// items.
 pub fn dead_symbols_go()
     ensures go { DeadSymbolsGo }
     ensures counted { DeadItemsCounted }
@@ -66,4 +69,19 @@ pub fn drops_are_counted()
 /// A program from which dead items go is a program of ESTree still.
 pub fn drops_keep_shape()
     ensures { DropsKeepShape }
+{}
+
+/// A program that lost dead items, any number of times, keeps its names: each that is left has the
+/// symbol that the scopes around it give, no symbol is declared twice, nothing else is declared, and
+/// it has no early error.
+pub fn drops_keep_names()
+    ensures { DropsKeepNames }
+{}
+
+/// Each function and each carried node that is left has the frame that it had, and so has the
+/// program itself, where its names are resolved: its imports, its exports and what a script gives
+/// the global object stay.
+pub fn drops_keep_frames()
+    ensures below { DropsKeepFrames }
+    ensures program { DropsKeepProgram }
 {}
