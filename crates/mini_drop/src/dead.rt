@@ -22,9 +22,10 @@ fn is_unreferenced(context: &TraverseCtx, symbol: u32) -> bool
     context.scopes.reads(SymbolId(symbol)) == 0 && context.scopes.writes(SymbolId(symbol)) == 0
 }
 
-// Whether every body shares a symbol that mentions it, which is told of a body that alone mentions
-// it. Memory counts as run out where another one does, too: a program that was resolved has no
-// symbol that items alone declare in more than one body, and that nothing refers to.
+// Whether every body shares a symbol that mentions it. The context tells it of a body outside of
+// which nothing mentions the symbol, as a home is. Memory counts as run out where something does: a
+// program that was resolved has no symbol without references that items of several bodies alone
+// declare.
 fn is_shared_always(context: &TraverseCtx, symbol: u32, home: u32) -> Result<bool, OutOfMemory>
     ensures { IfOk result (λ shared. shared ≡ shared_always context.now.scopes symbol) }
 {
@@ -91,7 +92,9 @@ fn room_of(context: &TraverseCtx) -> Result<u32, OutOfMemory>
     Err(OutOfMemory)
 }
 
-/// The dead symbols of a program that the context knows. The only error is that memory runs out.
+/// The dead symbols of a program that the context knows. The only error is that memory runs out,
+/// which it counts as where items of several bodies alone declare one symbol, to which nothing
+/// refers: a program that was resolved has none.
 pub fn dead_symbols(
     alloc: Global,
     program: &Node,

@@ -1,4 +1,5 @@
-//! The bodies in which the names of a program are declared.
+//! The bodies in which the names of a program are declared. Nothing is proved of these tables but
+//! that they are made: who asks one checks its answer.
 
 use mini_model::{OutOfMemory, Shape};
 use mini_node::{Node, Nodes};
@@ -58,7 +59,7 @@ pub fn note_homes(homes: &mut Vec<u32>, body: u32, node: &Node) {
     note_below(homes, body, node, node.children());
 }
 
-// The same, for the children of a node.
+// Notes, for each symbol that the children of a node declare, a body in which they do.
 #[cycle(homes)]
 fn note_below(homes: &mut Vec<u32>, body: u32, node: &Node, nodes: &Nodes) {
     for at in 0..nodes.len() {

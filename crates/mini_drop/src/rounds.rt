@@ -36,7 +36,8 @@ fn drop_once(
     Ok(gone)
 }
 
-// The same, where what went is counted with what went before. The answer says whether anything went.
+// The dead items of a program go, and their number is added to a total. The answer says whether
+// anything went.
 fn drop_more(
     alloc: Global,
     program: &mut Node,
@@ -61,9 +62,10 @@ fn drop_more(
 /// by themselves, in lists of statements. `function f() { g(); } function g() {} h();` becomes
 /// `h();` in a module.
 ///
-/// The context knows the program, before and after. The only error is that memory runs out, which
-/// it counts as where 2^32 items go, and then the program and the context are fit only to be
-/// dropped.
+/// The context knows the program, before and after. The only error is that memory runs out, and
+/// then the program and the context are fit only to be dropped. Memory counts as run out where 2^32
+/// items go, and where items of several bodies alone declare one symbol, to which nothing refers: a
+/// program that was resolved has none.
 pub fn drop_dead(
     alloc: Global,
     program: &mut Node,
