@@ -1,0 +1,83 @@
+// Looks for rewrites that are left in a program: every row at every node, expression, statement and
+// list.
+"use strict";
+const { isOf } = require("../estree.js");
+const branches = require("./branches.js");
+const conditionals = require("./conditionals.js");
+const fold = require("./fold.js");
+const jumps = require("./jumps.js");
+const lists = require("./lists.js");
+const logic = require("./logic.js");
+const single = require("./single-use.js");
+const syntax = require("./syntax.js");
+const { resolve } = require("./names.js");
+const { isNegative, isPositive } = require("./nodes.js");
+const { eachPart, guarded, weightOf, weightOfList } = require("./seats.js");
+const { placeOf } = require("./statements.js");
+
+const EXPRESSIONS = [...fold.EXPRESSIONS, ...logic.EXPRESSIONS, ...conditionals.EXPRESSIONS, ...syntax.EXPRESSIONS];
+const STATEMENTS = [...fold.STATEMENTS, ...lists.STATEMENTS, ...branches.STATEMENTS, ...syntax.OTHERS, ...single.DECLARATIONS];
+const LISTS = [...lists.LISTS, ...single.LISTS, ...jumps.LISTS];
+
+const LISTED = { Program: "body", BlockStatement: "body", SwitchCase: "consequent", StaticBlock: "body" };
+const asList = (found) => (Array.isArray(found) ? found : found ? [found] : []);
+const isDirective = (node) => typeof node.directive === "string";
+
+// What a row gives of an expression, where it is lighter in its seat.
+function* ofExpression(node, seat, up) {
+  for (const [row, give] of EXPRESSIONS) {
+    for (const made of asList(give(node, seat, up))) {
+      const written = guarded(made, node, seat);
+      if (seat.minus && isPositive(written)) continue;
+      if (weightOf(written, seat) < weightOf(node, seat)) yield { row, written };
+    }
+  }
+}
+
+// The same of a statement, or of a part that is neither.
+function* ofStatement(node, seat, up) {
+  for (const [row, give] of STATEMENTS) {
+    for (const written of asList(give(node, seat, up))) {
+      if (weightOf(written, seat) < weightOf(node, seat)) yield { row, written };
+    }
+  }
+}
+
+// The same of the list of statements that a node holds.
+function* ofList(node, up) {
+  const list = node[LISTED[node.type]].filter((each) => !isDirective(each));
+  const where = { place: placeOf(node, up) };
+  for (const [row, give] of LISTS) {
+    for (const written of give(list, where)) {
+      if (weightOfList(written) < weightOfList(list)) yield { row, written, list };
+    }
+  }
+}
+
+// Of a target, a key or a directive no row speaks.
+const isExpressionSeat = (seat) => seat.is === "expression";
+
+function* found(node, seat, up) {
+  if (isOf(Object.keys(LISTED), node)) yield* ofList(node, up);
+  if (node.type === "ExpressionStatement" && isDirective(node)) return;
+  if (isExpressionSeat(seat) && !/^VariableDecl/.test(node.type)) yield* ofExpression(node, seat, up);
+  else yield* ofStatement(node, seat, up);
+}
+
+// Whether the node is no node of any row's kind: a directive's text, the text of a negative literal.
+const isUnread = (node, { parent }) =>
+  Boolean(parent) && (isNegative(parent) || isDirective(parent));
+
+// All rewrites that are left in a program: row, pointer, the node, and what would be written.
+function search(program) {
+  const tree = JSON.parse(JSON.stringify(program));
+  resolve(tree);
+  const told = [];
+  eachPart(tree, { is: "elsewhere" }, { pointer: "" }, (node, seat, up) => {
+    if (isUnread(node, up)) return;
+    for (const each of found(node, seat, up)) told.push({ ...each, node, seat, up, pointer: up.pointer });
+  });
+  return told;
+}
+
+module.exports = { search };
