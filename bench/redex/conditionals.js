@@ -2,7 +2,7 @@
 // of a node and its seat that gives what would be written, or nothing.
 "use strict";
 const {
-  OPPOSITE, assignment, binary, conditional, isBinary, isCarried, isChain, isLiteral, isLogical,
+  OPPOSITE, assignment, binary, conditional, follow, isBinary, isCarried, isChain, isLiteral, isLogical,
   isMember, isName, isNull, isPlainAssignment, isResolved, isSame, isSuper, isUnary, isUndefined,
   logical, not, partsOf, sequence, unary,
 } = require("./nodes.js");
@@ -148,7 +148,7 @@ function numberBranches(a, b, c) {
 // 49: two equal branches.
 function sameBranches(a, b, c) {
   if (!isSame(b, c)) return null;
-  return isFree(a) ? b : sequence(a, b);
+  return isFree(a) ? b : follow(a, b);
 }
 
 // 50: `!a && b` becomes `a || b` where the value isn't used.

@@ -2,7 +2,7 @@
 // Each is a function of a node and its seat that gives what would be written, or nothing.
 "use strict";
 const {
-  BITS, binary, boolean, isBinary, isCarried, isChain, isEquality, isLink, isLiteral, isLogical,
+  BITS, binary, boolean, follow, isBinary, isCarried, isChain, isEquality, isLink, isLiteral, isLogical,
   isMember, isName, isNegative, isPlainAssignment, isPrivate, isSuper, isText, isUnary, isVoidZero,
   keyOf, literal, logical, partsOf, sequence, unary, voidZero,
 } = require("./nodes.js");
@@ -27,7 +27,7 @@ function foldDelete(node) {
   if (!isUnary(node, "delete")) return null;
   const { argument } = node;
   if (isName(argument) || argument.type === "MemberExpression" || isChain(argument)) return null;
-  return isFree(argument) ? boolean(true) : sequence(argument, boolean(true));
+  return isFree(argument) ? boolean(true) : follow(argument, boolean(true));
 }
 
 // 3: a binary operator over known values gives its value.
@@ -139,7 +139,7 @@ function foldNullishChain(node) {
   if (!mark) return null;
   const base = below(mark.links[mark.at]);
   if (!["Null", "Undefined"].includes(kind(base))) return null;
-  return isFree(base) ? voidZero() : sequence(base, voidZero());
+  return isFree(base) ? voidZero() : follow(base, voidZero());
 }
 
 // The access with another one in place of the one that it holds.
@@ -179,7 +179,7 @@ function dropRight(node) {
 // 13: `a && b` with a true is b.
 function dropLeft(node) {
   if (!isAndOr(node) || !isLong(node.operator, truth(node.left))) return null;
-  return isFree(node.left) ? node.right : sequence(node.left, node.right);
+  return isFree(node.left) ? node.right : follow(node.left, node.right);
 }
 
 // 14: `a || k || b` with k false loses k.
@@ -193,7 +193,7 @@ function dropMiddle(node) {
 function foldCoalesce(node) {
   if (!isLogical(node, "??") || kind(node.left) === "Undetermined") return null;
   if (!["Null", "Undefined"].includes(kind(node.left))) return node.left;
-  return isFree(node.left) ? node.right : sequence(node.left, node.right);
+  return isFree(node.left) ? node.right : follow(node.left, node.right);
 }
 
 // ---- typeof

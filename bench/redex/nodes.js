@@ -37,6 +37,9 @@ function sequence(...expressions) {
   return parts.length === 1 ? parts[0] : { type: "SequenceExpression", expressions: parts };
 }
 
+// An expression and then another one, each as it is.
+const follow = (first, second) => ({ type: "SequenceExpression", expressions: [first, second] });
+
 // One statement for a list of them: itself where it is one, else a block.
 const oneOf = (list) => (list.length === 1 ? list[0] : block(list));
 
@@ -57,7 +60,7 @@ const isUnresolved = (node, name) =>
 const isUndefined = (node) => isVoidZero(node) || isUnresolved(node, "undefined");
 const isEquality = (node) => node.type === "BinaryExpression" && /^[!=]==?$/.test(node.operator);
 const isBinary = (node, operators) =>
-  node.type === "BinaryExpression" && operators.includes(node.operator);
+  node.type === "BinaryExpression" && [operators].flat().includes(node.operator);
 const isLogical = (node, operator) =>
   node.type === "LogicalExpression" && (operator === undefined || node.operator === operator);
 const isPrivate = (node) => node.type === "PrivateIdentifier";
@@ -121,7 +124,7 @@ function isSame(first, second) {
 }
 
 module.exports = {
-  ARITHMETIC, BITS, OPPOSITE, SHIFTS, assignment, binary, block, boolean, conditional, ifStatement,
+  ARITHMETIC, BITS, OPPOSITE, SHIFTS, assignment, binary, block, boolean, conditional, follow, ifStatement,
   isBinary, isCarried, isChain, isClass, isEmpty, isEquality, isExpressionStatement, isFunction,
   isIfElse, isLink, isLiteral, isLogical, isLoop, isMember, isName, isNegative, isNode, isNull,
   isPlainAssignment, isPositive, isPrivate, isResolved, isSame, isSuper, isText, isUnary,

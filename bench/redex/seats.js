@@ -117,11 +117,12 @@ function sequenceSeat(node, field, place, index) {
 const FUNCTION_BODY = { ...expr(1) };
 
 // A member of a pattern's or class's list, its key and its value.
-function otherSeat(parent, field) {
+function otherSeat(parent, field, place) {
   if (/^(Property|PropertyDefinition|MethodDefinition)$/.test(parent.type)) {
     if (field === "key") return parent.computed ? expr(1) : SEATS.elsewhere;
+    if (place.is === "target") return SEATS.target;
     const isMethod = parent.method || (parent.kind && parent.kind !== "init");
-    return isMethod ? SEATS.method : /Pattern$/.test(parent.value?.type) ? SEATS.target : expr(1);
+    return isMethod ? SEATS.method : expr(1);
   }
   if (/Function/.test(parent.type)) return field === "body" ? FUNCTION_BODY : SEATS.target;
   if (/^(Array|Spread|ImportExpr|ExportDefault)/.test(parent.type)) return expr(1);
@@ -131,7 +132,7 @@ function otherSeat(parent, field) {
 // The seat of a part of a node that stands in a place.
 function seatOf(parent, field, index, place) {
   const given = SEAT[parent.type];
-  return given ? given(parent, field, place, index) : otherSeat(parent, field);
+  return given ? given(parent, field, place, index) : otherSeat(parent, field, place);
 }
 
 // ---- the guard
