@@ -1,7 +1,7 @@
 // Looks for rewrites that are left in a program: every row at every node, expression, statement and
 // list.
 "use strict";
-const { isOf } = require("../estree.js");
+const { isOf, text } = require("../estree.js");
 const branches = require("./branches.js");
 const conditionals = require("./conditionals.js");
 const fold = require("./fold.js");
@@ -70,7 +70,7 @@ const isUnread = (node, { parent }) =>
 
 // All rewrites that are left in a program: row, pointer, the node, and what would be written.
 function search(program) {
-  const tree = JSON.parse(JSON.stringify(program));
+  const tree = JSON.parse(text(program));
   resolve(tree);
   const told = [];
   eachPart(tree, { is: "elsewhere" }, { pointer: "" }, (node, seat, up) => {
