@@ -13,13 +13,14 @@
 // looks at the settled answers of crates/mini_cases/stdout.
 //
 // A line tells of each rewrite that is left: its row, whether it is known
-// (bench/redex/known.js) or NEW, the JSON pointer of the node, the node, and what would be written.
-// A table by row comes last. The status is 1 where something is new.
+// (bench/redex/known.js; told with --all) or NEW, the JSON pointer of the node, the node, and what
+// would be written. WIDER is told of a program that changed though no row reads anything in it. A
+// table by row comes last. The status is 1 where something is new.
 "use strict";
 const fs = require("fs");
 const path = require("path");
 const { spawnSync } = require("child_process");
-const { isOutside, isUnread, parseLeniently, text } = require("./estree.js");
+const { isOutside, isUnread, parseLeniently, text, written } = require("./estree.js");
 const { estree } = require("./outcome.js");
 const { chosenPieces } = require("./pieces.js");
 const { columns, reasonOf } = require("./redex/known.js");
@@ -90,16 +91,17 @@ function* answersOf(told) {
   for (const [name, input] of programs(told)) {
     if (isUnread(input) || isOutside(input)) continue;
     const answer = answerOf(told.program, input);
-    if (answer) yield [name, answer];
+    if (answer) yield [name, answer, input];
   }
 }
 
 function* storedAnswers() {
-  const lines = fs.readFileSync(path.join(ROOT, "crates/mini_cases/stdout"), "utf8").split("\n");
+  const [asked, lines] = ["stdin", "stdout"].map((name) => fs.readFileSync(path.join(ROOT, "crates/mini_cases", name), "utf8").split("\n"));
   const from = lines.findIndex((line) => line.startsWith("# Whole runs: which"));
   for (let at = from; at < lines.length && !lines[at].startsWith("# Odd input"); at++) {
     const [, program] = /^\[[\d,]*\] \[[\d,]*\] \d+ true ({.*})$/.exec(lines[at]) ?? [];
-    if (program) yield [lines[at - 1].slice(2), JSON.parse(program)];
+    if (!program) continue;
+    yield [lines[at - 1].slice(2), JSON.parse(program), JSON.parse(asked[at].replace(/^answer \d+ /, ""))];
   }
 }
 
@@ -127,20 +129,32 @@ function summary(rows, looked) {
   }
 }
 
+// Whether an answer is another program, though no row reads anything in the one that was given.
+const isWider = (input, program) => Boolean(input) && text(written(input)) !== text(written(program)) && search(input).length === 0;
+
+// Counts and tells what is left in one answer.
+function look(rows, column, [name, program], all) {
+  for (const found of search(program)) {
+    const reason = reasonOf(found, column);
+    if (!rows.has(found.row)) rows.set(found.row, { known: 0, fresh: 0 });
+    rows.get(found.row)[reason ? "known" : "fresh"] += 1;
+    if (!reason || all) tell(name, found, reason);
+  }
+}
+
 function main() {
   const told = words();
   const [rows, column] = [new Map(), columns()];
-  let looked = 0;
-  for (const [name, program] of answers(told)) {
+  let [looked, wider] = [0, 0];
+  for (const [name, program, input] of answers(told)) {
     looked += 1;
-    for (const found of search(program)) {
-      const reason = reasonOf(found, column);
-      if (!rows.has(found.row)) rows.set(found.row, { known: 0, fresh: 0 });
-      rows.get(found.row)[reason ? "known" : "fresh"] += 1;
-      if (!reason || told.all) tell(name, found, reason);
-    }
+    look(rows, column, [name, program], told.all);
+    if (!isWider(input, program)) continue;
+    wider += 1;
+    console.log(`WIDER: ${cut(name)}\n    ${cut(shown(program))}`);
   }
   summary(rows, looked);
+  console.log(`${wider} changed though no row reads anything in them`);
   process.exitCode = [...rows.values()].some(({ fresh }) => fresh > 0) ? 1 : 0;
 }
 

@@ -45,17 +45,23 @@ function joinGuards(first, second) {
 
 // 75: the statements after a guard go into its other branch.
 function takeRest(list, { place }) {
-  return list.slice(0, -1).flatMap((node, at) => {
+  return list.flatMap((node, at) => {
     if (node.type !== "IfStatement") return [];
-    const { test, consequent, alternate } = node;
-    const rest = [...(alternate ? [alternate] : []), ...list.slice(at + 1)];
-    if (rest.some(isScoped)) return [];
-    if (isIdleJump(consequent, place)) return [spliced(list, at, list.length, ifStatement(lighterNot(test, TEST), oneOf(rest)))];
-    const isBlock = consequent.type === "BlockStatement" && consequent.body.length > 0;
-    if (!isBlock || !isIdleJump(consequent.body.at(-1), place)) return [];
-    const shorter = block(consequent.body.slice(0, -1));
-    return [spliced(list, at, list.length, ifStatement(test, shorter, oneOf(rest)))];
+    const rest = [...(node.alternate ? [node.alternate] : []), ...list.slice(at + 1)];
+    const found = rest.some(isScoped) ? null : guarding(node, rest, place);
+    return found ? [spliced(list, at, list.length, found)] : [];
   });
+}
+
+// The `if` of a guard, with what follows in its other branch.
+function guarding({ test, consequent }, rest, place) {
+  const other = rest.length > 0 ? oneOf(rest) : null;
+  if (isIdleJump(consequent, place)) {
+    return ifStatement(lighterNot(test, TEST), other ?? { type: "EmptyStatement" });
+  }
+  const isBlock = consequent.type === "BlockStatement" && consequent.body.length > 0;
+  if (!isBlock || !isIdleJump(consequent.body.at(-1), place)) return null;
+  return ifStatement(test, block(consequent.body.slice(0, -1)), other);
 }
 
 // 76: an `else` after a jump isn't needed.

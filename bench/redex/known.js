@@ -42,11 +42,11 @@ const has = (node, test) => {
 const OPERATORS = /^(Unary|Binary|Logical|Conditional)Expression$/;
 const countOperators = (node) => [...nodes(node)].filter((each) => OPERATORS.test(each.type)).length;
 const isDeep = ({ node }) => countOperators(node) > 8;
-const root = (up) => (up.up ? root(up.up) : up.parent);
+const root = (node, up) => (up.parent ? root(up.parent, up.up) : node);
 
 // The variables that a declaration of a list, or a node with a name of its own, declares.
 const declaredBy = ({ node, list }) => {
-  const ids = [list ?? node].flat().flatMap((each) => [each.id, each.param, ...(each.declarations ?? []).map((part) => part.id)]);
+  const ids = (list ?? [node]).flatMap((each) => [each.id, each.param, ...(each.declarations ?? []).map((part) => part.id)]);
   return new Set(ids.filter((id) => id && isName(id) && id.symbol).map((id) => id.symbol));
 };
 
@@ -55,20 +55,22 @@ function hasNamesake(found) {
   const symbols = declaredBy(found);
   const names = new Set([...symbols].map((symbol) => symbol.name));
   const isLike = (each) => isName(each) && each.symbol !== undefined && names.has(each.name) && !symbols.has(each.symbol);
-  return has(root(found.up), isLike) || [...symbols].some((symbol) => symbol.kind === "parameter");
+  return has(root(found.node, found.up), isLike) || [...symbols].some((symbol) => symbol.kind === "parameter");
 }
+
+// The statements of a list, or the node, of which something is told.
+const partsOfFound = ({ list, node }) => list ?? [node];
 
 const isBigInt = (node) => node.type === "Literal" && Boolean(node.bigint);
 const isMemberSet = ({ node }) => has(node, (each) => each.type === "AssignmentExpression" && isMember(each.left));
 const isFreeThis = (node) => isDeclaration(node) && node.declarations.some(({ init }) => init && has(init, (each) => each.type === "ThisExpression"));
 const isTurned = ({ node, written }) => has(node, (each) => isUnary(each, "typeof")) || has(written, (each) => isUnary(each, "!"));
 const isConstantName = ({ node }) => has(node, (each) => namesVariable(each) && constant(each) !== null);
-const isUnderMinus = ({ list }) => has(list, (each) => isUnary(each, "-") && isName(each.argument));
-const isPast = ({ list, node }) => has(list ?? node, (each) => isName(each) && Boolean(each.symbol) && each.symbol.kind !== "parameter" && each.symbol.reads > 1);
-const isCounter = ({ up }) => up.parent.type === "ForStatement" && up.field === "update";
-const isEffectful = ({ list }) => list.some((node) => isDeclaration(node) && node.declarations.length > 1);
-const isPatternOrCaptured = ({ list, node }) =>
-  has(list ?? node, (each) => /^(Object|Array)Pattern$/.test(each.type) || isFunction(each)
+const isUnderMinus = (found) => has(partsOfFound(found), (each) => isUnary(each, "-") && isName(each.argument));
+const isPast = (found) => has(partsOfFound(found), (each) => isName(each) && Boolean(each.symbol) && each.symbol.kind !== "parameter" && each.symbol.reads > 1);
+const isOneOfSeveral = (found) => partsOfFound(found).some((node) => isDeclaration(node) && node.declarations.length > 1);
+const isPatternOrCaptured = (found) =>
+  has(partsOfFound(found), (each) => /^(Object|Array)Pattern$/.test(each.type) || isFunction(each)
     || (each.type === "CallExpression" && isName(each.callee) && each.callee.name === "eval"));
 
 const DEEP = [1, 3, 4, 5, 8, 9, 12, 13, 14, 18, 25, 26, 29, 30, 47, 56, 78, 81];
@@ -98,19 +100,19 @@ const KNOWN = [
   [62, "a name that another variable is spelled like", hasNamesake],
   [63, "a name that another variable is spelled like", hasNamesake],
   [72, "a name that another variable is spelled like", hasNamesake],
-  [72, "one of several declarators", isEffectful],
-  [70, "a BigInt", ({ list }) => has(list, isBigInt)],
+  [72, "one of several declarators", isOneOfSeveral],
+  [70, "a BigInt", (found) => has(partsOfFound(found), isBigInt)],
   [71, "a name that another variable is spelled like", hasNamesake],
-  [71, "this as an initializer", ({ list, node }) => [list ?? node].flat().some(isFreeThis)],
-  [71, "the initializer of an export", ({ list }) => has(list, (each) => each.type === "ExportNamedDeclaration")],
-  [71, "a BigInt", ({ list, node }) => has(list ?? node, isBigInt)],
+  [71, "this as an initializer", (found) => partsOfFound(found).some(isFreeThis)],
+  [71, "the initializer of an export", (found) => has(partsOfFound(found), (each) => each.type === "ExportNamedDeclaration")],
+  [71, "a BigInt", (found) => has(partsOfFound(found), isBigInt)],
   [71, "a number under a minus", isUnderMinus],
-  [71, "a key in brackets", ({ list, node }) => has(list ?? node, (each) => each.type === "Property" && each.computed)],
+  [71, "a key in brackets", (found) => has(partsOfFound(found), (each) => each.type === "Property" && each.computed)],
   [71, "past a var, a function or a class of the body", isPast],
-  [73, "a bare jump that isn't the last", ({ list }) => has(list, (each) => each.type === "ReturnStatement" && !each.argument)],
-  [75, "a block that declares names", ({ list }) => has(list, (each) => each.type === "BlockStatement" && each.body.some(isScoped))],
+  [73, "a bare jump that isn't the last", (found) => has(partsOfFound(found), (each) => each.type === "ReturnStatement" && !each.argument)],
+  [75, "a block that declares names", (found) => has(partsOfFound(found), (each) => each.type === "BlockStatement" && each.body.some(isScoped))],
   [75, "the break of a do", ({ up }) => up.parent?.type === "DoWhileStatement"],
-  [77, "a name that two vars declare", ({ list }) => has(list, isVar)],
+  [77, "a name that two vars declare", (found) => has(partsOfFound(found), isVar)],
   [79, "a block under a label", ({ up }) => up.parent.type === "LabeledStatement"],
   [80, "names that another body sees, and names of patterns", isPatternOrCaptured],
   [84, "names that another body sees, and names of patterns", isPatternOrCaptured],
@@ -123,4 +125,4 @@ function reasonOf(found, told = columns()) {
   return KNOWN.find(([row, , holds]) => row === found.row && holds(found))?.[1] ?? null;
 }
 
-module.exports = { columns, isCounter, reasonOf, root };
+module.exports = { columns, reasonOf };

@@ -229,8 +229,10 @@ const isSteadyName = (node) => isResolved(node) && node.symbol.isSteady(node.inB
 // 39: `a && (b && c)` becomes `a && b && c`.
 function rotate(node) {
   if (!isLogical(node) || !isLogical(node.right, node.operator)) return null;
-  const { operator, left, right } = node;
-  return logical(operator, logical(operator, left, right.left), right.right);
+  const first = isLogical(node.right.left, node.operator)
+    ? rotate(logical(node.operator, node.left, node.right.left))
+    : logical(node.operator, node.left, node.right.left);
+  return logical(node.operator, first, node.right.right);
 }
 
 const EXPRESSIONS = [

@@ -11,7 +11,7 @@ const logic = require("./logic.js");
 const single = require("./single-use.js");
 const syntax = require("./syntax.js");
 const { resolve } = require("./names.js");
-const { isNegative, isPositive } = require("./nodes.js");
+const { isNegative, isPositive, oneOf } = require("./nodes.js");
 const { eachPart, guarded, weightOf, weightOfList } = require("./seats.js");
 const { placeOf } = require("./statements.js");
 
@@ -54,11 +54,26 @@ function* ofList(node, up) {
   }
 }
 
+// Rows on lists that read a statement alone, too, as a body or branch.
+const ALONE = [72, 75, 78, 80];
+
+// The same of a statement that is a body or branch, as a list of its own.
+function* ofBody(node, seat, up) {
+  const where = { place: placeOf(node, up) };
+  for (const [row, give] of LISTS.filter(([row]) => ALONE.includes(row))) {
+    for (const list of give([node], where)) {
+      const written = list.length === 0 ? { type: "EmptyStatement" } : oneOf(list);
+      if (weightOf(written, seat) < weightOf(node, seat)) yield { row, written };
+    }
+  }
+}
+
 // Of a target, a key or a directive no row speaks.
 const isExpressionSeat = (seat) => seat.is === "expression";
 
 function* found(node, seat, up) {
   if (isOf(Object.keys(LISTED), node)) yield* ofList(node, up);
+  else if (["body", "consequent"].includes(seat.seat)) yield* ofBody(node, seat, up);
   if (node.type === "ExpressionStatement" && isDirective(node)) return;
   if (isExpressionSeat(seat) && !/^VariableDecl/.test(node.type)) yield* ofExpression(node, seat, up);
   else yield* ofStatement(node, seat, up);

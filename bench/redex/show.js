@@ -4,7 +4,7 @@ const { children } = require("../estree.js");
 const { print, whole } = require("../print.js");
 
 const attempts = [
-  (node) => print({ body: [node].flat() }),
+  (node) => print(node.type === "Program" ? node : { body: [node].flat() }),
   (node) => whole(node),
   (node) => (node.type === "Property" ? whole({ type: "ObjectExpression", properties: [node] }) : undefined),
   (node) => `${node.type} ${children(node).map(shown).join(" ")}`,

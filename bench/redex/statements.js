@@ -34,7 +34,7 @@ const isTerminatedList = (list) => isTerminated(list.filter((node) => !isIdleTai
 // Where a list stands: "function", "loop" or "do" (a `do` that runs once) where its end is that of
 // the body of one.
 function placeOf(owner, { parent, field }) {
-  if (owner.type !== "BlockStatement" || field !== "body" || !parent) return "other";
+  if (field !== "body" || !parent) return "other";
   if (/Function/.test(parent.type)) return "function";
   if (parent.type === "DoWhileStatement" && isOnce(parent.test)) return "do";
   return /^(While|DoWhile|For|ForIn|ForOf)Statement$/.test(parent.type) ? "loop" : "other";

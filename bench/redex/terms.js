@@ -210,8 +210,7 @@ const isAbsent = (node) => !node.symbol && ABSENT.includes(node.name);
 // ---- negation
 
 const isTypeofU = (node) =>
-  isBinary(node, ["<", ">"]) && isUnary(node.left, "typeof") && isName(node.left.argument)
-  && isLiteral(node.right, "u");
+  isBinary(node, ["<", ">"]) && isUnary(node.left, "typeof") && isLiteral(node.right, "u");
 
 // The negation of an expression; `isTest` tells that only the truth counts where it stands.
 function negation(node, isTest) {
