@@ -33,7 +33,9 @@ const WIDTH = 300;
 
 // The words: options with their values, and files.
 function words() {
-  const told = { program: path.join(ROOT, "crates/mini_app/out/mini_app"), count: "500", seed: "1" };
+  const told = {
+    program: path.join(ROOT, "crates/mini_app/out/mini_app"), count: "500", seed: "1",
+  };
   const files = [];
   for (const word of process.argv.slice(2)) {
     const option = /^--(\w+)(?:=(.*))?$/.exec(word);
@@ -58,7 +60,9 @@ function* ofRows() {
     for (const line of fs.readFileSync(path.join(folder, name), "utf8").split("\n")) {
       if (!line || line.startsWith("#") || / \/\/ \w+ at \//.test(line)) continue;
       const [sides] = line.split(/ \/\/ (?={.*}$)/);
-      for (const side of sides.split(/(?<=[;}]) =>(?: |$)/)) yield [`${name}: ${side}`, estree(side)];
+      for (const side of sides.split(/(?<=[;}]) =>(?: |$)/)) {
+        yield [`${name}: ${side}`, estree(side)];
+      }
     }
   }
 }
@@ -96,12 +100,20 @@ function* answersOf(told) {
 }
 
 function* storedAnswers() {
-  const [asked, lines] = ["stdin", "stdout"].map((name) => fs.readFileSync(path.join(ROOT, "crates/mini_cases", name), "utf8").split("\n"));
+  const [
+    asked, lines,
+  ] = ["stdin", "stdout"].map((name) => fs.readFileSync(
+    path.join(ROOT, "crates/mini_cases", name), "utf8",
+  ).split("\n"));
   const from = lines.findIndex((line) => line.startsWith("# Whole runs: which"));
   for (let at = from; at < lines.length && !lines[at].startsWith("# Odd input"); at++) {
     const [, program] = /^\[[\d,]*\] \[[\d,]*\] \d+ true ({.*})$/.exec(lines[at]) ?? [];
     if (!program) continue;
-    yield [lines[at - 1].slice(2), JSON.parse(program), JSON.parse(asked[at].replace(/^answer \d+ /, ""))];
+    yield [
+      lines[at - 1].slice(2), JSON.parse(program), JSON.parse(asked[at].replace(
+        /^answer \d+ /, "",
+      )),
+    ];
   }
 }
 
@@ -117,7 +129,8 @@ function* answers(told) {
 const cut = (told) => (told.length > WIDTH ? `${told.slice(0, WIDTH)}..` : told);
 
 function tell(name, found, reason) {
-  console.log(`${found.row} ${reason ? `known (${reason})` : "NEW"} at ${found.pointer || "/"} in ${cut(name)}`);
+  const word = reason ? `known (${reason})` : "NEW";
+  console.log(`${found.row} ${word} at ${found.pointer || "/"} in ${cut(name)}`);
   console.log(`    ${cut(shown(found.list ?? found.node))}`);
   console.log(`    ${cut(shown(found.written))}`);
 }
@@ -125,12 +138,14 @@ function tell(name, found, reason) {
 function summary(rows, looked) {
   console.log(`${looked} answers`);
   for (const [row, { known, fresh }] of [...rows].sort(([a], [b]) => a - b)) {
-    console.log(`row ${String(row).padStart(2)}: ${String(known).padStart(5)} known, ${String(fresh).padStart(5)} new`);
+    const counts = `${String(known).padStart(5)} known, ${String(fresh).padStart(5)} new`;
+    console.log(`row ${String(row).padStart(2)}: ${counts}`);
   }
 }
 
 // Whether an answer is another program, though no row reads anything in the one that was given.
-const isWider = (input, program) => Boolean(input) && text(written(input)) !== text(written(program)) && search(input).length === 0;
+const isWider = (input, program) =>
+  Boolean(input) && text(written(input)) !== text(written(program)) && search(input).length === 0;
 
 // Counts and tells what is left in one answer.
 function look(rows, column, [name, program], all) {

@@ -20,7 +20,8 @@ function unwrap(node, seat, { parent }) {
   const [only, ...others] = node.body;
   if (!only || others.length > 0 || isScoped(only)) return null;
   if (seat.seat === "consequent" && isIfElse(only)) return null;
-  const isLabelled = parent.type === "LabeledStatement" && (isLoop(only) || only.type === "LabeledStatement");
+  const isLabelled = parent.type === "LabeledStatement"
+    && (isLoop(only) || only.type === "LabeledStatement");
   return isLabelled ? null : only;
 }
 
@@ -63,8 +64,12 @@ function chooseCase(node) {
 
 function stubs(lost) {
   const names = new Map(lost.flatMap(vars).map((name) => [name.symbol, name]));
-  const declarations = [...names.values()].map((id) => ({ type: "VariableDeclarator", id, init: null }));
-  return declarations.length > 0 ? [{ type: "VariableDeclaration", kind: "var", declarations }] : [];
+  const declarations = [...names.values()].map((id) => ({
+    type: "VariableDeclarator", id, init: null,
+  }));
+  return declarations.length > 0
+    ? [{ type: "VariableDeclaration", kind: "var", declarations }]
+    : [];
 }
 
 // ---- `if`
@@ -76,11 +81,15 @@ function toExpression(node) {
   if (node.type !== "IfStatement") return null;
   const { test, consequent, alternate } = node;
   const side = (operator, other, expression) =>
-    statement(isNegated(test) ? notFirst(other, test, expression, UNUSED) : logical(operator, test, expression));
+    statement(isNegated(test)
+      ? notFirst(other, test, expression, UNUSED)
+      : logical(operator, test, expression));
   if (isExpressionStatement(consequent)) {
     if (!alternate) return side("&&", "||", consequent.expression);
     const isBoth = isExpressionStatement(alternate);
-    return isBoth ? statement(conditional(test, consequent.expression, alternate.expression)) : null;
+    return isBoth
+      ? statement(conditional(test, consequent.expression, alternate.expression))
+      : null;
   }
   const isElse = isEmpty(consequent) && alternate && isExpressionStatement(alternate);
   return isElse ? side("||", "&&", alternate.expression) : null;
@@ -96,12 +105,16 @@ function shortenIf(node) {
   }
   const isNested = !alternate && consequent.type === "IfStatement" && !consequent.alternate;
   if (isNested) return ifStatement(logical("&&", test, consequent.test), consequent.consequent);
-  return swapped(node) ?? (isIfElse(consequent) ? { ...node, consequent: block([consequent]) } : null);
+  return swapped(node) ?? (isIfElse(consequent)
+    ? { ...node, consequent: block([consequent]) }
+    : null);
 }
 
 function swapped({ test, consequent, alternate }) {
   if (!alternate || !isUnary(test, "!") || isExpressionStatement(consequent)) return null;
-  return alternate.type === "IfStatement" ? null : ifStatement(test.argument, alternate, consequent);
+  return alternate.type === "IfStatement"
+    ? null
+    : ifStatement(test.argument, alternate, consequent);
 }
 
 // ---- 84
@@ -111,7 +124,9 @@ const isPlainBreak = (node) => node?.type === "BreakStatement" && !node.label;
 // The names that a list declares, `var`s aside.
 function lexicalNames(list) {
   return list.flatMap((node) => {
-    if (node.type === "VariableDeclaration") return node.kind === "var" ? [] : node.declarations.flatMap((part) => boundNames(part.id));
+    if (node.type === "VariableDeclaration") {
+      return node.kind === "var" ? [] : node.declarations.flatMap((part) => boundNames(part.id));
+    }
     return isFunction(node) || node.type === "ClassDeclaration" ? [node.id] : [];
   });
 }
@@ -120,13 +135,16 @@ function lexicalNames(list) {
 function mentionsAny(node, symbols) {
   if (!isNode(node)) return Array.isArray(node) && node.some((part) => mentionsAny(part, symbols));
   if (isName(node) && symbols.has(node.symbol)) return true;
-  return Object.entries(node).some(([field, part]) => field !== "inBody" && mentionsAny(part, symbols));
+  return Object.entries(node).some(([field, part]) => field !== "inBody"
+    && mentionsAny(part, symbols));
 }
 
 // The new test, and the branch that stays, of an `if` that begins the body of a loop.
 function leadingTest(node, seat) {
   if (node.type !== "IfStatement") return null;
-  if (isPlainBreak(node.consequent)) return { test: lighterNot(node.test, seat), rest: node.alternate };
+  if (isPlainBreak(node.consequent)) {
+    return { test: lighterNot(node.test, seat), rest: node.alternate };
+  }
   return isPlainBreak(node.alternate) ? { test: node.test, rest: node.consequent } : null;
 }
 
@@ -135,7 +153,9 @@ function takeTest(node) {
   if (node.type !== "ForStatement") return null;
   const isBlock = node.body.type === "BlockStatement";
   const [first, ...later] = isBlock ? node.body.body : [node.body];
-  const seat = node.test ? seatOf(logical("&&", node.test, node.test), "right", undefined, TEST) : TEST;
+  const seat = node.test
+    ? seatOf(logical("&&", node.test, node.test), "right", undefined, TEST)
+    : TEST;
   const found = first && leadingTest(first, seat);
   if (!found || later.some((each) => each.type === "FunctionDeclaration")) return null;
   const names = new Set(lexicalNames(later).map((name) => name.symbol));
@@ -146,6 +166,8 @@ function takeTest(node) {
   return { ...node, test, body };
 }
 
-const STATEMENTS = [[79, unwrap], [81, chooseCase], [82, toExpression], [83, shortenIf], [84, takeTest]];
+const STATEMENTS = [
+  [79, unwrap], [81, chooseCase], [82, toExpression], [83, shortenIf], [84, takeTest],
+];
 
 module.exports = { STATEMENTS };

@@ -2,9 +2,9 @@
 // of a node and its seat that gives what would be written, or nothing.
 "use strict";
 const {
-  OPPOSITE, assignment, binary, conditional, follow, isBinary, isCarried, isChain, isLiteral, isLogical,
-  isMember, isName, isNull, isPlainAssignment, isResolved, isSame, isSuper, isUnary, isUndefined,
-  logical, not, partsOf, sequence, unary,
+  assignment, conditional, follow, isBinary, isCarried, isChain, isLiteral, isLogical, isMember,
+  isName, isNull, isPlainAssignment, isResolved, isSame, isSuper, isUnary, isUndefined, logical,
+  not, OPPOSITE, partsOf, sequence, unary,
 } = require("./nodes.js");
 const { constant, isFree, isFreeOf, kind, lighterNot } = require("./terms.js");
 const { seatOf } = require("./seats.js");
@@ -13,12 +13,16 @@ const { rebuilt, spine } = require("./fold.js");
 
 // What a function gives of the parts of a conditional.
 const ofConditional = (give) => (node, seat) =>
-  node.type === "ConditionalExpression" ? give(node.test, node.consequent, node.alternate, seat) : null;
+  node.type === "ConditionalExpression"
+    ? give(node.test, node.consequent, node.alternate, seat)
+    : null;
 
 // 40: a negated test turns, and the branches swap.
 function turn(a, b, c) {
   if (isUnary(a, "!")) return conditional(a.argument, c, b);
-  return isBinary(a, ["!=", "!=="]) ? conditional({ ...a, operator: OPPOSITE[a.operator] }, c, b) : null;
+  return isBinary(a, ["!=", "!=="])
+    ? conditional({ ...a, operator: OPPOSITE[a.operator] }, c, b)
+    : null;
 }
 
 // 41: `x ? x : b` becomes `x || b`.
@@ -53,32 +57,43 @@ function share(a, b, c) {
   const found = [];
   if (second) found.push(sequence(logical("||", a, second), b));
   if (first) found.push(sequence(logical("&&", a, first), c));
-  if (isLogical(b, "||") && isSame(b.right, c)) found.push(logical("||", logical("&&", a, b.left), c));
-  if (isLogical(c, "&&") && isSame(c.right, b)) found.push(logical("&&", logical("||", a, c.left), b));
+  if (isLogical(b, "||") && isSame(b.right, c)) {
+    found.push(logical("||", logical("&&", a, b.left), c));
+  }
+  if (isLogical(c, "&&") && isSame(c.right, b)) {
+    found.push(logical("&&", logical("||", a, c.left), b));
+  }
   return found;
 }
 
-const isPlainCall = (node) => node.type === "CallExpression" && !node.optional && !isSuper(node.callee);
+const isPlainCall = (node) =>
+  node.type === "CallExpression" && !node.optional && !isSuper(node.callee);
 const isSpread = (node) => node.type === "SpreadElement";
 
 // 44: calls that differ in their first argument.
 function joinCalls(a, b, c) {
-  if (!isPlainCall(b) || !isPlainCall(c) || b.arguments.length === 0 || c.arguments.length === 0) return null;
+  if (!isPlainCall(b) || !isPlainCall(c) || b.arguments.length === 0 || c.arguments.length === 0) {
+    return null;
+  }
   const [[p, ...r], [q, ...s]] = [b.arguments, c.arguments];
   if (!isFree(a) || !isFree(b.callee) || !isSame(b.callee, c.callee) || !isSame(r, s)) return null;
   if (isSpread(p) !== isSpread(q)) return null;
-  const first = isSpread(p) ? { ...p, argument: conditional(a, p.argument, q.argument) } : conditional(a, p, q);
+  const first = isSpread(p)
+    ? { ...p, argument: conditional(a, p.argument, q.argument) }
+    : conditional(a, p, q);
   return { ...b, arguments: [first, ...r] };
 }
 
 const isSteadyKey = (node) =>
-  !node.computed || (node.property.type === "Literal" && !node.property.regex) || isSteadyName(node.property);
+  !node.computed || (node.property.type === "Literal" && !node.property.regex)
+    || isSteadyName(node.property);
 
 // Whether the target may stand before the test.
 function isMovable(target, test) {
   if (isName(target)) return isResolved(target) || isFree(test);
   if (!isMember(target)) return false;
-  const isHeld = isSteadyName(target.object) || (target.object.type === "ThisExpression" && isFree(target.object));
+  const isHeld = isSteadyName(target.object)
+    || (target.object.type === "ThisExpression" && isFree(target.object));
   return isHeld && isSteadyKey(target);
 }
 
@@ -115,7 +130,9 @@ function chained({ name, value }, whole) {
   const top = isChain(whole) ? whole.expression : whole;
   const links = spine(top);
   const innermost = links.at(-1);
-  if (!innermost || links.some(isCarried) || innermost.optional || name.name === "eval") return null;
+  if (!innermost || links.some(isCarried) || innermost.optional || name.name === "eval") {
+    return null;
+  }
   const field = innermost.type === "MemberExpression" ? "object" : "callee";
   if (!isSame(innermost[field], name)) return null;
   const marked = { ...innermost, [field]: value, optional: true };
@@ -140,7 +157,9 @@ function booleanBranches(a, b, c, seat) {
 
 // 48: branches that are 1 and 0.
 function numberBranches(a, b, c) {
-  if (isLiteral(b, 1) && isLiteral(c, 0)) return unary("+", kind(a) === "Boolean" ? a : not(not(a)));
+  if (isLiteral(b, 1) && isLiteral(c, 0)) {
+    return unary("+", kind(a) === "Boolean" ? a : not(not(a)));
+  }
   if (!isLiteral(b, 0) || !isLiteral(c, 1)) return null;
   return unary("+", lighterNot(a, seatOf(unary("+", a), "argument")));
 }
@@ -161,6 +180,8 @@ const CONDITIONALS = [
   [40, turn], [41, branchIsTest], [42, nest], [43, share], [44, joinCalls], [45, joinAssignments],
   [46, coalesce], [47, booleanBranches], [48, numberBranches], [49, sameBranches],
 ];
-const EXPRESSIONS = [...CONDITIONALS.map(([row, give]) => [row, ofConditional(give)]), [50, turnUnused]];
+const EXPRESSIONS = [
+  ...CONDITIONALS.map(([row, give]) => [row, ofConditional(give)]), [50, turnUnused],
+];
 
-module.exports = { EXPRESSIONS, binary };
+module.exports = { EXPRESSIONS };

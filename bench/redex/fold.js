@@ -2,9 +2,9 @@
 // Each is a function of a node and its seat that gives what would be written, or nothing.
 "use strict";
 const {
-  BITS, binary, boolean, follow, isBinary, isCarried, isChain, isEquality, isLink, isLiteral, isLogical,
-  isMember, isName, isNegative, isPlainAssignment, isPrivate, isSuper, isText, isUnary, isVoidZero,
-  keyOf, literal, logical, partsOf, sequence, unary, voidZero,
+  binary, BITS, boolean, follow, isBinary, isCarried, isChain, isEquality, isLink, isLiteral,
+  isLogical, isMember, isName, isNegative, isPlainAssignment, isPrivate, isText, isUnary,
+  isVoidZero, keyOf, literal, logical, partsOf, sequence, unary, voidZero,
 } = require("./nodes.js");
 const {
   constant, freeConstant, isFree, isFreeOf, isPrimitive, kind, lit, namesVariable, truth,
@@ -101,7 +101,8 @@ function joinMasks(node) {
   if (!isBinary(node, BITS) || !isBinary(node.left, node.operator)) return null;
   const { left, right } = node.left;
   if (!isFreeOf(node.right, "number")) return null;
-  const joined = (c) => lit(operate(node.operator, constant(c).value, constant(node.right).value).value);
+  const joined = (c) =>
+    lit(operate(node.operator, constant(c).value, constant(node.right).value).value);
   const found = [];
   if (isFreeOf(right, "number")) found.push(binary(node.operator, left, joined(right)));
   if (isFreeOf(left, "number")) found.push(binary(node.operator, right, joined(left)));
@@ -186,7 +187,9 @@ function dropLeft(node) {
 function dropMiddle(node) {
   if (!isAndOr(node) || !isLogical(node.left, node.operator)) return null;
   const k = node.left.right;
-  return isFree(k) && isLong(node.operator, truth(k)) ? logical(node.operator, node.left.left, node.right) : null;
+  return isFree(k) && isLong(node.operator, truth(k))
+    ? logical(node.operator, node.left.left, node.right)
+    : null;
 }
 
 // 15: `a ?? b` where the kind of a is known.
@@ -208,7 +211,9 @@ function foldSameTypeof(node) {
   return first.name === second.name && first.symbol === second.symbol ? equal(node, true) : null;
 }
 
-const TYPES = ["string", "number", "bigint", "boolean", "symbol", "undefined", "object", "function", "unknown"];
+const TYPES = [
+  "string", "number", "bigint", "boolean", "symbol", "undefined", "object", "function", "unknown",
+];
 
 // 17: `typeof e` equals no text that names no type.
 function foldNoType(node) {
@@ -286,7 +291,8 @@ function dropIdle(node) {
 // 22: so is the init or update of a `for`.
 function dropIdleHead(node) {
   if (node.type !== "ForStatement") return null;
-  return ["init", "update"].filter((field) => node[field] && isFree(node[field])).map((field) => ({ ...node, [field]: null }));
+  return ["init", "update"].filter((field) => node[field]
+    && isFree(node[field])).map((field) => ({ ...node, [field]: null }));
 }
 
 const EXPRESSIONS = [

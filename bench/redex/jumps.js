@@ -14,7 +14,8 @@ const { boundNames } = require("./names.js");
 const LIMIT = 500;
 
 // How many conditionals follow one another by their alternates.
-const chainLength = (node) => (node?.type === "ConditionalExpression" ? 1 + chainLength(node.alternate) : 0);
+const chainLength = (node) =>
+  (node?.type === "ConditionalExpression" ? 1 + chainLength(node.alternate) : 0);
 
 const isBareIf = (node) => node.type === "IfStatement" && !node.alternate;
 
@@ -23,10 +24,14 @@ function joinJumps(list, { place }) {
   return list.slice(0, -1).flatMap((first, at) => {
     const second = list[at + 1];
     const jump = isBareIf(first) ? first.consequent : null;
-    if (!jump || jump.type !== second.type || !/^(Return|Throw)Statement$/.test(jump.type)) return [];
+    if (!jump || jump.type !== second.type || !/^(Return|Throw)Statement$/.test(jump.type)) {
+      return [];
+    }
     const isLast = place === "function" && at === list.length - 2;
     if (jump.argument && !second.argument && isLast) return [];
-    return chainLength(second.argument) >= LIMIT ? [] : [spliced(list, at, 2, ...joinedJump(first.test, jump, second))];
+    return chainLength(second.argument) >= LIMIT
+      ? []
+      : [spliced(list, at, 2, ...joinedJump(first.test, jump, second))];
   });
 }
 
@@ -38,7 +43,9 @@ function joinedJump(test, jump, second) {
 
 // 74: two tests of one jump become one.
 function joinGuards(first, second) {
-  if (!isBareIf(first) || second.type !== "IfStatement" || !isTerminated(first.consequent)) return null;
+  if (!isBareIf(first) || second.type !== "IfStatement" || !isTerminated(first.consequent)) {
+    return null;
+  }
   if (!isSame(first.consequent, second.consequent)) return null;
   return [{ ...second, test: logical("||", first.test, second.test) }];
 }
@@ -75,7 +82,9 @@ function dropElse(node) {
 // How often each variable is referred to below some nodes.
 function references(nodes, found = new Map()) {
   for (const node of nodes) {
-    if (isName(node) && node.symbol && node.isReference) found.set(node.symbol, (found.get(node.symbol) ?? 0) + 1);
+    if (isName(node) && node.symbol && node.isReference) {
+      found.set(node.symbol, (found.get(node.symbol) ?? 0) + 1);
+    }
     const below = Object.entries(node).filter(([field]) => field !== "inBody");
     references(below.flatMap(([, part]) => part).filter(isNode), found);
   }
@@ -124,7 +133,9 @@ function dropUnreached(list) {
   const names = new Map(going.flatMap(vars).map((name) => [name.symbol, name]));
   const needed = [...names.values()].filter(({ symbol }) => !symbol.isUnused || symbol.isShared);
   const declarations = needed.map((id) => ({ type: "VariableDeclarator", id, init: null }));
-  const stub = declarations.length > 0 ? [{ type: "VariableDeclaration", kind: "var", declarations }] : [];
+  const stub = declarations.length > 0
+    ? [{ type: "VariableDeclaration", kind: "var", declarations }]
+    : [];
   return [[...list.slice(0, at + 1), ...rest.filter((node) => !going.includes(node)), ...stub]];
 }
 
@@ -156,4 +167,4 @@ const LISTS = [
   [77, (list) => dropUnreached(list)], [78, dropLastJump], [80, ofEach(inlineCase)],
 ];
 
-module.exports = { LISTS, hasBreak, vars };
+module.exports = { LISTS, vars };

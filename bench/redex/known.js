@@ -24,7 +24,7 @@ function columns() {
 // ---- what stands in a node
 
 const below = (node) =>
-  Object.entries(node).filter(([field]) => field !== "inBody").flatMap(([, part]) => part).filter(isNode);
+  Object.entries(node).flatMap(([field, part]) => (field === "inBody" ? [] : part)).filter(isNode);
 
 function* nodes(node) {
   for (const each of [node].flat()) {
@@ -40,13 +40,17 @@ const has = (node, test) => {
 };
 
 const OPERATORS = /^(Unary|Binary|Logical|Conditional)Expression$/;
-const countOperators = (node) => [...nodes(node)].filter((each) => OPERATORS.test(each.type)).length;
+const countOperators = (node) =>
+  [...nodes(node)].filter((each) => OPERATORS.test(each.type)).length;
+const isBigInt = (node) => node.type === "Literal" && Boolean(node.bigint);
 const isDeep = ({ node }) => countOperators(node) > 8;
 const root = (node, up) => (up.parent ? root(up.parent, up.up) : node);
 
 // The variables that a declaration of a list, or a node with a name of its own, declares.
 const declaredBy = ({ node, list }) => {
-  const ids = (list ?? [node]).flatMap((each) => [each.id, each.param, ...(each.declarations ?? []).map((part) => part.id)]);
+  const ids = (list ?? [node]).flatMap((each) => [
+    each.id, each.param, ...(each.declarations ?? []).map((part) => part.id),
+  ]);
   return new Set(ids.filter((id) => id && isName(id) && id.symbol).map((id) => id.symbol));
 };
 
@@ -54,24 +58,37 @@ const declaredBy = ({ node, list }) => {
 function hasNamesake(found) {
   const symbols = declaredBy(found);
   const names = new Set([...symbols].map((symbol) => symbol.name));
-  const isLike = (each) => isName(each) && each.symbol !== undefined && names.has(each.name) && !symbols.has(each.symbol);
-  return has(root(found.node, found.up), isLike) || [...symbols].some((symbol) => symbol.kind === "parameter");
+  const isLike = (each) =>
+    isName(each) && each.symbol !== undefined && names.has(each.name) && !symbols.has(each.symbol);
+  return has(root(found.node, found.up), isLike)
+    || [...symbols].some((symbol) => symbol.kind === "parameter");
 }
 
 // The statements of a list, or the node, of which something is told.
 const partsOfFound = ({ list, node }) => list ?? [node];
 
-const isBigInt = (node) => node.type === "Literal" && Boolean(node.bigint);
-const isMemberSet = ({ node }) => has(node, (each) => each.type === "AssignmentExpression" && isMember(each.left));
-const isFreeThis = (node) => isDeclaration(node) && node.declarations.some(({ init }) => init && has(init, (each) => each.type === "ThisExpression"));
-const isTurned = ({ node, written }) => has(node, (each) => isUnary(each, "typeof")) || has(written, (each) => isUnary(each, "!"));
-const isConstantName = ({ node }) => has(node, (each) => namesVariable(each) && constant(each) !== null);
-const isUnderMinus = (found) => has(partsOfFound(found), (each) => isUnary(each, "-") && isName(each.argument));
-const isPast = (found) => has(partsOfFound(found), (each) => isName(each) && Boolean(each.symbol) && each.symbol.kind !== "parameter" && each.symbol.reads > 1);
-const isOneOfSeveral = (found) => partsOfFound(found).some((node) => isDeclaration(node) && node.declarations.length > 1);
-const isPatternOrCaptured = (found) =>
-  has(partsOfFound(found), (each) => /^(Object|Array)Pattern$/.test(each.type) || isFunction(each)
-    || (each.type === "CallExpression" && isName(each.callee) && each.callee.name === "eval"));
+// A test of whether something stands in what is found.
+const holding = (test) => (found) => has(partsOfFound(found), test);
+
+const isThis = (node) => node.type === "ThisExpression";
+const isFreeThis = (part) =>
+  part.type === "VariableDeclarator" && Boolean(part.init) && has(part.init, isThis);
+const isConstantName = ({ node }) =>
+  has(node, (each) => namesVariable(each) && constant(each) !== null);
+const isMemberSet = holding((each) => each.type === "AssignmentExpression" && isMember(each.left));
+const isTurned = ({ node, written }) =>
+  has(node, (each) => isUnary(each, "typeof")) || has(written, (each) => isUnary(each, "!"));
+const isDeclared = (node) =>
+  isName(node) && Boolean(node.symbol) && node.symbol.kind !== "parameter";
+const isPast = holding((each) => isDeclared(each) && each.symbol.reads > 1);
+const isOneOfSeveral = (found) =>
+  partsOfFound(found).some((node) => isDeclaration(node) && node.declarations.length > 1);
+const isEval = (node) =>
+  node.type === "CallExpression" && isName(node.callee) && node.callee.name === "eval";
+const isPatternOrCaptured = holding((each) =>
+  /^(Object|Array)Pattern$/.test(each.type) || isFunction(each) || isEval(each));
+const isBareReturn = (node) => node.type === "ReturnStatement" && !node.argument;
+const hasScoped = (node) => node.type === "BlockStatement" && node.body.some(isScoped);
 
 const DEEP = [1, 3, 4, 5, 8, 9, 12, 13, 14, 18, 25, 26, 29, 30, 47, 56, 78, 81];
 
@@ -101,18 +118,18 @@ const KNOWN = [
   [63, "a name that another variable is spelled like", hasNamesake],
   [72, "a name that another variable is spelled like", hasNamesake],
   [72, "one of several declarators", isOneOfSeveral],
-  [70, "a BigInt", (found) => has(partsOfFound(found), isBigInt)],
+  [70, "a BigInt", holding(isBigInt)],
   [71, "a name that another variable is spelled like", hasNamesake],
-  [71, "this as an initializer", (found) => partsOfFound(found).some(isFreeThis)],
-  [71, "the initializer of an export", (found) => has(partsOfFound(found), (each) => each.type === "ExportNamedDeclaration")],
-  [71, "a BigInt", (found) => has(partsOfFound(found), isBigInt)],
-  [71, "a number under a minus", isUnderMinus],
-  [71, "a key in brackets", (found) => has(partsOfFound(found), (each) => each.type === "Property" && each.computed)],
+  [71, "this as an initializer", holding(isFreeThis)],
+  [71, "the initializer of an export", holding((each) => /^Export/.test(each.type))],
+  [71, "a BigInt", holding(isBigInt)],
+  [71, "a number under a minus", holding((each) => isUnary(each, "-") && isName(each.argument))],
+  [71, "a key in brackets", holding((each) => each.type === "Property" && each.computed)],
   [71, "past a var, a function or a class of the body", isPast],
-  [73, "a bare jump that isn't the last", (found) => has(partsOfFound(found), (each) => each.type === "ReturnStatement" && !each.argument)],
-  [75, "a block that declares names", (found) => has(partsOfFound(found), (each) => each.type === "BlockStatement" && each.body.some(isScoped))],
+  [73, "a bare jump that isn't the last", holding(isBareReturn)],
+  [75, "a block that declares names", holding(hasScoped)],
   [75, "the break of a do", ({ up }) => up.parent?.type === "DoWhileStatement"],
-  [77, "a name that two vars declare", (found) => has(partsOfFound(found), isVar)],
+  [77, "a name that two vars declare", holding(isVar)],
   [79, "a block under a label", ({ up }) => up.parent.type === "LabeledStatement"],
   [80, "names that another body sees, and names of patterns", isPatternOrCaptured],
   [84, "names that another body sees, and names of patterns", isPatternOrCaptured],

@@ -1,11 +1,11 @@
-// Rewrites 66 to 72 and 79 as they stand in a list of statements. Each is a function of the list and
-// of where it stands that gives the lists that would be written.
+// Rewrites 66 to 72 and 79 in a list of statements. Each is a function of the list and of where it
+// stands that gives the lists that would be written.
 "use strict";
 const { isExpressionStatement, isName, sequence, statement } = require("./nodes.js");
 const { isFree, isPlain } = require("./terms.js");
 const {
-  firstExpressions, headOf, isDeclaration, isLexical, isLexicalHead, isScoped, isSetName, isVar,
-  isBareHead, partAt, replaced,
+  firstExpressions, headOf, isBareHead, isDeclaration, isLexicalHead, isScoped, isSetName, isVar,
+  partAt, replaced,
 } = require("./statements.js");
 
 // The list with statements in place of some.
@@ -39,7 +39,9 @@ function joinHead(first, second) {
   if (!isExpressionStatement(first)) return null;
   const field = headOf(second);
   if (field) return [{ ...second, [field]: sequence(first.expression, second[field]) }];
-  return second.type === "ForStatement" && !second.init ? [{ ...second, init: first.expression }] : null;
+  return second.type === "ForStatement" && !second.init
+    ? [{ ...second, init: first.expression }]
+    : null;
 }
 
 // 68: neighbouring declarations of one kind become one.
@@ -51,11 +53,15 @@ function joinDeclarations(first, second) {
   return isVar(second.init) ? [{ ...second, init: joined(first, second.init) }] : null;
 }
 
-const joined = (first, second) => ({ ...first, declarations: [...first.declarations, ...second.declarations] });
+const joined = (first, second) =>
+  ({ ...first, declarations: [...first.declarations, ...second.declarations] });
 
 // 69: a `var` goes into the head of the loop that writes it.
 function declareInHead(first, second) {
-  if (!isVar(first) || first.declarations.length !== 1 || !/^For(In|Of)Statement$/.test(second.type)) return null;
+  if (!isVar(first) || first.declarations.length !== 1
+    || !/^For(In|Of)Statement$/.test(second.type)) {
+    return null;
+  }
   const [{ id, init }] = first.declarations;
   const isOne = !init && isName(id) && isName(second.left) && second.left.symbol === id.symbol;
   return isOne ? [{ ...second, left: first }] : null;
@@ -84,14 +90,19 @@ function withoutLeading(node) {
 
 function withoutWhole(node, first) {
   if (isExpressionStatement(node)) return { first, rest: [] };
-  return node.type === "ForStatement" && node.init === first ? { first, rest: [{ ...node, init: null }] } : null;
+  return node.type === "ForStatement" && node.init === first
+    ? { first, rest: [{ ...node, init: null }] }
+    : null;
 }
 
 // 70: a declaration takes the value that is assigned next.
 function initialise(first, second) {
   if (!isDeclaration(first) || first.kind === "const") return null;
   const found = withoutLeading(second);
-  const at = found ? first.declarations.findLastIndex((part) => isName(part.id) && part.id.symbol === found.first.left.symbol) : -1;
+  const at = found
+    ? first.declarations.findLastIndex((part) => isName(part.id)
+      && part.id.symbol === found.first.left.symbol)
+    : -1;
   if (at < 0 || first.declarations.slice(at).some((part) => part.init)) return null;
   const isLast = at === first.declarations.length - 1;
   if (first.kind === "let" && !(isLast && isPlain(found.first.right))) return null;
@@ -104,10 +115,12 @@ function initialise(first, second) {
 function isRemovable(part) {
   if (!isName(part.id)) return false;
   const { symbol } = part.id;
-  return symbol.isUnused && !symbol.isExported && !symbol.isShared && !symbol.isTop && !symbol.isInEvalsReach;
+  return symbol.isUnused && !symbol.isExported && !symbol.isShared && !symbol.isTop
+    && !symbol.isInEvalsReach;
 }
 
-const declaring = (node, declarations) => (declarations.length > 0 ? [{ ...node, declarations }] : []);
+const declaring = (node, declarations) =>
+  (declarations.length > 0 ? [{ ...node, declarations }] : []);
 
 // 72: a declarator that nothing reads goes; an initializer with effects stays.
 function dropDeclarators(node) {
@@ -143,4 +156,4 @@ const LISTS = [
 ];
 const STATEMENTS = [[72, dropHeadDeclarators]];
 
-module.exports = { LISTS, STATEMENTS, isLexical, ofEach, ofNeighbours, spliced };
+module.exports = { LISTS, STATEMENTS, ofEach, ofNeighbours, spliced };

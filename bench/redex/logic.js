@@ -2,14 +2,14 @@
 // node and its seat that gives what would be written, or nothing.
 "use strict";
 const {
-  ARITHMETIC, BITS, SHIFTS, assignment, binary, isBinary, isChain, isEquality, isLiteral, isLogical,
-  isMember, isName, isNegative, isNode, isNull, isPlainAssignment, isResolved, isSame, isText,
-  isUnary, isUndefined, isUnresolved, keyOf, literal, logical, not, number, partsOf, sequence,
+  ARITHMETIC, assignment, binary, BITS, isBinary, isEquality, isLiteral, isLogical, isMember,
+  isName, isNegative, isNull, isPlainAssignment, isResolved, isSame, isText, isUnary, isUndefined,
+  literal, logical, not, number, partsOf, sequence, SHIFTS,
 } = require("./nodes.js");
 const {
-  constant, isFree, isFreeOf, isInt32, kind, lighterNot, lit, negation, truth,
+  constant, isFree, isFreeOf, isInt32, kind, lighterNot, negation, truth,
 } = require("./terms.js");
-const { seatOf, TEST } = require("./seats.js");
+const { seatOf } = require("./seats.js");
 
 // 23: a negation is found inside.
 function negate(node, seat) {
@@ -26,7 +26,9 @@ function dropDoubleNot(node, seat) {
 
 // 25: in a test `a && k` with k true is a.
 function dropKnownOperand(node, seat) {
-  if (!seat.boolean || !isLogical(node) || node.operator === "??" || !isFree(node.right)) return null;
+  if (!seat.boolean || !isLogical(node) || node.operator === "??" || !isFree(node.right)) {
+    return null;
+  }
   return truth(node.right) === (node.operator === "&&") ? node.left : null;
 }
 
@@ -60,7 +62,9 @@ function negateBits(node, seat) {
 // 28: a strict equality of one known kind is a loose one.
 function loosen(node) {
   if (!isBinary(node, ["===", "!=="]) || kind(node.left) === "Undetermined") return null;
-  return kind(node.left) === kind(node.right) ? { ...node, operator: node.operator.slice(0, 2) } : null;
+  return kind(node.left) === kind(node.right)
+    ? { ...node, operator: node.operator.slice(0, 2) }
+    : null;
 }
 
 // 29: a boolean compared with a known one is itself or its negation.
@@ -109,7 +113,9 @@ function equivalentNumber(text) {
 function dottedMember(node) {
   if (!isMember(node) || !node.computed || !isText(node.property)) return null;
   const { value } = node.property;
-  if (isIdentifierName(value)) return { ...node, computed: false, property: { type: "Identifier", name: value } };
+  if (isIdentifierName(value)) {
+    return { ...node, computed: false, property: { type: "Identifier", name: value } };
+  }
   const found = equivalentNumber(value);
   return found === null || node.optional ? null : { ...node, property: number(found) };
 }
@@ -139,7 +145,8 @@ function assignLogical(node) {
   return assignment(`${right.operator}=`, left, right.right);
 }
 
-const isTold = (key) => isText(key) || (key.type === "Literal" && typeof key.value === "number") || isNegative(key);
+const isTold = (key) =>
+  isText(key) || (key.type === "Literal" && typeof key.value === "number") || isNegative(key);
 
 // A name, or a member of a name or of `this` whose key is told.
 function isSimpleTarget(node) {
@@ -153,15 +160,21 @@ function isSimpleTarget(node) {
 function assignCombined(node) {
   if (!isPlainAssignment(node) || !isBinary(node.right, COMPOUND)) return null;
   const { left, right } = node;
-  return isSimpleTarget(left) && isSame(left, right.left) ? assignment(`${right.operator}=`, left, right.right) : null;
+  return isSimpleTarget(left) && isSame(left, right.left)
+    ? assignment(`${right.operator}=`, left, right.right)
+    : null;
 }
 
 // 36: `t -= 1` becomes `--t`.
 function toUpdate(node) {
   if (node.type !== "AssignmentExpression" || node.operator !== "-=") return null;
-  const value = isNegative(node.right) || node.right.type === "Literal" ? constant(node.right)?.value : null;
+  const value = isNegative(node.right) || node.right.type === "Literal"
+    ? constant(node.right)?.value
+    : null;
   if (value !== 1 && value !== -1) return null;
-  return { type: "UpdateExpression", operator: value === 1 ? "--" : "++", prefix: true, argument: node.left };
+  return { type: "UpdateExpression", operator: value === 1
+    ? "--"
+    : "++", prefix: true, argument: node.left };
 }
 
 // ---- tests for null
@@ -243,6 +256,5 @@ const EXPRESSIONS = [
 ];
 
 module.exports = {
-  EXPRESSIONS, LOGICAL, TEST, equivalentNumber, isChain, isIdentifierName, isNode, isSimpleTarget,
-  isSteadyName, isUnresolved, lastTwo, lit, notFirst, tested,
+  EXPRESSIONS, equivalentNumber, isIdentifierName, isSteadyName, lastTwo, notFirst,
 };

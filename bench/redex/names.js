@@ -2,8 +2,10 @@
 // variable gets it as `symbol` (null where no scope declares the name), each node the body in which
 // it stands as `body`, and each `this` whether it stands in a derived constructor.
 "use strict";
-const { FIELDS, children, scopes } = require("../estree.js");
-const { isCarried, isClass, isFunction, isLoop, isName, isNode, isPrivate, isSuper } = require("./nodes.js");
+const { children, scopes } = require("../estree.js");
+const {
+  isCarried, isClass, isFunction, isName, isNode, isPrivate, isSuper,
+} = require("./nodes.js");
 const { Body, Scope } = require("./variable.js");
 
 const isStrictList = (list) => list.some((part) => part.directive === "use strict");
@@ -53,7 +55,9 @@ class Resolver {
   refer(node, ctx, { reads = false, writes = false }) {
     const found = ctx.scope.find(node.name);
     Object.assign(node, { symbol: found, isReference: true });
-    if (node.name === "arguments" && !found && ctx.owner) ctx.owner.scope.showsArguments ||= !ctx.owner.isStrict;
+    if (node.name === "arguments" && !found && ctx.owner) {
+      ctx.owner.scope.showsArguments ||= !ctx.owner.isStrict;
+    }
     if (!found) return;
     const by = ctx.carrier ?? ctx.body;
     found.mention(by, ctx.carrier !== null);
@@ -228,7 +232,9 @@ class Resolver {
     const held = this.open(ctx, node.id ? [node.id.name] : [], "class", { body: null });
     const within = { ...held, isStrict: true, isExport: false, carrier: node };
     for (const name of within.scope.variables.values()) name.isLexical = true;
-    if (node.type === "ClassExpression" && node.id) node.id.symbol = within.scope.find(node.id.name);
+    if (node.type === "ClassExpression" && node.id) {
+      node.id.symbol = within.scope.find(node.id.name);
+    }
     this.inner(node.superClass, within);
     for (const part of node.body.body) this.member(part, within, Boolean(node.superClass));
   }
@@ -237,7 +243,9 @@ class Resolver {
     this.mark(part, ctx);
     if (part.type === "StaticBlock") return this.staticBlock(part, ctx);
     if (part.computed) this.inner(part.key, ctx);
-    if (part.type === "PropertyDefinition") return this.inner(part.value, { ...ctx, isDerived: false });
+    if (part.type === "PropertyDefinition") {
+      return this.inner(part.value, { ...ctx, isDerived: false });
+    }
     const isConstructor = part.kind === "constructor" && isDerived;
     this.visit(part.value, { ...ctx, carrier: null, isConstructor });
   }
@@ -294,7 +302,9 @@ class Resolver {
   ForInStatement(node, ctx) {
     const within = this.opened(node, "left", "block", ctx);
     this.mark(node.left, within);
-    if (node.left.type === "VariableDeclaration") this.VariableDeclaration(node.left, within, node.right);
+    if (node.left.type === "VariableDeclaration") {
+      this.VariableDeclaration(node.left, within, node.right);
+    }
     else this.target(node.left, within, { writes: true });
     this.visit(node.right, within);
     this.visit(node.body, within);
@@ -352,7 +362,9 @@ function resolve(program) {
   const resolver = new Resolver();
   const isStrict = program.sourceType === "module" || isStrictList(program.body);
   const body = new Body(program);
-  const ctx = { scope: null, body, carrier: null, among: [], owner: null, isStrict, isDerived: false };
+  const ctx = {
+    scope: null, body, carrier: null, among: [], owner: null, isStrict, isDerived: false,
+  };
   resolver.mark(program, ctx);
   const names = scopes(program, false).body;
   const isScript = program.sourceType === "script";

@@ -3,12 +3,14 @@
 "use strict";
 const { FIELDS, FUNCTIONS, isOf } = require("../estree.js");
 
-const isNode = (value) => value !== null && typeof value === "object" && typeof value.type === "string";
+const isNode = (value) =>
+  value !== null && typeof value === "object" && typeof value.type === "string";
 
 // ---- nodes
 
 const literal = (value) => ({ type: "Literal", value });
-const unary = (operator, argument) => ({ type: "UnaryExpression", operator, prefix: true, argument });
+const unary = (operator, argument) =>
+  ({ type: "UnaryExpression", operator, prefix: true, argument });
 const number = (n) => (n < 0 ? unary("-", literal(-n)) : literal(n));
 const not = (argument) => unary("!", argument);
 const voidZero = () => unary("void", literal(0));
@@ -46,7 +48,8 @@ const oneOf = (list) => (list.length === 1 ? list[0] : block(list));
 // ---- shapes
 
 const isUnary = (node, operator) => node.type === "UnaryExpression" && node.operator === operator;
-const isLiteral = (node, value) => node.type === "Literal" && !node.regex && !node.bigint && node.value === value;
+const isLiteral = (node, value) =>
+  node.type === "Literal" && !node.regex && !node.bigint && node.value === value;
 const isText = (node) => node.type === "Literal" && typeof node.value === "string";
 const isNull = (node) => isLiteral(node, null);
 const isVoidZero = (node) => isUnary(node, "void") && isLiteral(node.argument, 0);
@@ -124,10 +127,10 @@ function isSame(first, second) {
 }
 
 module.exports = {
-  ARITHMETIC, BITS, OPPOSITE, SHIFTS, assignment, binary, block, boolean, conditional, follow, ifStatement,
-  isBinary, isCarried, isChain, isClass, isEmpty, isEquality, isExpressionStatement, isFunction,
-  isIfElse, isLink, isLiteral, isLogical, isLoop, isMember, isName, isNegative, isNode, isNull,
-  isPlainAssignment, isPositive, isPrivate, isResolved, isSame, isSuper, isText, isUnary,
+  ARITHMETIC, BITS, OPPOSITE, SHIFTS, assignment, binary, block, boolean, conditional, follow,
+  ifStatement, isBinary, isCarried, isChain, isClass, isEmpty, isEquality, isExpressionStatement,
+  isFunction, isIfElse, isLink, isLiteral, isLogical, isLoop, isMember, isName, isNegative, isNode,
+  isNull, isPlainAssignment, isPositive, isPrivate, isResolved, isSame, isSuper, isText, isUnary,
   isUndefined, isUnresolved, isVoidZero, keyOf, literal, logical, not, number, oneOf, partsOf,
-  sequence, statement, unary, voidZero, boolean,
+  sequence, statement, unary, voidZero,
 };

@@ -4,8 +4,12 @@
 const { chances } = require("../pieces.js");
 
 const ABSENT = ["a", "b", "c", "f", "g"];
-const CONSTANTS = ["0", "1", "2", '""', '"s"', "null", "true", "false", "undefined", "void 0", "!0", "7n", "-1"];
-const BINARY = ["+", "-", "*", "/", "%", "**", "&", "|", "^", "<<", ">>", ">>>", "<", ">", "<=", ">=", "in", "instanceof"];
+const CONSTANTS = [
+  "0", "1", "2", '""', '"s"', "null", "true", "false", "undefined", "void 0", "!0", "7n", "-1",
+];
+const BINARY = [
+  "+", "-", "*", "/", "%", "**", "&", "|", "^", "<<", ">>", ">>>", "<", ">", "<=", ">=", "in", "instanceof",
+];
 const EQUALITIES = ["==", "!=", "===", "!=="];
 const COMPOUND = ["=", "=", "=", "+=", "-=", "*=", "|=", "||=", "&&=", "??="];
 
@@ -58,7 +62,9 @@ class Generator {
 
   expression(depth) {
     if (depth <= 0) return this.chance(3) === 0 ? this.constant() : this.name();
-    const makers = [this.logic, this.logic, this.choice, this.operator, this.access, this.set, this.shape, this.rest];
+    const makers = [
+      this.logic, this.logic, this.choice, this.operator, this.access, this.set, this.shape, this.rest,
+    ];
     return `(${this.pick(makers).call(this, depth - 1)})`;
   }
 
@@ -89,7 +95,8 @@ class Generator {
       () => `${e()} ? ${e()} : ${e()}`,
       () => `!${e()} ? ${e()} : ${e()}`,
       () => `${x} ? ${x} : ${e()}`,
-      () => `${e()} ? ${this.pick(["true", "false", "1", "0"])} : ${this.pick(["false", "true", "0", "1", p])}`,
+      () =>
+        `${e()} ? ${this.pick(["true", "false", "1", "0"])} : ${this.pick(["false", "true", "0", "1", p])}`,
       () => `${e()} ? ${e()} ? ${p} : ${q} : ${q}`,
       () => `${e()} ? ${p} : (${e()}, ${p})`,
       () => `${e()} ? ${x}(${p}, ${q}) : ${x}(${e()}, ${q})`,
@@ -107,7 +114,8 @@ class Generator {
       () => `${e()} ${this.pick(BINARY)} ${e()}`,
       () => `${e()} ${this.pick(EQUALITIES)} ${e()}`,
       () => `${this.pick(["+", "-", "~", "typeof ", "void ", "delete "])}${e()}`,
-      () => `typeof ${this.name()} ${this.pick(EQUALITIES)} ${this.pick(['"undefined"', '"string"', '"text"'])}`,
+      () =>
+        `typeof ${this.name()} ${this.pick(EQUALITIES)} ${this.pick(['"undefined"', '"string"', '"text"'])}`,
       () => `(${e()} & 1) ${this.pick(EQUALITIES)} 0`,
       () => `${e()} ${this.pick(["|", "<<", ">>", "^"])} 0`,
       () => `${e()} + "s" + ${this.constant()}`,
@@ -138,7 +146,9 @@ class Generator {
   }
 
   target() {
-    return this.one(() => this.name(), () => `${this.name()}.k`, () => `${this.name()}["k"]`, () => `this.k`);
+    return this.one(
+      () => this.name(), () => `${this.name()}.k`, () => `${this.name()}["k"]`, () => `this.k`,
+    );
   }
 
   set(depth) {
@@ -159,7 +169,8 @@ class Generator {
     const x = this.name();
     return this.one(
       () => `[${e()}, , ...${e()}]`,
-      () => `{ ${x}: ${x}, "k": ${e()}, [${this.pick(['"l"', "2", e()])}]: ${e()}, ...${e()}, m() { ${this.body(depth, {})} } }`,
+      () =>
+        `{ ${x}: ${x}, "k": ${e()}, [${this.pick(['"l"', "2", e()])}]: ${e()}, ...${e()}, m() { ${this.body(depth, {})} } }`,
       () => `{ get p() { ${this.body(depth, {})} }, set q(z) { ${this.body(depth, {})} } }`,
       () => `function ${this.pick(["", this.fresh()])}${this.callable(depth, false)}`,
       () => `function* ${this.callable(depth, true)}`,
@@ -193,7 +204,8 @@ class Generator {
       () => names[0],
       () => names.join(", "),
       () => `${names[0]}, ...${names[1]}`,
-      () => `${names[0]} = ${this.expression(depth - 1)}, { p: ${names[1]}, ["q"]: ${this.declare(this.fresh())} = 1 } = {}`,
+      () =>
+        `${names[0]} = ${this.expression(depth - 1)}, { p: ${names[1]}, ["q"]: ${this.declare(this.fresh())} = 1 } = {}`,
     );
   }
 
@@ -203,7 +215,11 @@ class Generator {
   }
 
   body(depth, state) {
-    return this.within({ inFunction: true, inGenerator: false, inLoop: false, inMethod: true, ...state }, () => this.list(depth));
+    return this.within(
+      {
+        inFunction: true, inGenerator: false, inLoop: false, inMethod: true, ...state,
+      }, () => this.list(depth),
+    );
   }
 
   arrow(depth) {
@@ -245,8 +261,15 @@ class Generator {
 
   statement(depth) {
     const e = () => this.expression(depth);
-    if (depth <= 0) return this.one(() => `${e()};`, () => `${this.name()}(${e()});`, () => this.jump(0), () => this.declaration(0));
-    const makers = [this.branch, this.declaration, this.declaration, this.loop, this.jump, this.other];
+    if (depth <= 0) {
+      return this.one(
+        () =>
+          `${e()};`, () => `${this.name()}(${e()});`, () => this.jump(0), () => this.declaration(0),
+      );
+    }
+    const makers = [
+      this.branch, this.declaration, this.declaration, this.loop, this.jump, this.other,
+    ];
     return this.chance(3) === 0 ? `${e()};` : this.pick(makers).call(this, depth);
   }
 
@@ -256,7 +279,8 @@ class Generator {
     const text = this.one(
       () => `let ${one} = ${e()};`,
       () => `const ${one} = ${e()}; ${this.name()}(${one}, ${e()});`,
-      () => `let ${one} = ${e()}; ${this.pick(["return", "throw", ""].slice(this.state.inFunction ? 0 : 1))} ${one}.m(${this.name()});`,
+      () =>
+        `let ${one} = ${e()}; ${this.pick(["return", "throw", ""].slice(this.state.inFunction ? 0 : 1))} ${one}.m(${this.name()});`,
       () => `var ${one} = ${e()}, ${two} = ${one};`,
       () => `let ${one} = ${this.name()}(), ${two} = [${one}, ${e()}];`,
       () => `var ${one}; ${one} = ${e()};`,
@@ -279,7 +303,8 @@ class Generator {
       () => `if (${e()}) ${this.jump(0)} ${this.jump(0)}`,
       () => `if (${e()}) { ${s()} ${this.jump(0)} } ${s()}`,
       () => this.guards(depth),
-      () => `switch (${this.pick([e(), "2"])}) { case 1: ${s()} case ${this.pick(["2", e()])}: ${s()} default: ${s()} }`,
+      () =>
+        `switch (${this.pick([e(), "2"])}) { case 1: ${s()} case ${this.pick(["2", e()])}: ${s()} default: ${s()} }`,
       () => `switch (${e()}) { case ${this.constant()}: ${this.block(depth - 1).slice(1, -1)} }`,
     );
   }
@@ -292,7 +317,9 @@ class Generator {
 
   // A statement that may stand alone as a body.
   plain(depth) {
-    return this.one(() => this.block(depth), () => `${this.expression(depth)};`, () => this.jump(0));
+    return this.one(
+      () => this.block(depth), () => `${this.expression(depth)};`, () => this.jump(0),
+    );
   }
 
   loop(depth) {
@@ -313,7 +340,9 @@ class Generator {
   jump(depth) {
     const e = () => this.expression(depth + 1);
     const found = [() => `throw ${e()};`];
-    if (this.state.inFunction) found.push(() => `return ${e()};`, () => "return;", () => "return void 0;");
+    if (this.state.inFunction) {
+      found.push(() => `return ${e()};`, () => "return;", () => "return void 0;");
+    }
     if (this.state.inLoop) found.push(() => "break;", () => "continue;");
     return this.pick(found)();
   }
@@ -328,7 +357,8 @@ class Generator {
       () => `l${one}: ${this.block(depth - 1)}`,
       () => `l${one}: for (;;) { if (${e()}) break l${one}; ${this.block(depth - 1)} }`,
       () => `try ${this.block(depth - 1)} catch (e${this.pick(["", "1"])}) { ${e()}; }`,
-      () => `try ${this.block(depth - 1)} catch ({ p: z }) { ${e()}; } finally ${this.block(depth - 1)}`,
+      () =>
+        `try ${this.block(depth - 1)} catch ({ p: z }) { ${e()}; } finally ${this.block(depth - 1)}`,
       () => `class ${one} ${this.classBody(depth - 1)}`,
     );
   }
@@ -350,11 +380,19 @@ class Generator {
   module() {
     this.scopes.push([]);
     const [one, two] = [this.declare(this.fresh()), this.declare(this.fresh())];
-    const parts = [`import ${one}, { "k" as ${two} } from "m"; import * as ns from "n"; import "o";`, this.top()];
+    const parts = [
+      `import ${one}, { "k" as ${two} } from "m"; import * as ns from "n"; import "o";`, this.top(),
+    ];
     const exported = this.fresh();
-    parts.push(this.declaration(2), `export const ${exported} = ${this.expression(3)};`, this.statement(3));
-    parts.push(this.pick(['export * from "m";', 'export * as n from "m";', `export { ${exported} as z };`, "x = import.meta.url;"]));
-    parts.push(this.pick([`export default ${this.expression(2)};`, "export default function () {}", 'export { q } from "m";']));
+    parts.push(
+      this.declaration(2), `export const ${exported} = ${this.expression(3)};`, this.statement(3),
+    );
+    parts.push(this.pick([
+      'export * from "m";', 'export * as n from "m";', `export { ${exported} as z };`, "x = import.meta.url;",
+    ]));
+    parts.push(this.pick([
+      `export default ${this.expression(2)};`, "export default function () {}", 'export { q } from "m";',
+    ]));
     return parts.join(" ");
   }
 }

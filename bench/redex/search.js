@@ -15,11 +15,18 @@ const { isNegative, isPositive, oneOf } = require("./nodes.js");
 const { eachPart, guarded, weightOf, weightOfList } = require("./seats.js");
 const { placeOf } = require("./statements.js");
 
-const EXPRESSIONS = [...fold.EXPRESSIONS, ...logic.EXPRESSIONS, ...conditionals.EXPRESSIONS, ...syntax.EXPRESSIONS];
-const STATEMENTS = [...fold.STATEMENTS, ...lists.STATEMENTS, ...branches.STATEMENTS, ...syntax.OTHERS, ...single.DECLARATIONS];
+const EXPRESSIONS = [
+  ...fold.EXPRESSIONS, ...logic.EXPRESSIONS, ...conditionals.EXPRESSIONS, ...syntax.EXPRESSIONS,
+];
+const STATEMENTS = [
+  ...fold.STATEMENTS, ...lists.STATEMENTS, ...branches.STATEMENTS, ...syntax.OTHERS,
+  ...single.DECLARATIONS,
+];
 const LISTS = [...lists.LISTS, ...single.LISTS, ...jumps.LISTS];
 
-const LISTED = { Program: "body", BlockStatement: "body", SwitchCase: "consequent", StaticBlock: "body" };
+const LISTED = {
+  Program: "body", BlockStatement: "body", SwitchCase: "consequent", StaticBlock: "body",
+};
 const asList = (found) => (Array.isArray(found) ? found : found ? [found] : []);
 const isDirective = (node) => typeof node.directive === "string";
 
@@ -75,11 +82,13 @@ function* found(node, seat, up) {
   if (isOf(Object.keys(LISTED), node)) yield* ofList(node, up);
   else if (["body", "consequent"].includes(seat.seat)) yield* ofBody(node, seat, up);
   if (node.type === "ExpressionStatement" && isDirective(node)) return;
-  if (isExpressionSeat(seat) && !/^VariableDecl/.test(node.type)) yield* ofExpression(node, seat, up);
+  if (isExpressionSeat(seat) && !/^VariableDecl/.test(node.type)) {
+    yield* ofExpression(node, seat, up);
+  }
   else yield* ofStatement(node, seat, up);
 }
 
-// Whether the node is no node of any row's kind: a directive's text, the text of a negative literal.
+// Whether no row reads a node: a directive's text, the number of a negative literal.
 const isUnread = (node, { parent }) =>
   Boolean(parent) && (isNegative(parent) || isDirective(parent));
 
@@ -90,7 +99,9 @@ function search(program) {
   const told = [];
   eachPart(tree, { is: "elsewhere" }, { pointer: "" }, (node, seat, up) => {
     if (isUnread(node, up)) return;
-    for (const each of found(node, seat, up)) told.push({ ...each, node, seat, up, pointer: up.pointer });
+    for (const each of found(node, seat, up)) {
+      told.push({ ...each, node, seat, up, pointer: up.pointer });
+    }
   });
   return told;
 }

@@ -1,7 +1,7 @@
 // The seat of each part of a program: what its parent asks of its level, whether its truth alone
 // counts, whether its value is used at all, and how a part weighs there.
 "use strict";
-const { Weigher, expr, stmt, SEATS } = require("../weigh.js");
+const { expr, SEATS, Weigher } = require("../weigh.js");
 const { FIELDS } = require("../estree.js");
 const { isChain, isName, isNode, isUnary, isUnresolved } = require("./nodes.js");
 
@@ -37,12 +37,15 @@ const isEqualitySign = (operator) => /^[!=]==?$/.test(operator);
 
 const SEAT = {
   ExpressionStatement: () => UNUSED,
-  IfStatement: (node, field) => (field === "test" ? TEST : SEATS[field === "consequent" ? "consequent" : "body"]),
+  IfStatement: (node, field) =>
+    (field === "test" ? TEST : SEATS[field === "consequent" ? "consequent" : "body"]),
   WhileStatement: (node, field) => (field === "test" ? TEST : SEATS.body),
   DoWhileStatement: (node, field) => (field === "test" ? TEST : SEATS.body),
   ForStatement: forSeat,
-  ForInStatement: (node, field) => (field === "right" ? expr(0) : field === "body" ? SEATS.body : SEATS.target),
-  ForOfStatement: (node, field) => (field === "right" ? expr(1) : field === "body" ? SEATS.body : SEATS.target),
+  ForInStatement: (node, field) =>
+    (field === "right" ? expr(0) : field === "body" ? SEATS.body : SEATS.target),
+  ForOfStatement: (node, field) =>
+    (field === "right" ? expr(1) : field === "body" ? SEATS.body : SEATS.target),
   LabeledStatement: () => SEATS.body,
   ReturnStatement: () => expr(0),
   ThrowStatement: () => expr(0),
@@ -56,10 +59,13 @@ const SEAT = {
   LogicalExpression: logicalSeat,
   ConditionalExpression: conditionalSeat,
   SequenceExpression: sequenceSeat,
-  CallExpression: (node, field) => (field === "callee" ? { ...SEATS.object, guard: "callee" } : expr(1)),
-  NewExpression: (node, field) => (field === "callee" ? { ...SEATS.object, newCallee: true } : expr(1)),
+  CallExpression: (node, field) =>
+    (field === "callee" ? { ...SEATS.object, guard: "callee" } : expr(1)),
+  NewExpression: (node, field) =>
+    (field === "callee" ? { ...SEATS.object, newCallee: true } : expr(1)),
   MemberExpression: (node, field) => (field === "object" ? SEATS.object : expr(0)),
-  TaggedTemplateExpression: (node, field) => (field === "tag" ? { ...SEATS.object, guard: "callee" } : SEATS.elsewhere),
+  TaggedTemplateExpression: (node, field) =>
+    (field === "tag" ? { ...SEATS.object, guard: "callee" } : SEATS.elsewhere),
   TemplateLiteral: (node, field) => (field === "expressions" ? expr(0) : SEATS.elsewhere),
   ChainExpression: (node, field, place) => ({ ...expr(0), isLink: true, guard: place.guard }),
   YieldExpression: () => ({ ...expr(1), lifted: true }),

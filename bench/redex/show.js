@@ -6,7 +6,10 @@ const { print, whole } = require("../print.js");
 const attempts = [
   (node) => print(node.type === "Program" ? node : { body: [node].flat() }),
   (node) => whole(node),
-  (node) => (node.type === "Property" ? whole({ type: "ObjectExpression", properties: [node] }) : undefined),
+  (node) =>
+    (node.type === "Property"
+      ? whole({ type: "ObjectExpression", properties: [node] })
+      : undefined),
   (node) => `${node.type} ${children(node).map(shown).join(" ")}`,
 ];
 

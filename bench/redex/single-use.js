@@ -1,12 +1,12 @@
 // Rewrite 71: the initializer of a name that is read once, in what is evaluated next, takes the
 // place of the name.
 "use strict";
-const {
-  isCarried, isChain, isFunction, isLink, isName, isResolved, isSuper, isUnary, isUnresolved,
-} = require("./nodes.js");
+const { isCarried, isFunction, isName, isResolved, isUnary, isUnresolved } = require("./nodes.js");
 const { isFree, isPlain, isPrimitive } = require("./terms.js");
 const { needsGuard } = require("./seats.js");
-const { firstExpressions, isDeclaration, isLexicalHead, partAt, replaced } = require("./statements.js");
+const {
+  firstExpressions, isDeclaration, isLexicalHead, partAt, replaced,
+} = require("./statements.js");
 const { spine } = require("./fold.js");
 const { isSteadyName } = require("./logic.js");
 const { spliced } = require("./lists.js");
@@ -33,11 +33,15 @@ function memberParts(node) {
 
 function callParts(node) {
   const isMaybe = isBehindMark(node);
-  return [part(["callee"]), ...listed("arguments", node.arguments).map((each) => ({ ...each, isMaybe }))];
+  return [
+    part(["callee"]), ...listed("arguments", node.arguments).map((each) => ({ ...each, isMaybe })),
+  ];
 }
 
 function propertyParts(each, at) {
-  if (each.type === "SpreadElement") return [part(["properties", at, "argument"], { isSpread: true })];
+  if (each.type === "SpreadElement") {
+    return [part(["properties", at, "argument"], { isSpread: true })];
+  }
   const key = each.computed ? [part(["properties", at, "key"], { isConverted: true })] : [];
   return [...key, part(["properties", at, "value"])];
 }
@@ -86,7 +90,11 @@ const PARTS = {
 // The path to the read of a variable, the parts that are passed on the way, whether it may stay
 // unevaluated, and the node round it; null where it isn't read here.
 function wayTo(node, symbol) {
-  if (isName(node)) return node.symbol === symbol && node.isReference ? { path: [], passed: [], isMaybe: false } : null;
+  if (isName(node)) {
+    return node.symbol === symbol && node.isReference
+      ? { path: [], passed: [], isMaybe: false }
+      : null;
+  }
   if (isFunction(node) || isCarried(node)) return null;
   const parts = PARTS[node.type]?.(node) ?? [];
   for (const [at, each] of parts.entries()) {
@@ -97,10 +105,13 @@ function wayTo(node, symbol) {
 }
 
 function joinedWay(node, before, each, below) {
-  const passed = before.filter((other) => !(each.isBranch && other.isBranch) && !isInside(node, other, before));
+  const passed = before.filter((other) => !(each.isBranch && other.isBranch)
+    && !isInside(node, other, before));
   return {
     path: [...each.path, ...below.path],
-    passed: [...passed.map((other) => ({ ...other, node: partAt(node, other.path) })), ...below.passed],
+    passed: [
+      ...passed.map((other) => ({ ...other, node: partAt(node, other.path) })), ...below.passed,
+    ],
     isMaybe: Boolean(each.isMaybe) || below.isMaybe,
     parent: below.parent ?? node,
     field: below.parent ? below.field : each.path.at(-1),
@@ -139,7 +150,8 @@ function isProto(h, way) {
 function isCandidate(declarator) {
   if (!declarator || !declarator.init || !isResolved(declarator.id)) return false;
   const { symbol } = declarator.id;
-  return symbol.reads === 1 && symbol.writes === 0 && !symbol.isShared && !symbol.isTop && !symbol.isInEvalsReach;
+  return symbol.reads === 1 && symbol.writes === 0 && !symbol.isShared && !symbol.isTop
+    && !symbol.isInEvalsReach;
 }
 
 // The expression with the initializer of a declarator in the place of its name.
@@ -183,11 +195,13 @@ function intoDeclarator(node) {
   return node.declarations.slice(0, -1).flatMap((first, at) => {
     const second = node.declarations[at + 1];
     const found = isCandidate(first) && second.init ? substituted(first, second.init) : null;
-    return found ? [{ ...node, declarations: node.declarations.toSpliced(at, 2, { ...second, init: found }) }] : [];
+    return found
+      ? [{ ...node, declarations: node.declarations.toSpliced(at, 2, { ...second, init: found }) }]
+      : [];
   });
 }
 
 const LISTS = [[71, intoNext]];
 const DECLARATIONS = [[71, intoDeclarator]];
 
-module.exports = { DECLARATIONS, LISTS, isChain, isLink, isSuper };
+module.exports = { DECLARATIONS, LISTS };

@@ -15,16 +15,20 @@ function isScoped(node) {
 
 const JUMPS = ["ReturnStatement", "ThrowStatement", "BreakStatement", "ContinueStatement"];
 const isIdleTail = (node) =>
-  node.type === "FunctionDeclaration" || (isVar(node) && node.declarations.every((part) => !part.init));
+  node.type === "FunctionDeclaration"
+    || (isVar(node) && node.declarations.every((part) => !part.init));
 
 // Whether a statement never completes normally, as far as its form tells.
 function isTerminated(node) {
   if (!node) return false;
   if (JUMPS.includes(node.type)) return true;
   if (node.type === "BlockStatement") return isTerminatedList(node.body);
-  if (node.type === "IfStatement") return isTerminated(node.consequent) && isTerminated(node.alternate);
+  if (node.type === "IfStatement") {
+    return isTerminated(node.consequent) && isTerminated(node.alternate);
+  }
   if (node.type !== "TryStatement") return false;
-  return isTerminated(node.finalizer) || (isTerminated(node.block) && isTerminated(node.handler?.body));
+  return isTerminated(node.finalizer)
+    || (isTerminated(node.block) && isTerminated(node.handler?.body));
 }
 
 const isTerminatedList = (list) => isTerminated(list.filter((node) => !isIdleTail(node)).at(-1));
@@ -76,7 +80,9 @@ function initializerOf(node) {
 
 // A node with another one at the end of a path.
 function replaced(node, [field, ...path], part) {
-  if (Array.isArray(node)) return node.with(field, path.length ? replaced(node[field], path, part) : part);
+  if (Array.isArray(node)) {
+    return node.with(field, path.length ? replaced(node[field], path, part) : part);
+  }
   return { ...node, [field]: path.length ? replaced(node[field], path, part) : part };
 }
 
@@ -90,7 +96,8 @@ function firstExpressions(node) {
   if (head) return [[head]];
   const initial = initializerOf(node);
   if (initial) return [[...initial, "declarations", 0, "init"]];
-  const isPlainIn = node.type === "ForInStatement" && !(isDeclaration(node.left) && node.left.declarations[0].init);
+  const isPlainIn = node.type === "ForInStatement"
+    && !(isDeclaration(node.left) && node.left.declarations[0].init);
   return node.type === "ForOfStatement" || isPlainIn ? [["right"]] : [];
 }
 
@@ -103,6 +110,6 @@ function isLexicalHead(node) {
 const isSetName = (node) => isPlainAssignment(node) && isName(node.left);
 
 module.exports = {
-  firstExpressions, headOf, isDeclaration, isIdleJump, isLexical, isLexicalHead, isScoped, isSetName,
-  isTerminated, isVar, isBareHead, partAt, placeOf, replaced,
+  firstExpressions, headOf, isDeclaration, isIdleJump, isLexical, isLexicalHead, isScoped,
+  isSetName, isTerminated, isVar, isBareHead, partAt, placeOf, replaced,
 };

@@ -1,10 +1,11 @@
 // Rewrites 51 to 65: shorter spellings of the same. Each is a function of a node and its seat that
 // gives what would be written, or nothing.
 "use strict";
+const { isOf } = require("../estree.js");
 const {
-  ARITHMETIC, BITS, SHIFTS, binary, isBinary, isCarried, isChain, isEquality, isLiteral, isLogical,
-  isName, isNull, isPrivate, isResolved, isText, isUnary, isUndefined, isUnresolved, isVoidZero,
-  boolean, literal, logical, not, voidZero,
+  ARITHMETIC, binary, BITS, boolean, isBinary, isCarried, isChain, isEquality, isLiteral, isLogical,
+  isName, isNull, isResolved, isUnary, isUndefined, isUnresolved, isVoidZero, literal, logical, not,
+  SHIFTS, voidZero,
 } = require("./nodes.js");
 const { constant, isFree, isFreeOf, isPlain, kind, namesVariable } = require("./terms.js");
 const { equivalentNumber, isIdentifierName, lastTwo } = require("./logic.js");
@@ -12,7 +13,8 @@ const { below } = require("./fold.js");
 
 // 51: `{ x: x }` becomes `{ x }`.
 function shorten(node, seat, { parent }) {
-  const isPlainPart = node.type === "Property" && parent.type === "ObjectExpression" && node.kind === "init";
+  const isPlainPart = node.type === "Property" && parent.type === "ObjectExpression"
+    && node.kind === "init";
   if (!isPlainPart || node.method || node.computed || node.shorthand) return null;
   const isSame = isName(node.key) && isName(node.value) && node.key.name === node.value.name;
   return isSame && node.key.name !== "__proto__" ? { ...node, shorthand: true } : null;
@@ -34,11 +36,17 @@ function isKeptInClass(node, text) {
 const isProto = (node, parent) =>
   parent.type === "ObjectExpression" && isLiteral(node.key, "__proto__") && !node.method;
 
+const PATTERNS = [
+  "Property", "RestElement", "ObjectPattern", "ArrayPattern", "AssignmentPattern",
+];
+
 // Whether a property stands in a pattern among the parameters of a function.
 function isInParameters(up) {
   for (let at = up; at; at = at.up) {
     if (at.field === "params") return true;
-    if (!/^(Property|RestElement|ObjectPattern|ArrayPattern|AssignmentPattern)$/.test(at.parent.type)) return false;
+    if (!isOf(PATTERNS, at.parent)) {
+      return false;
+    }
     if (at.parent.type === "AssignmentPattern" && at.field === "right") return false;
   }
   return false;
@@ -73,7 +81,9 @@ function shortenTarget(node, seat, up) {
 // Whether a pattern declares names.
 function isDeclared(up) {
   for (let at = up; at; at = at.up) {
-    if (/^(VariableDeclarator|CatchClause)$/.test(at.parent.type) || at.field === "params") return true;
+    if (/^(VariableDeclarator|CatchClause)$/.test(at.parent.type) || at.field === "params") {
+      return true;
+    }
     if (/^(AssignmentExpression|For(In|Of)Statement)$/.test(at.parent.type)) return false;
   }
   return false;
@@ -89,7 +99,9 @@ function swap(node) {
 
 // 55: `typeof x == "undefined"` is shorter by order, or as a comparison.
 function compareUndefined(node) {
-  if (!isEquality(node) || !isUnary(node.left, "typeof") || !isLiteral(node.right, "undefined")) return null;
+  if (!isEquality(node) || !isUnary(node.left, "typeof") || !isLiteral(node.right, "undefined")) {
+    return null;
+  }
   const isEqual = /^=/.test(node.operator);
   const { argument } = node.left;
   if (isUnresolved(argument)) return binary(isEqual ? ">" : "<", node.left, literal("u"));
@@ -105,18 +117,23 @@ function dropPlus(node) {
   const found = [];
   const isKnown = isFreeOf(right, "number") && !namesVariable(right);
   if (isUnary(left, "+") && isKnown) found.push({ ...node, left: left.argument });
-  if (isUnary(right, "+") && kind(left) === "Number") found.push({ ...node, right: right.argument });
+  if (isUnary(right, "+") && kind(left) === "Number") {
+    found.push({ ...node, right: right.argument });
+  }
   return found;
 }
 
 const isTypeofObject = (node, signs) =>
   isBinary(node, signs) && isUnary(node.left, "typeof") && isName(node.left.argument)
   && isLiteral(node.right, "object") && node.left.argument;
-const isNullTest = (node, signs) => isBinary(node, signs) && isNull(node.right) && isResolved(node.left) && node.left;
+const isNullTest = (node, signs) =>
+  isBinary(node, signs) && isNull(node.right) && isResolved(node.left) && node.left;
 
 // `typeof x === "object" && x !== null` in the shorter form.
 function joinedObject(first, second, operator) {
-  const [same, other] = operator === "&&" ? [["===", "=="], ["!==", "!="]] : [["!==", "!="], ["===", "=="]];
+  const [same, other] = operator === "&&"
+    ? [["===", "=="], ["!==", "!="]]
+    : [["!==", "!="], ["===", "=="]];
   for (const [one, two] of [[first, second], [second, first]]) {
     const [x, y] = [isTypeofObject(one, same), isNullTest(two, other)];
     if (!x || !y || x.symbol !== y.symbol) continue;
@@ -134,7 +151,9 @@ function testObject(node) {
 // 58: undefined in a loose equality is null.
 function looseUndefined(node) {
   if (!isBinary(node, ["==", "!="])) return null;
-  return ["left", "right"].filter((side) => isUndefined(node[side])).map((side) => ({ ...node, [side]: literal(null) }));
+  return [
+    "left", "right",
+  ].filter((side) => isUndefined(node[side])).map((side) => ({ ...node, [side]: literal(null) }));
 }
 
 // 59: an arrow of one `return` has an expression for a body.
@@ -149,7 +168,8 @@ function arrowExpression(node) {
 function dropUndefined(node) {
   if (!node.argument) return null;
   const isVoid = isUnary(node.argument, "void") && isFree(node.argument);
-  const isReturned = node.type === "ReturnStatement" && (isVoid || isUnresolved(node.argument, "undefined"));
+  const isReturned = node.type === "ReturnStatement"
+    && (isVoid || isUnresolved(node.argument, "undefined"));
   const isYielded = node.type === "YieldExpression" && !node.delegate && isVoidZero(node.argument);
   return isReturned || isYielded ? { ...node, argument: null } : null;
 }
@@ -172,15 +192,21 @@ function dropName(node) {
 
 // 63: so does the parameter of a `catch`.
 function dropCaught(node) {
-  if (node.type !== "CatchClause" || !node.param || !isName(node.param) || !isUnseen(node.param)) return null;
+  if (node.type !== "CatchClause" || !node.param || !isName(node.param) || !isUnseen(node.param)) {
+    return null;
+  }
   return hasVar(node.body, node.param.name) ? null : { ...node, param: null };
 }
 
 // Whether a `var` of a name stands in a statement, functions and classes aside.
 function hasVar(node, name) {
   if (Array.isArray(node)) return node.some((part) => hasVar(part, name));
-  if (!node || typeof node.type !== "string" || /Function|Class|Expression$/.test(node.type)) return false;
-  if (node.type === "VariableDeclaration" && node.kind === "var") return binds(node.declarations, name);
+  if (!node || typeof node.type !== "string" || /Function|Class|Expression$/.test(node.type)) {
+    return false;
+  }
+  if (node.type === "VariableDeclaration" && node.kind === "var") {
+    return binds(node.declarations, name);
+  }
   return Object.entries(node).some(([field, part]) => field !== "inBody" && hasVar(part, name));
 }
 
@@ -188,7 +214,8 @@ const binds = (declarations, name) => declarations.some((part) => mentions(part.
 const mentions = (pattern, name) => {
   if (!pattern) return false;
   if (isName(pattern)) return pattern.name === name;
-  const inside = pattern.properties ?? pattern.elements ?? [pattern.value ?? pattern.left ?? pattern.argument];
+  const one = pattern.value ?? pattern.left ?? pattern.argument;
+  const inside = pattern.properties ?? pattern.elements ?? [one];
   return inside.some((part) => mentions(part, name));
 };
 
@@ -217,4 +244,4 @@ const OTHERS = [
   [63, dropCaught],
 ];
 
-module.exports = { EXPRESSIONS, OTHERS, constant, isPrivate };
+module.exports = { EXPRESSIONS, OTHERS };

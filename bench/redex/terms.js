@@ -3,9 +3,9 @@
 "use strict";
 const { operate, operateUnary, toText } = require("./values.js");
 const {
-  ARITHMETIC, BITS, OPPOSITE, SHIFTS, binary, boolean, isBinary, isCarried, isClass, isEquality,
-  isFunction, isLiteral, isName, isNegative, isNode, isText, isUnary, isUnresolved, isVoidZero,
-  keyOf, literal, logical, not, number, unary, voidZero,
+  ARITHMETIC, binary, BITS, boolean, isBinary, isCarried, isClass, isEquality, isFunction,
+  isLiteral, isName, isNegative, isNode, isUnary, isUnresolved, isVoidZero, keyOf, literal, logical,
+  not, number, OPPOSITE, SHIFTS, unary, voidZero,
 } = require("./nodes.js");
 const { weightOf } = require("./seats.js");
 
@@ -22,7 +22,9 @@ function literalKind(node) {
 }
 
 function unaryKind(node) {
-  const known = { void: "Undefined", "!": "Boolean", delete: "Boolean", typeof: "String", "+": "Number" };
+  const known = {
+    void: "Undefined", "!": "Boolean", delete: "Boolean", typeof: "String", "+": "Number",
+  };
   return known[node.operator] ?? (isPrimitive(node.argument) ? "Number" : "Undetermined");
 }
 
@@ -36,7 +38,8 @@ function sumKind(node) {
 function binaryKind(node) {
   if (COMPARISONS.includes(node.operator)) return "Boolean";
   if (node.operator === "+") return sumKind(node);
-  const isNumber = node.operator === ">>>" || kind(node.left) === "Number" || kind(node.right) === "Number";
+  const isNumber = node.operator === ">>>" || kind(node.left) === "Number"
+    || kind(node.right) === "Number";
   return isNumber ? "Number" : "Undetermined";
 }
 
@@ -120,13 +123,16 @@ function unaryConstant(node) {
 }
 
 function logicalConstant(node) {
-  const isRight = { "&&": (a) => Boolean(a), "||": (a) => !a, "??": (a) => a === undefined || a === null };
+  const isRight = { "&&": (a) => Boolean(a), "||": (a) => !a, "??": (a) => a === undefined
+    || a === null };
   return over([node.left, node.right], (a, b) => ({ value: isRight[node.operator](a) ? b : a }));
 }
 
 function lengthConstant(node) {
   if (node.optional || isCarried(node) || keyOf(node) !== "length") return null;
-  return over([node.object], (value) => (typeof value === "string" ? { value: value.length } : null));
+  return over(
+    [node.object], (value) => (typeof value === "string" ? { value: value.length } : null),
+  );
 }
 
 function templateConstant(node) {
@@ -240,6 +246,6 @@ function lighterNot(node, seat) {
 }
 
 module.exports = {
-  ARITHMETIC, constant, freeConstant, isBits, isFree, isFreeOf, isInt32, isPlain, isPrimitive, kind,
+  ARITHMETIC, constant, freeConstant, isFree, isFreeOf, isInt32, isPlain, isPrimitive, kind,
   lighterNot, lit, namesVariable, negation, truth, unary,
 };

@@ -50,7 +50,9 @@ function numeric(operate, left, right) {
 
 function sum(left, right) {
   const isJoined = typeof left === "string" || typeof right === "string";
-  return isJoined ? told(toText(left) + toText(right)) : numeric((a, b) => whole(a + b), left, right);
+  return isJoined
+    ? told(toText(left) + toText(right))
+    : numeric((a, b) => whole(a + b), left, right);
 }
 
 const isNullish = (value) => value === undefined || value === null;
@@ -114,8 +116,12 @@ const endsUnescaped = (text, end) => {
 
 // Raw texts one after the other, so that each means what it meant alone.
 function joinedRaw(first, second) {
-  if (endsUnescaped(first, "$") && second.startsWith("{")) return `${first.slice(0, -1)}$\\${second}`;
-  if (endsUnescaped(first, "\\0") && /^\d/.test(second)) return `${first.slice(0, -2)}\\x00${second}`;
+  if (endsUnescaped(first, "$") && second.startsWith("{")) {
+    return `${first.slice(0, -1)}$\\${second}`;
+  }
+  if (endsUnescaped(first, "\\0") && /^\d/.test(second)) {
+    return `${first.slice(0, -2)}\\x00${second}`;
+  }
   return first + second;
 }
 
