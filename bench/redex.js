@@ -83,18 +83,23 @@ function* programs({ files, count, seed }) {
 
 // ---- answers
 
-// The settled answer of the program, or null.
-function answerOf(program, input) {
+// The settled answer of the program; what it isn't given for is told.
+function answerOf(program, name, input) {
   const ended = spawnSync(program, [], { input: text(input), maxBuffer: 1 << 28 });
-  if (ended.status !== 0) return null;
-  const answer = JSON.parse(ended.stdout.toString());
-  return answer.settled ? answer.program : null;
+  const answer = ended.status === 0 ? JSON.parse(ended.stdout.toString()) : null;
+  if (answer?.settled) return answer.program;
+  const why = answer ? "not settled" : `status ${ended.status} ${ended.stderr.toString().trim()}`;
+  console.log(`no answer (${why}): ${cut(name)}`);
+  return null;
 }
 
 function* answersOf(told) {
+  if (!fs.existsSync(told.program)) {
+    throw new Error(`${told.program} is not there: run \`rt run\` in crates/mini_app first`);
+  }
   for (const [name, input] of programs(told)) {
     if (isUnread(input) || isOutside(input)) continue;
-    const answer = answerOf(told.program, input);
+    const answer = answerOf(told.program, name, input);
     if (answer) yield [name, answer, input];
   }
 }

@@ -130,7 +130,7 @@ const KNOWN = [
   [75, "a block that declares names", holding(hasScoped)],
   [75, "the break of a do", ({ up }) => up.parent?.type === "DoWhileStatement"],
   [77, "a name that two vars declare", holding(isVar)],
-  [79, "a block under a label", ({ up }) => up.parent.type === "LabeledStatement"],
+  [79, "a block under a label", ({ up }) => up.parent?.type === "LabeledStatement"],
   [80, "names that another body sees, and names of patterns", isPatternOrCaptured],
   [84, "names that another body sees, and names of patterns", isPatternOrCaptured],
   [83, "a block that needs its braces", ({ node }) => isUnary(node.test, "!")],

@@ -8,8 +8,11 @@ const CONSTANTS = [
   "0", "1", "2", '""', '"s"', "null", "true", "false", "undefined", "void 0", "!0", "7n", "-1",
 ];
 const BINARY = [
-  "+", "-", "*", "/", "%", "**", "&", "|", "^", "<<", ">>", ">>>", "<", ">", "<=", ">=", "in", "instanceof",
+  "+", "-", "*", "/", "%", "**", "&", "|", "^", "<<", ">>", ">>>",
+  "<", ">", "<=", ">=", "in", "instanceof",
 ];
+const KNOWN = ["true", "false", "1", "0"];
+const TYPES = ['"undefined"', '"string"', '"text"'];
 const EQUALITIES = ["==", "!=", "===", "!=="];
 const COMPOUND = ["=", "=", "=", "+=", "-=", "*=", "|=", "||=", "&&=", "??="];
 
@@ -58,12 +61,22 @@ class Generator {
     return text;
   }
 
+  // Text that a function gives where other forms may stand, in the scope that is open.
+  withState(state, give) {
+    const before = this.state;
+    this.state = { ...before, ...state };
+    const text = give();
+    this.state = before;
+    return text;
+  }
+
   // ---- expressions, each in parentheses
 
   expression(depth) {
     if (depth <= 0) return this.chance(3) === 0 ? this.constant() : this.name();
     const makers = [
-      this.logic, this.logic, this.choice, this.operator, this.access, this.set, this.shape, this.rest,
+      this.logic, this.logic, this.choice, this.operator,
+      this.access, this.set, this.shape, this.rest,
     ];
     return `(${this.pick(makers).call(this, depth - 1)})`;
   }
@@ -96,7 +109,7 @@ class Generator {
       () => `!${e()} ? ${e()} : ${e()}`,
       () => `${x} ? ${x} : ${e()}`,
       () =>
-        `${e()} ? ${this.pick(["true", "false", "1", "0"])} : ${this.pick(["false", "true", "0", "1", p])}`,
+        `${e()} ? ${this.pick(KNOWN)} : ${this.pick([...KNOWN, p])}`,
       () => `${e()} ? ${e()} ? ${p} : ${q} : ${q}`,
       () => `${e()} ? ${p} : (${e()}, ${p})`,
       () => `${e()} ? ${x}(${p}, ${q}) : ${x}(${e()}, ${q})`,
@@ -115,8 +128,9 @@ class Generator {
       () => `${e()} ${this.pick(EQUALITIES)} ${e()}`,
       () => `${this.pick(["+", "-", "~", "typeof ", "void ", "delete "])}${e()}`,
       () =>
-        `typeof ${this.name()} ${this.pick(EQUALITIES)} ${this.pick(['"undefined"', '"string"', '"text"'])}`,
+        `typeof ${this.name()} ${this.pick(EQUALITIES)} ${this.pick(TYPES)}`,
       () => `(${e()} & 1) ${this.pick(EQUALITIES)} 0`,
+      () => `${e()} + \`x\${${this.name()}}\` + "z"`,
       () => `${e()} ${this.pick(["|", "<<", ">>", "^"])} 0`,
       () => `${e()} + "s" + ${this.constant()}`,
       () => `+${e()} * ${this.constant()}`,
@@ -170,7 +184,8 @@ class Generator {
     return this.one(
       () => `[${e()}, , ...${e()}]`,
       () =>
-        `{ ${x}: ${x}, "k": ${e()}, [${this.pick(['"l"', "2", e()])}]: ${e()}, ...${e()}, m() { ${this.body(depth, {})} } }`,
+        `{ ${x}: ${x}, "k": ${e()}, [${this.pick(['"l"', "2", e()])}]: ${e()}, ...${e()}, `
+          + `m() { ${this.body(depth, {})} } }`,
       () => `{ get p() { ${this.body(depth, {})} }, set q(z) { ${this.body(depth, {})} } }`,
       () => `function ${this.pick(["", this.fresh()])}${this.callable(depth, false)}`,
       () => `function* ${this.callable(depth, true)}`,
@@ -205,8 +220,14 @@ class Generator {
       () => names.join(", "),
       () => `${names[0]}, ...${names[1]}`,
       () =>
-        `${names[0]} = ${this.expression(depth - 1)}, { p: ${names[1]}, ["q"]: ${this.declare(this.fresh())} = 1 } = {}`,
+        `${names[0]} = ${this.default(depth - 1)}, `
+          + `{ p: ${names[1]}, ["q"]: ${this.declare(this.fresh())} = 1 } = {}`,
     );
+  }
+
+  // The default of a parameter, in which no `yield` may stand.
+  default(depth) {
+    return this.withState({ inGenerator: false }, () => this.expression(depth));
   }
 
   callable(depth, inGenerator) {
@@ -215,11 +236,8 @@ class Generator {
   }
 
   body(depth, state) {
-    return this.within(
-      {
-        inFunction: true, inGenerator: false, inLoop: false, inMethod: true, ...state,
-      }, () => this.list(depth),
-    );
+    const usual = { inFunction: true, inGenerator: false, inLoop: false, inMethod: true };
+    return this.within({ ...usual, ...state }, () => this.list(depth));
   }
 
   arrow(depth) {
@@ -241,7 +259,7 @@ class Generator {
         () => `static ["s"] = ${e()};`,
         () => `#p = ${e()}; h(o) { return #p in o && o.#p || ${e()}; }`,
         () => `static { ${this.within({ inLoop: false }, () => this.list(depth))} }`,
-        () => `get [${e()}]() { ${this.body(depth, {})} }`,
+        () => `get [${this.withState({ inMethod: false }, e)}]() { ${this.body(depth, {})} }`,
       ];
       return `${extending ? `extends ${this.name()}` : ""} { ${this.pick(members)()} }`;
     });
@@ -263,8 +281,8 @@ class Generator {
     const e = () => this.expression(depth);
     if (depth <= 0) {
       return this.one(
-        () =>
-          `${e()};`, () => `${this.name()}(${e()});`, () => this.jump(0), () => this.declaration(0),
+        () => `${e()};`, () => `${this.name()}(${e()});`,
+        () => this.jump(0), () => this.declaration(0),
       );
     }
     const makers = [
@@ -280,7 +298,7 @@ class Generator {
       () => `let ${one} = ${e()};`,
       () => `const ${one} = ${e()}; ${this.name()}(${one}, ${e()});`,
       () =>
-        `let ${one} = ${e()}; ${this.pick(["return", "throw", ""].slice(this.state.inFunction ? 0 : 1))} ${one}.m(${this.name()});`,
+        `let ${one} = ${e()}; ${this.jumpWord()} ${one}.m(${this.name()});`,
       () => `var ${one} = ${e()}, ${two} = ${one};`,
       () => `let ${one} = ${this.name()}(), ${two} = [${one}, ${e()}];`,
       () => `var ${one}; ${one} = ${e()};`,
@@ -291,6 +309,11 @@ class Generator {
     this.declare(one);
     if (text.includes(two)) this.declare(two);
     return text;
+  }
+
+  // A word that may stand before an expression here.
+  jumpWord() {
+    return this.pick(this.state.inFunction ? ["return", "throw", ""] : ["throw", ""]);
   }
 
   branch(depth) {
@@ -304,7 +327,8 @@ class Generator {
       () => `if (${e()}) { ${s()} ${this.jump(0)} } ${s()}`,
       () => this.guards(depth),
       () =>
-        `switch (${this.pick([e(), "2"])}) { case 1: ${s()} case ${this.pick(["2", e()])}: ${s()} default: ${s()} }`,
+        `switch (${this.pick([e(), "2"])}) { case 1: ${s()} `
+          + `case ${this.pick(["2", e()])}: ${s()} default: ${s()} }`,
       () => `switch (${e()}) { case ${this.constant()}: ${this.block(depth - 1).slice(1, -1)} }`,
     );
   }
@@ -312,7 +336,8 @@ class Generator {
   // Two tests of one jump.
   guards(depth) {
     const jump = this.jump(0);
-    return `if (${this.expression(depth)}) ${jump} if (${this.expression(depth)}) ${jump} debugger;`;
+    const [first, second] = [this.expression(depth), this.expression(depth)];
+    return `if (${first}) ${jump} if (${second}) ${jump} debugger;`;
   }
 
   // A statement that may stand alone as a body.
@@ -358,7 +383,8 @@ class Generator {
       () => `l${one}: for (;;) { if (${e()}) break l${one}; ${this.block(depth - 1)} }`,
       () => `try ${this.block(depth - 1)} catch (e${this.pick(["", "1"])}) { ${e()}; }`,
       () =>
-        `try ${this.block(depth - 1)} catch ({ p: z }) { ${e()}; } finally ${this.block(depth - 1)}`,
+        `try ${this.block(depth - 1)} catch ({ p: z }) { ${e()}; } `
+          + `finally ${this.block(depth - 1)}`,
       () => `class ${one} ${this.classBody(depth - 1)}`,
     );
   }
@@ -388,10 +414,12 @@ class Generator {
       this.declaration(2), `export const ${exported} = ${this.expression(3)};`, this.statement(3),
     );
     parts.push(this.pick([
-      'export * from "m";', 'export * as n from "m";', `export { ${exported} as z };`, "x = import.meta.url;",
+      'export * from "m";', 'export * as n from "m";',
+      `export { ${exported} as z };`, "x = import.meta.url;",
     ]));
     parts.push(this.pick([
-      `export default ${this.expression(2)};`, "export default function () {}", 'export { q } from "m";',
+      `export default ${this.expression(2)};`, "export default function () {}",
+      'export { q } from "m";',
     ]));
     return parts.join(" ");
   }

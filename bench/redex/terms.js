@@ -3,9 +3,9 @@
 "use strict";
 const { operate, operateUnary, toText } = require("./values.js");
 const {
-  ARITHMETIC, binary, BITS, boolean, isBinary, isCarried, isClass, isEquality, isFunction,
+  binary, BITS, boolean, isBinary, isCarried, isClass, isEquality, isFunction,
   isLiteral, isName, isNegative, isNode, isUnary, isUnresolved, isVoidZero, keyOf, literal, logical,
-  not, number, OPPOSITE, SHIFTS, unary, voidZero,
+  not, number, OPPOSITE, SHIFTS, voidZero,
 } = require("./nodes.js");
 const { weightOf } = require("./seats.js");
 
@@ -246,6 +246,6 @@ function lighterNot(node, seat) {
 }
 
 module.exports = {
-  ARITHMETIC, constant, freeConstant, isFree, isFreeOf, isInt32, isPlain, isPrimitive, kind,
-  lighterNot, lit, namesVariable, negation, truth, unary,
+  constant, freeConstant, isFree, isFreeOf, isInt32, isPlain, isPrimitive, kind,
+  lighterNot, lit, namesVariable, negation, truth,
 };
