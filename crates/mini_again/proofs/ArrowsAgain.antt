@@ -6,8 +6,6 @@ use Rattle.mini_model.specs.declared.place.Position.{Position}
 use Rattle.mini_model.specs.declared.place.Position.TheVariants.{Expr}
 use Rattle.mini_rows.specs.Arrows.{ArrowRow, Row59}
 use Rattle.std.proofs.Common.{ap}
-use Rattle.std.specs.Prelude.{◌≡◌}
-use Rattle.mini_model.specs.declared.shape.Shape.TheVariants as shape
 
 pub row59_again : (ρ : Renaming) (n w : Tree) → Row59 n w → Row59 (again ρ n) (again ρ w)
 row59_again ρ n w r = record {

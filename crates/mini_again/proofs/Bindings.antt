@@ -16,7 +16,7 @@ use Rattle.mini_model.specs.Weight.{same_text}
 use Rattle.mini_model.specs.declared.name.Name.{Name}
 use Rattle.mini_model.specs.declared.name.SymbolId.{SymbolId}
 use Rattle.mini_model.specs.declared.shape.Shape.{Shape}
-use Rattle.mini_model.specs.Tree.{Tree, Trees, node, none, ◌▸◌}
+use Rattle.mini_model.specs.Tree.{Tree, Trees, none, ◌▸◌}
 use Rattle.mini_again.specs.Again.{Renaming, again, all_again}
 use Rattle.mini_again.proofs.LawDeclaredNamesAgain.{body_names_again, has_inner_again, is_spelled_again, names_of_again}
 use Rattle.mini_again.proofs.Names.{if_names_again}

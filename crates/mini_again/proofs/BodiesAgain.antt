@@ -1,9 +1,9 @@
 -- The bodies of a program that is read again.
-use Rattle.std.specs.Prelude.{◌≡◌, refl, ℕ, zero, suc, Bool, true, false, not, List, [], ◌∷◌, ◌++◌, map}
+use Rattle.std.specs.Prelude.{◌≡◌, refl, ℕ, suc, not, List, [], ◌∷◌, ◌++◌, map}
 use Rattle.std.proofs.Common.{ap, ◌∙◌, sym}
 use Rattle.std.proofs.lemmas.List.{map-append}
-use Rattle.mini_laws.specs.Bodies.{Around, Body, arrow_kind, below, bodies, bodies_from, bodies_in, body_of, extends_below, outermost, constructs_below, is_assigned_below, asks_below}
-use Rattle.mini_laws.specs.Body.{ArrowExpression, FunctionStatements}
+use Rattle.mini_laws.specs.Bodies.{Around, Body, arrow_kind, below, bodies, bodies_from, body_of, extends_below, outermost, constructs_below, is_assigned_below, asks_below}
+use Rattle.mini_laws.specs.Body.{FunctionStatements}
 use Rattle.mini_laws.specs.Fixity.{is_strict_in}
 use Rattle.mini_laws.specs.Naming.{nth_absent}
 use Rattle.mini_model.specs.declared.shape.Shape.{Shape}

@@ -17,7 +17,6 @@ use Rattle.mini_model.specs.declared.seat.Seat.{Seat}
 use Rattle.mini_rows.specs.Booleans.{BooleanRow, ConvertedRow, JoinedRow, KnownBranch, LighterRow, Row24, Row25, Row26, Row47, Row47Both, Row48, as_boolean, chosen, digit, giving, is_truth, is_turned, plus_seat, tested, truth_of}
 use Rattle.std.proofs.Common.{ap, inl, inr}
 use Rattle.std.specs.Prelude.{Bool, false, not, refl, true, ◌≡◌}
-use Rattle.mini_model.specs.declared.shape.Shape.TheVariants as shape
 
 pub truth_of_again : (ρ : Renaming) (b : Bool) (a : Tree) → truth_of b (again ρ a) ≡ again ρ (truth_of b a)
 truth_of_again ρ true a = simp (if_again ρ (is_truth a) a (negation (negation a)), kind_again ρ a, stands_again ρ a)

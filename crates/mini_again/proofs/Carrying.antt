@@ -17,7 +17,7 @@ use Rattle.mini_again.proofs.Equal.{alike}
 use Rattle.mini_again.proofs.Everywhere.{nothing_is_left}
 use Rattle.mini_again.proofs.Writable.{writable_survives}
 
--- ---- a list as a function that tells all numbers apart: behind its end stand numbers above all in it
+-- ---- a list as a function that tells all numbers apart: behind its end it gives larger ones
 
 total : List ℕ → ℕ
 total [] = 0

@@ -11,7 +11,6 @@ use Rattle.mini_model.specs.declared.shape.Shape.{Shape}
 use Rattle.mini_rows.specs.Cases.{OneCaseRow, Row80Case, Row80Default, Row80Scoped, any_breaks_out, bare_break, breaks_out}
 use Rattle.std.proofs.Common.{ap, inl, inr}
 use Rattle.std.specs.Prelude.{refl, suc, ℕ, ◌≡◌}
-use Rattle.mini_model.specs.declared.shape.Shape.TheVariants as shape
 
 mutual
   pub any_breaks_out_again : (ρ : Renaming) (h : Shape) (i : ℕ) (ts : Trees) → any_breaks_out h i (all_again ρ ts) ≡ any_breaks_out h i ts

@@ -9,8 +9,6 @@ use Rattle.mini_model.specs.declared.place.Position.TheVariants.{Elsewhere}
 use Rattle.mini_rows.specs.Catches.{CatchContracts, CatchRow, Row63}
 use Rattle.mini_rows.specs.Lists.{resolved}
 use Rattle.std.proofs.Common.{ap}
-use Rattle.std.specs.Prelude.{◌≡◌}
-use Rattle.mini_model.specs.declared.shape.Shape.TheVariants as shape
 
 pub row63_again : (ρ : Renaming) (n w : Tree) → Row63 n w → Row63 (again ρ n) (again ρ w)
 row63_again ρ n w r = record {

@@ -12,7 +12,6 @@ use Rattle.mini_rows.specs.ChainLinks.{Marked, links_over, marked}
 use Rattle.mini_rows.specs.Chains.{Link, a_call, a_computed, a_member, linked}
 use Rattle.std.proofs.Common.{ap, inl, inr}
 use Rattle.std.specs.Prelude.{List, [], false, map, refl, true, ◌∷◌, ◌≡◌}
-use Rattle.mini_model.specs.declared.shape.Shape.TheVariants as shape
 
 pub row10_again : (ρ : Renaming) (n w : Tree) → Row10 n w → Row10 (again ρ n) (again ρ w)
 row10_again ρ n w r = record {

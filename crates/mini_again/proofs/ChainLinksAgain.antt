@@ -10,7 +10,6 @@ use Rattle.mini_rows.specs.ChainLinks.{ChainRow, Marked, Row11, Row64, are_calm_
 use Rattle.mini_rows.specs.Chains.{chain, linked}
 use Rattle.std.proofs.Common.{ap, inl, inr}
 use Rattle.std.specs.Prelude.{Bool, List, [], false, map, refl, true, ◌∷◌, ◌≡◌}
-use Rattle.mini_model.specs.declared.shape.Shape.TheVariants as shape
 
 abbrev pub again_marked : Renaming → Marked → Marked
 again_marked ρ (marked a0 a1) = marked a0 (again_link ρ a1)

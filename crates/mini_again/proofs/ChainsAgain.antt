@@ -12,7 +12,6 @@ use Rattle.mini_rows.specs.Chains.{Link, Row46Chain, a_call, a_computed, a_membe
 use Rattle.mini_terms.specs.Exact.{by_value, is_guarded}
 use Rattle.std.proofs.Common.{ap}
 use Rattle.std.specs.Prelude.{Bool, List, [], false, map, refl, true, ◌∷◌, ◌≡◌}
-use Rattle.mini_model.specs.declared.shape.Shape.TheVariants as shape
 
 abbrev pub again_link : Renaming → Link → Link
 again_link ρ (a_member a) = a_member (again ρ a)

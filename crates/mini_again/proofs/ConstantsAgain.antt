@@ -15,8 +15,7 @@ use Rattle.mini_model.specs.declared.seat.Seat.{Seat}
 use Rattle.mini_rows.specs.Constants.{ConstantRow, RowConstant, RowJoined, RowLength}
 use Rattle.mini_terms.specs.Calculated.{operand_depth}
 use Rattle.std.proofs.Common.{ap, inl, inr}
-use Rattle.std.specs.Prelude.{false, true, ◌≡◌}
-use Rattle.mini_model.specs.declared.shape.Shape.TheVariants as shape
+use Rattle.std.specs.Prelude.{false, true}
 
 pub row_constant_again : (ρ : Renaming) (s : Seat) (n w : Tree) → RowConstant s n w → RowConstant s (again ρ n) (again ρ w)
 row_constant_again ρ s n w r = record {

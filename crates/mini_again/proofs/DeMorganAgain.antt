@@ -12,7 +12,6 @@ use Rattle.mini_model.specs.declared.place.Position.TheVariants.{Expr, Stmt}
 use Rattle.mini_rows.specs.DeMorgan.{Alone, Begins, DeMorganRow, Row50, Row50Part, Turns, VoidPlace, ended, turned_logical, void_of}
 use Rattle.std.proofs.Common.{ap}
 use Rattle.std.specs.Prelude.{refl, ◌≡◌}
-use Rattle.mini_model.specs.declared.shape.Shape.TheVariants as shape
 
 abbrev pub again_void_place : Renaming → VoidPlace → VoidPlace
 again_void_place ρ Alone = Alone

@@ -11,7 +11,6 @@ use Rattle.mini_rows.specs.Declarations.{Alone, DeclarationRow, Exported, Item, 
 use Rattle.mini_rows.specs.Lists.{binding, declarator}
 use Rattle.std.proofs.Common.{ap}
 use Rattle.std.specs.Prelude.{refl, ◌≡◌}
-use Rattle.mini_model.specs.declared.shape.Shape.TheVariants as shape
 
 abbrev pub again_item : Renaming → Item → Item
 again_item ρ Alone = Alone

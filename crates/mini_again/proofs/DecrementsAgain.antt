@@ -12,7 +12,6 @@ use Rattle.mini_node.specs.Children.{names_of, part}
 use Rattle.mini_rows.specs.Decrements.{Row36, amount, any_gives_number, counts, is_spelled, keep_number, keeps_number, leaves_number, subtracts}
 use Rattle.std.proofs.Common.{ap}
 use Rattle.std.specs.Prelude.{List, [], codes, map, refl, ℕ, ◌∷◌, ◌≡◌}
-use Rattle.mini_model.specs.declared.shape.Shape.TheVariants as shape
 
 pub amount_again : (ρ : Renaming) (u : UpdateOperator) → again ρ (amount u) ≡ amount u
 amount_again ρ Decrement = refl

@@ -1,5 +1,5 @@
 -- A tree is a name again where it is the name.
-use Rattle.std.specs.Prelude.{◌≡◌, refl, ℕ, zero, suc, nat_eq, Bool, true, false, List, [], ◌∷◌, map, Option, Some, None}
+use Rattle.std.specs.Prelude.{◌≡◌, refl, ℕ, zero, suc, Bool, true, false, List, [], ◌∷◌, Option, Some, None}
 use Rattle.std.proofs.Common.{ap, ◌∙◌, sym, subst}
 use Rattle.std.proofs.lemmas.Bool.{eqb-true, eq-eqb, false≢true}
 use Rattle.mini_laws.specs.Renaming.{rename_name, rename_symbol}
@@ -9,7 +9,7 @@ use Rattle.mini_model.specs.Tree.{Tree, node, none, ◌▸◌, identifier, shape
 use Rattle.mini_node.specs.Children.{names_of}
 use Rattle.mini_node.specs.Equal.{same_tree}
 use Rattle.mini_node.proofs.Equality.{tree_same, tree_itself}
-use Rattle.mini_again.specs.Again.{Renaming, again, other_number}
+use Rattle.mini_again.specs.Again.{Renaming, again}
 
 same_number : (ρ : Renaming) (m n : ℕ) → ρ.symbol m ≡ ρ.symbol n → m ≡ n
 same_number ρ m n e = eqb-true m n (sym (ρ.apart m n) ∙ eq-eqb (ρ.symbol m) (ρ.symbol n) e)

@@ -22,7 +22,6 @@ use Rattle.mini_node.specs.Children.{names_of, part}
 use Rattle.mini_rows.specs.Folding.{FoldingRow, Row12, Row13, Row22, Row28, Row49Idle, Row9, is_spelled, names_exports}
 use Rattle.std.proofs.Common.{ap, inl, inr}
 use Rattle.std.specs.Prelude.{List, [], codes, false, map, refl, true, ℕ, ◌∷◌, ◌≡◌}
-use Rattle.mini_model.specs.declared.shape.Shape.TheVariants as shape
 
 pub is_spelled_again : (ρ : Renaming) (xs : List Name) (s : List ℕ) → is_spelled (map (rename_name ρ.symbol) xs) s ≡ is_spelled xs s
 is_spelled_again ρ [] s = refl

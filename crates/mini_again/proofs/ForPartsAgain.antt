@@ -7,8 +7,7 @@ use Rattle.mini_again.specs.Again.{Renaming, again}
 use Rattle.mini_model.specs.Tree.{Tree}
 use Rattle.mini_rows.specs.ForParts.{ForPartRow, Row22Init, Row22Update}
 use Rattle.std.proofs.Common.{ap, inl, inr}
-use Rattle.std.specs.Prelude.{true, ◌≡◌}
-use Rattle.mini_model.specs.declared.shape.Shape.TheVariants as shape
+use Rattle.std.specs.Prelude.{true}
 
 pub row22_init_again : (ρ : Renaming) (n w : Tree) → Row22Init n w → Row22Init (again ρ n) (again ρ w)
 row22_init_again ρ n w r = record {

@@ -1,5 +1,5 @@
 -- What is shared with a body and foreign to it, in a program that is read again.
-use Rattle.std.specs.Prelude.{◌≡◌, refl, ℕ, zero, suc, Bool, true, false, not, ◌&&◌, ◌||◌, List, [], ◌∷◌, ◌++◌, map, if◌then◌else◌, is_none}
+use Rattle.std.specs.Prelude.{◌≡◌, refl, ℕ, zero, suc, Bool, true, false, not, ◌&&◌, ◌||◌, List, [], ◌∷◌, ◌++◌, map, if◌then◌else◌}
 use Rattle.std.specs.List.{list_any}
 use Rattle.std.proofs.Common.{ap, ◌∙◌, sym}
 use Rattle.std.proofs.lemmas.List.{map-append}
@@ -8,9 +8,9 @@ use Rattle.mini_laws.specs.Mentions.{Mention, own_mentions, around_child, outerm
 use Rattle.mini_laws.specs.References.{reads, writes}
 use Rattle.mini_laws.specs.Renaming.{rename_name, TellsApart}
 use Rattle.mini_laws.specs.Resolved.{with_symbol, gives_value}
-use Rattle.mini_laws.specs.ScopeList.{Scope, nameless, with_names_alone, entered, names_in, scope_list, scope_list_from, scopes_of, seen_in, seen_by_eval, least_scopes, any_has_eval}
+use Rattle.mini_laws.specs.ScopeList.{Scope, with_names_alone, entered, names_in, scope_list, scope_list_from, scopes_of, seen_in, seen_by_eval, least_scopes, any_has_eval}
 use Rattle.mini_laws.specs.Scopes.{opened, use_of}
-use Rattle.mini_laws.specs.Shared.{script_tops, is_shared_always, is_shared, own_pattern_writes, pattern_writes, pattern_writes_from, program_pattern_writes, program_var_writes, var_writes, names_in_pattern, is_pattern, module_names, reached_by_arguments, caught}
+use Rattle.mini_laws.specs.Shared.{script_tops, is_shared_always, is_shared, own_pattern_writes, pattern_writes, pattern_writes_from, program_pattern_writes, program_var_writes, names_in_pattern, is_pattern, module_names, reached_by_arguments, caught}
 use Rattle.mini_laws.specs.Strict.{is_strict_in}
 use Rattle.mini_laws.specs.DeclaredNames.{bound_names}
 use Rattle.mini_laws.specs.declared.names.Around.{Around}
@@ -151,6 +151,10 @@ module _ (ρ : Renaming) where
 
   pub written_again : (t : Tree) (x : Name) → list_any (is_write (rename_name ρ.symbol x)) (all_writes (again ρ t)) ≡ list_any (is_write x) (all_writes t)
   written_again t x = ap (list_any (is_write (rename_name ρ.symbol x))) (all_writes_again t) ∙ any_again (mention_again ρ) (is_write (rename_name ρ.symbol x)) (is_write x) (is_write_again x) (all_writes t)
+
+  -- by references alone
+  pub assigned_again : (t : Tree) (x : Name) → list_any (is_write (rename_name ρ.symbol x)) (program_mentions (again ρ t)) ≡ list_any (is_write x) (program_mentions t)
+  assigned_again t x = ap (list_any (is_write (rename_name ρ.symbol x))) (program_mentions_again t) ∙ any_again (mention_again ρ) (is_write (rename_name ρ.symbol x)) (is_write x) (is_write_again x) (program_mentions t)
 
 -- ---- by the number of a body, where numbers are told apart
 

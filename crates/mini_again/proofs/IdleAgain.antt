@@ -14,8 +14,7 @@ use Rattle.mini_model.specs.declared.seat.Seat.{Seat}
 use Rattle.mini_node.specs.Children.{names_of}
 use Rattle.mini_rows.specs.Idle.{IdleRow, IdleStatement, Row21AloneThis, Row21This, Row22InitThis, Row22This, Row22UpdateThis}
 use Rattle.std.proofs.Common.{ap, inl, inr}
-use Rattle.std.specs.Prelude.{codes, false, ◌≡◌}
-use Rattle.mini_model.specs.declared.shape.Shape.TheVariants as shape
+use Rattle.std.specs.Prelude.{codes, false}
 
 pub row21_alone_this_again : (ρ : Renaming) (V : Assured) (s : Seat) (n w : Tree) → Row21AloneThis (assured_with_others ρ V) s n w → Row21AloneThis V s (again ρ n) (again ρ w)
 row21_alone_this_again ρ V s n w r = record {
@@ -42,7 +41,7 @@ row21_this_again ρ V n w r = record {
   written = simp (← (append_again ρ r.before (r.next ▸ r.after))) at (ap (again ρ) r.written);
 }
 
-pub idle_row_again : (ρ : Renaming) (a : Assured) (s : Seat) (n w : Tree) → IdleRow (assured_with_others ρ a) s n w → IdleRow a s (again ρ n) (again ρ w)
+pub idle_row_again : (ρ : Renaming) (V : Assured) (s : Seat) (n w : Tree) → IdleRow (assured_with_others ρ V) s n w → IdleRow V s (again ρ n) (again ρ w)
 idle_row_again ρ V s n w (inl r) = inl (row21_this_again ρ V n w r)
 idle_row_again ρ V s n w (inr r) = inr (row21_alone_this_again ρ V s n w r)
 
@@ -79,7 +78,7 @@ row22_update_this_again ρ V n w r = record {
   written = ap (again ρ) r.written;
 }
 
-pub idle_statement_again : (ρ : Renaming) (a : Assured) (n w : Tree) → IdleStatement (assured_with_others ρ a) n w → IdleStatement a (again ρ n) (again ρ w)
+pub idle_statement_again : (ρ : Renaming) (V : Assured) (n w : Tree) → IdleStatement (assured_with_others ρ V) n w → IdleStatement V (again ρ n) (again ρ w)
 idle_statement_again ρ V n w (inl r) = inl (row22_this_again ρ V n w r)
 idle_statement_again ρ V n w (inr (inl r)) = inr (inl (row22_init_this_again ρ V n w r))
 idle_statement_again ρ V n w (inr (inr r)) = inr (inr (row22_update_this_again ρ V n w r))

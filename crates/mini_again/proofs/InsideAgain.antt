@@ -23,7 +23,6 @@ use Rattle.mini_rows.specs.Unused.{BlockRow, declared_among}
 use Rattle.mini_rows.specs.declared.inside.Way.{Way}
 use Rattle.std.proofs.Common.{ap, inl, inr, ◌∙◌}
 use Rattle.std.specs.Prelude.{Option, Some, [], refl, true, zero, ◌≡◌}
-use Rattle.mini_model.specs.declared.shape.Shape.TheVariants as shape
 use Rattle.mini_rows.specs.declared.inside.Way.TheVariants as way
 
 abbrev pub again_holder : Renaming → Holder → Holder

@@ -7,10 +7,8 @@ use Rattle.mini_model.specs.declared.name.Name.{Name}
 use Rattle.mini_model.specs.declared.place.Position.{Position}
 use Rattle.mini_model.specs.declared.place.Position.TheVariants.{Elsewhere}
 use Rattle.mini_rows.specs.KeyHolders.{Assigned, HeldKeyRow, PlainKey, Row52Bare, Row52Declared, Row52Held, Row53, Spelling, a_count, a_word, alone, assigned_to, of_name, of_whole, plain_key, quoted, unquoted, with_default}
-use Rattle.mini_rows.specs.Spellings.{key}
 use Rattle.std.proofs.Common.{ap, inl, inr}
 use Rattle.std.specs.Prelude.{refl, ◌≡◌}
-use Rattle.mini_model.specs.declared.shape.Shape.TheVariants as shape
 
 abbrev pub again_assigned : Renaming → Assigned → Assigned
 again_assigned ρ alone = alone

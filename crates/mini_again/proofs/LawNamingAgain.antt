@@ -1,4 +1,4 @@
--- What names tell by their spelling and by whether a scope declares them, of names that are renamed.
+-- What renamed names tell by their spelling and by whether a scope declares them.
 use Rattle.mini_again.proofs.Names.{none_again}
 use Rattle.mini_again.specs.Again.{Renaming}
 use Rattle.mini_laws.specs.Naming.{kinds}

@@ -1,4 +1,4 @@
--- Names that a module shows, that arguments reach and that a parameter of `catch` hides, of a tree that is read again.
+-- Names that others can see or write, of a tree that is read again.
 use Rattle.mini_again.proofs.LawDeclaredNamesAgain.{all_names_again, is_spelled_again, names_of_again}
 use Rattle.mini_again.proofs.ModelTreeAgain.{is_absent_again}
 use Rattle.mini_again.proofs.Names.{if_names_again}

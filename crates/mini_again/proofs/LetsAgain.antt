@@ -14,8 +14,6 @@ use Rattle.mini_rows.specs.DeadCases.{known}
 use Rattle.mini_rows.specs.Lets.{LetContracts, LetRow, LetsRow, Row70Let}
 use Rattle.mini_rows.specs.Lists.{assigned, binding, declarator, resolved}
 use Rattle.std.proofs.Common.{ap, inl, inr}
-use Rattle.std.specs.Prelude.{◌≡◌}
-use Rattle.mini_model.specs.declared.shape.Shape.TheVariants as shape
 
 pub row70_let_again : (ρ : Renaming) (W : VariableSet) (a b : Trees) → Row70Let (with_others_in ρ W) a b → Row70Let W (all_again ρ a) (all_again ρ b)
 row70_let_again ρ W a b r = record {
@@ -30,11 +28,11 @@ row70_let_again ρ W a b r = record {
   written = simp (known_again ρ r.value, ← (append_again ρ r.ds (declarator (binding (resolved r.spelling r.symbol)) (known r.value) ▸ none)), ← (begun_without_again ρ r.beginning)) at (ap (all_again ρ) r.written);
 }
 
-pub lets_row_again : (ρ : Renaming) (V : VariableSet) (a b : Trees) → LetsRow (with_others_in ρ V) a b → LetsRow V (all_again ρ a) (all_again ρ b)
+pub lets_row_again : (ρ : Renaming) (W : VariableSet) (a b : Trees) → LetsRow (with_others_in ρ W) a b → LetsRow W (all_again ρ a) (all_again ρ b)
 lets_row_again ρ W a b (inl r) = inl (row70_let_again ρ W a b r)
 lets_row_again ρ W a b (inr r) = inr (row77_lexical_again ρ a b r)
 
-pub let_row_again : (ρ : Renaming) (V : VariableSet) (p : Position) (n w : Tree) → LetRow (with_others_in ρ V) p n w → LetRow V p (again ρ n) (again ρ w)
+pub let_row_again : (ρ : Renaming) (W : VariableSet) (p : Position) (n w : Tree) → LetRow (with_others_in ρ W) p n w → LetRow W p (again ρ n) (again ρ w)
 let_row_again ρ W StatementList n w r = in_list_again ρ (lets_row_again ρ W) n w r
 let_row_again ρ W BodyList n w r = in_list_again ρ (lets_row_again ρ W) n w r
 let_row_again ρ W p1 n w r = absurd r

@@ -22,25 +22,24 @@ use Rattle.mini_rows.specs.Loops.{goes_by, runs_on}
 use Rattle.std.proofs.Common.{ap, inl, inr, ◌∙◌}
 use Rattle.std.proofs.Math.Path.{fun_ext}
 use Rattle.std.specs.Prelude.{Bool, List, None, Option, Some, [], map, refl, ◌∷◌, ◌≡◌}
-use Rattle.mini_model.specs.declared.shape.Shape.TheVariants as shape
 
-pub all_pass_again : (ρ : Renaming) (b : (Name → Bool)) (xs : List Name) → all_pass b (map (rename_name ρ.symbol) xs) ≡ all_pass (names_with_others ρ b) xs
+pub all_pass_again : (ρ : Renaming) (P : (Name → Bool)) (xs : List Name) → all_pass P (map (rename_name ρ.symbol) xs) ≡ all_pass (names_with_others ρ P) xs
 all_pass_again ρ P [] = refl
 all_pass_again ρ P (x ∷ xs) = simp (all_pass_again ρ P xs)
 
 mutual
-  pub all_bind_only_again : (ρ : Renaming) (b : (Name → Bool)) (ts : Trees) → all_bind_only b (all_again ρ ts) ≡ all_bind_only (names_with_others ρ b) ts
+  pub all_bind_only_again : (ρ : Renaming) (P : (Name → Bool)) (ts : Trees) → all_bind_only P (all_again ρ ts) ≡ all_bind_only (names_with_others ρ P) ts
   all_bind_only_again ρ P none = refl
   all_bind_only_again ρ P (t ▸ ts) = simp (binds_only_again ρ P t, all_bind_only_again ρ P ts)
 
-  pub binds_only_again : (ρ : Renaming) (b : (Name → Bool)) (t : Tree) → binds_only b (again ρ t) ≡ binds_only (names_with_others ρ b) t
+  pub binds_only_again : (ρ : Renaming) (P : (Name → Bool)) (t : Tree) → binds_only P (again ρ t) ≡ binds_only (names_with_others ρ P) t
   binds_only_again ρ P (node h xs n ts) = simp (all_pass_again ρ P xs, all_bind_only_again ρ P ts, first_binds_only_again ρ P ts)
 
-  pub first_binds_only_again : (ρ : Renaming) (b : (Name → Bool)) (ts : Trees) → first_binds_only b (all_again ρ ts) ≡ first_binds_only (names_with_others ρ b) ts
+  pub first_binds_only_again : (ρ : Renaming) (P : (Name → Bool)) (ts : Trees) → first_binds_only P (all_again ρ ts) ≡ first_binds_only (names_with_others ρ P) ts
   first_binds_only_again ρ P none = refl
   first_binds_only_again ρ P (t ▸ ts) = simp (binds_only_again ρ P t)
 
-pub are_held_again : (ρ : Renaming) (b : (Name → Bool)) (ts : Trees) → are_held b (all_again ρ ts) ≡ are_held (names_with_others ρ b) ts
+pub are_held_again : (ρ : Renaming) (P : (Name → Bool)) (ts : Trees) → are_held P (all_again ρ ts) ≡ are_held (names_with_others ρ P) ts
 are_held_again ρ P none = refl
 are_held_again ρ P (t ▸ ts) = simp (shape_of_again ρ t, binds_only_again ρ P t, are_held_again ρ P ts)
 

@@ -12,8 +12,6 @@ use Rattle.mini_rows.specs.Lists.{block}
 use Rattle.mini_rows.specs.LoopGuards.{LoopGuardRow, Row75Loop, Row75Whole, TurnsGuard, TurnsRow}
 use Rattle.mini_rows.specs.Switches.{Switches}
 use Rattle.std.proofs.Common.{ap, inl, inr}
-use Rattle.std.specs.Prelude.{◌≡◌}
-use Rattle.mini_model.specs.declared.shape.Shape.TheVariants as shape
 
 pub turns_guard_again : (ρ : Renaming) (a b : Trees) → TurnsGuard a b → TurnsGuard (all_again ρ a) (all_again ρ b)
 turns_guard_again ρ a b (inl r) = inl (row75_again ρ bare_continue a b r)

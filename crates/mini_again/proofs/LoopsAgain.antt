@@ -6,7 +6,6 @@ use Rattle.mini_model.specs.Tree.{Tree, Trees, node, none, ◌▸◌}
 use Rattle.mini_rows.specs.Loops.{Leading, Leaving, Row84, Tested, alone, also, always, any_may_leap, before, first_is_there, goes_by, is_tested, is_there, leaves_by, led, may_leap, or_else, others_of, runs_on, test_of, unless, while_true, whole}
 use Rattle.std.proofs.Common.{ap}
 use Rattle.std.specs.Prelude.{refl, ◌≡◌}
-use Rattle.mini_model.specs.declared.shape.Shape.TheVariants as shape
 
 abbrev pub again_leading : Renaming → Leading → Leading
 again_leading ρ whole = whole

@@ -18,7 +18,6 @@ use Rattle.mini_rows.specs.Members.{Held, Index, MemberRow, Object, OfName, OfTh
 use Rattle.mini_rows.specs.Spellings.{assignment}
 use Rattle.std.proofs.Common.{ap, inl, inr}
 use Rattle.std.specs.Prelude.{refl, ◌≡◌}
-use Rattle.mini_model.specs.declared.shape.Shape.TheVariants as shape
 
 abbrev pub again_object : Renaming → Object → Object
 again_object ρ OfThis = OfThis
@@ -40,7 +39,7 @@ row35_this_again ρ V n w r = record {
   written = simp (← (member_on_again ρ this r.key)) at (ap (again ρ) r.written);
 }
 
-pub is_kept_again : (ρ : Renaming) (a : Assured) (o : Object) → is_kept a (again_object ρ o) ≡ is_kept (assured_with_others ρ a) o
+pub is_kept_again : (ρ : Renaming) (V : Assured) (o : Object) → is_kept V (again_object ρ o) ≡ is_kept (assured_with_others ρ V) o
 is_kept_again ρ V OfThis = refl
 is_kept_again ρ V (OfName spelling symbol) = refl
 
@@ -82,7 +81,7 @@ row38_member_last_again ρ V s n w r = record {
   written = simp (← (object_again ρ r.of), ← (member_on_again ρ (object r.of) r.key), ← (append_again ρ r.others (r.b ▸ none))) at (ap (again ρ) r.written);
 }
 
-pub is_kept_index_again : (ρ : Renaming) (a : Assured) (i : Index) → is_kept_index a (again_index ρ i) ≡ is_kept_index (assured_with_others ρ a) i
+pub is_kept_index_again : (ρ : Renaming) (V : Assured) (i : Index) → is_kept_index V (again_index ρ i) ≡ is_kept_index (assured_with_others ρ V) i
 is_kept_index_again ρ V (Written key) = refl
 is_kept_index_again ρ V (Held of) = simp (is_kept_again ρ V of)
 
@@ -99,7 +98,7 @@ pub is_ready_again : (ρ : Renaming) (V : Assured) (o : Object) (t : Tree) → i
 is_ready_again ρ V OfThis t = refl
 is_ready_again ρ V (OfName spelling symbol) t = simp (begins_at_again ρ (resolved spelling symbol) t, binds_again ρ symbol t, writes_again ρ (resolved spelling symbol) t)
 
-pub is_ready_index_again : (ρ : Renaming) (a : Assured) (i : Index) (t : Tree) → is_ready_index a (again_index ρ i) (again ρ t) ≡ is_ready_index (assured_with_others ρ a) i t
+pub is_ready_index_again : (ρ : Renaming) (V : Assured) (i : Index) (t : Tree) → is_ready_index V (again_index ρ i) (again ρ t) ≡ is_ready_index (assured_with_others ρ V) i t
 is_ready_index_again ρ V (Written key) t = refl
 is_ready_index_again ρ V (Held of) t = simp (is_ready_again ρ V of t)
 
@@ -123,7 +122,7 @@ row45_kept_again ρ V s n w r = record {
   written = simp (← (object_again ρ r.of), ← (member_at_again ρ (object r.of) r.index)) at (ap (again ρ) r.written);
 }
 
-pub member_row_again : (ρ : Renaming) (a : Assured) (s : Seat) (n w : Tree) → MemberRow (assured_with_others ρ a) s n w → MemberRow a s (again ρ n) (again ρ w)
+pub member_row_again : (ρ : Renaming) (V : Assured) (s : Seat) (n w : Tree) → MemberRow (assured_with_others ρ V) s n w → MemberRow V s (again ρ n) (again ρ w)
 member_row_again ρ V s n w (inl r) = inl (row38_member_again ρ V n w r)
 member_row_again ρ V s n w (inr (inl r)) = inr (inl (row38_member_last_again ρ V s n w r))
 member_row_again ρ V s n w (inr (inr (inl r))) = inr (inr (inl (row35_this_again ρ V n w r)))

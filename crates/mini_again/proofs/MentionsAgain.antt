@@ -1,22 +1,20 @@
--- The names that a program mentions, by the bodies in which they stand, of a program that is read again.
-use Rattle.std.specs.Prelude.{◌≡◌, refl, ℕ, zero, suc, nat_eq, Bool, true, false, not, ◌&&◌, ◌||◌, List, [], ◌∷◌, ◌++◌, map, if◌then◌else◌, Option, Some, None}
+-- The names that a program mentions, of a program that is read again.
+use Rattle.std.specs.Prelude.{◌≡◌, refl, ℕ, zero, suc, nat_eq, Bool, true, false, not, ◌||◌, List, [], ◌∷◌, ◌++◌, map, Option, Some, None}
 use Rattle.std.specs.List.{list_any}
 use Rattle.std.proofs.Common.{ap, ◌∙◌, sym, arith}
 use Rattle.std.proofs.lemmas.Bool.{eqb-true, eq-eqb}
 use Rattle.std.proofs.lemmas.List.{map-append}
 use Rattle.mini_laws.specs.Foreign.{has_number, any_has_number, params_with, own_params_around, params_around, all_params_around}
 use Rattle.mini_laws.specs.DeclaredNames.{bound_names}
-use Rattle.mini_laws.specs.Mentions.{Mention, mentions, mentions_from, own_mentions, around_by, around_child, numbering_of, outermost, program_mentions, is_elsewhere, same_variable, same_variable_by, is_among}
+use Rattle.mini_laws.specs.Mentions.{Mention, mentions, mentions_from, own_mentions, around_by, around_child, numbering_of, is_elsewhere, same_variable, same_variable_by, is_among}
 use Rattle.mini_laws.specs.Renaming.{rename_name, rename_symbol, TellsApart}
 use Rattle.mini_laws.specs.Scopes.{use_of}
-use Rattle.mini_laws.specs.Shared.{var_writes, var_writes_from, write_at, given_values, program_var_writes}
+use Rattle.mini_laws.specs.Shared.{var_writes, var_writes_from, write_at, given_values}
 use Rattle.mini_laws.specs.declared.names.Around.{Around}
 use Rattle.mini_laws.specs.declared.names.Numbering.{Numbering}
 use Rattle.mini_laws.specs.declared.names.Numbering.TheVariants as numbering
 use Rattle.mini_laws.specs.declared.names.Use.{Use}
-use Rattle.mini_laws.specs.declared.names.Use.TheVariants.{Read}
 use Rattle.mini_laws.specs.declared.names.Declared.TheVariants as declared
-use Rattle.mini_model.specs.Weight.{same_text}
 use Rattle.mini_model.specs.declared.name.Name.{Name}
 use Rattle.mini_model.specs.declared.name.SymbolId.{SymbolId}
 use Rattle.mini_model.specs.declared.shape.Shape.{Shape}

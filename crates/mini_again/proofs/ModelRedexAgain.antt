@@ -9,8 +9,6 @@ use Rattle.mini_model.specs.declared.place.Position.{Position}
 use Rattle.mini_model.specs.declared.place.Position.TheVariants.{Expr, Stmt}
 use Rattle.mini_model.specs.declared.seat.Seat.{Seat}
 use Rattle.std.proofs.Common.{ap, inl, inr}
-use Rattle.std.specs.Prelude.{◌≡◌}
-use Rattle.mini_model.specs.declared.shape.Shape.TheVariants as shape
 
 pub row23_again : (ρ : Renaming) (s : Seat) (n w : Tree) → Row23 s n w → Row23 s (again ρ n) (again ρ w)
 row23_again ρ s n w r = record {

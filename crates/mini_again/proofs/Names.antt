@@ -22,7 +22,7 @@ is_same_again ρ None (Some s) = refl
 is_same_again ρ (Some r) None = refl
 is_same_again ρ (Some r) (Some s) = ρ.apart r.0 s.0
 
--- of two trees the one that is chosen
+-- the tree that is chosen of two that are read again
 
 pub if_again : (ρ : Renaming) (b : Bool) (t u : Tree) → (if b then again ρ t else again ρ u) ≡ again ρ (if b then t else u)
 if_again ρ true t u = refl
@@ -32,7 +32,7 @@ pub if_all_again : (ρ : Renaming) (b : Bool) (ts us : Trees) → (if b then all
 if_all_again ρ true ts us = refl
 if_all_again ρ false ts us = refl
 
--- and of two lists of names
+-- the list of names that is chosen of two
 
 pub if_names_again : (ρ : Renaming) (b : Bool) (xs ys : List Name) → (if b then map (rename_name ρ.symbol) xs else map (rename_name ρ.symbol) ys) ≡ map (rename_name ρ.symbol) (if b then xs else ys)
 if_names_again ρ true xs ys = refl

@@ -11,7 +11,6 @@ use Rattle.mini_rows.specs.Names.{AClass, AFunction, NameContracts, NameRow, Nam
 use Rattle.mini_rows.specs.Switches.{Switches}
 use Rattle.std.proofs.Common.{ap}
 use Rattle.std.specs.Prelude.{refl, ◌≡◌}
-use Rattle.mini_model.specs.declared.shape.Shape.TheVariants as shape
 
 abbrev pub again_nameable : Renaming → Nameable → Nameable
 again_nameable ρ (AFunction a0 a1 a2 a3) = AFunction a0 a1 (again ρ a2) (again ρ a3)

@@ -22,14 +22,12 @@ use Rattle.mini_model.specs.declared.place.Position.{Position}
 use Rattle.mini_model.specs.declared.place.Position.TheVariants.{Expr}
 use Rattle.mini_model.specs.declared.seat.Seat.{Seat}
 use Rattle.mini_node.specs.Children.{names_of}
-use Rattle.mini_node.specs.Kinds.{number}
 use Rattle.mini_rows.specs.Booleans.{digit}
 use Rattle.mini_rows.specs.Choices.{loosely}
 use Rattle.mini_rows.specs.Operands.{OperandRow, Row14, Row27, Row27Asked, Row27Enclosed, Row29, Row30, Row31, Row32, Row4, Row7, beside, is_undefined_name, told_by, zero_told}
 use Rattle.mini_rows.specs.Spellings.{negated_digit, numeral, text}
 use Rattle.std.proofs.Common.{ap, inl, inr}
 use Rattle.std.specs.Prelude.{Bool, List, [], false, map, refl, true, ◌∷◌, ◌≡◌}
-use Rattle.mini_model.specs.declared.shape.Shape.TheVariants as shape
 
 pub row14_again : (ρ : Renaming) (s : Seat) (n w : Tree) → Row14 s n w → Row14 s (again ρ n) (again ρ w)
 row14_again ρ s n w r = record {

@@ -21,7 +21,6 @@ use Rattle.mini_terms.specs.Folds.{is_effect_free}
 use Rattle.mini_terms.specs.Parts.{leaves_nothing}
 use Rattle.std.proofs.Common.{ap, inl, inr}
 use Rattle.std.specs.Prelude.{Bool, false, not, refl, true, ℤ, ◌&&◌, ◌≡◌}
-use Rattle.mini_model.specs.declared.shape.Shape.TheVariants as shape
 
 pub row16_again : (ρ : Renaming) (n w : Tree) → Row16 n w → Row16 (again ρ n) (again ρ w)
 row16_again ρ n w r = record {

@@ -1,5 +1,4 @@
 -- What has a body, whose own code takes a step, takes it where it is read again.
-use Rattle.std.specs.Prelude.{◌≡◌, refl}
 use Rattle.std.proofs.Common.{ap, inl, inr}
 use Rattle.mini_kept.specs.Without.{BodySets}
 use Rattle.mini_model.specs.declared.place.Position.{Position}

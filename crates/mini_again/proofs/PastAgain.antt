@@ -1,4 +1,4 @@
--- mini_rows/Past
+-- 71 past names that keep their value reads a node that is read again.
 use Rattle.mini_again.proofs.LawScopeListAgain.{has_eval_again}
 use Rattle.mini_again.proofs.ModelPathsAgain.{append_again}
 use Rattle.mini_again.proofs.ModelTreeAgain.{child_or_absent_again, children_again, shape_of_again}
@@ -28,7 +28,6 @@ use Rattle.mini_rows.specs.Switches.{Liberties}
 use Rattle.mini_rows.specs.Unused.{declared_among, declared_left, evaluated, gathered_below, is_lexical_shape, put_first}
 use Rattle.mini_rows.specs.declared.gathered.Gathered.{Gathered}
 use Rattle.mini_rows.specs.declared.gathered.Gathered.TheVariants.{Texts as OfTexts, Values as OfValues}
-use Rattle.mini_terms.specs.Kind.{kind}
 use Rattle.std.proofs.Common.{ap, inl, inr, ◌∙◌}
 use Rattle.std.specs.Prelude.{Bool, List, None, Option, Some, [], false, map, refl, suc, true, ℕ, ◌∷◌, ◌≡◌}
 use Rattle.mini_model.specs.declared.shape.Shape.TheVariants as shape
@@ -69,19 +68,19 @@ mutual
   pub writes_again : (ρ : Renaming) (x : Name) (t : Tree) → writes (rename_name ρ.symbol x) (again ρ t) ≡ writes x t
   writes_again ρ x (node h xs n ts) = simp (written_names_again ρ h xs, has_its_symbol_again ρ x.symbol (written_names h xs), any_names_again ρ x ts, any_write_again ρ x ts)
 
-pub is_held_symbol_again : (ρ : Renaming) (V : VariableSet) (r : Tree) (y : Name) (s : Option SymbolId) → is_held_symbol V (again ρ r) (rename_name ρ.symbol y) (rename_symbol ρ.symbol s) ≡ is_held_symbol (with_others_in ρ V) r y s
+pub is_held_symbol_again : (ρ : Renaming) (H : VariableSet) (r : Tree) (y : Name) (s : Option SymbolId) → is_held_symbol H (again ρ r) (rename_name ρ.symbol y) (rename_symbol ρ.symbol s) ≡ is_held_symbol (with_others_in ρ H) r y s
 is_held_symbol_again ρ H r y (Some s) = simp (binds_again ρ s.0 r, writes_again ρ y r)
 is_held_symbol_again ρ H r y None = refl
 
-pub is_held_name_again : (ρ : Renaming) (V : VariableSet) (r : Tree) (ys : List Name) → is_held_name V (again ρ r) (map (rename_name ρ.symbol) ys) ≡ is_held_name (with_others_in ρ V) r ys
+pub is_held_name_again : (ρ : Renaming) (H : VariableSet) (r : Tree) (ys : List Name) → is_held_name H (again ρ r) (map (rename_name ρ.symbol) ys) ≡ is_held_name (with_others_in ρ H) r ys
 is_held_name_again ρ H r (y ∷ []) = simp (is_held_symbol_again ρ H r y y.symbol)
 is_held_name_again ρ H r ys = refl
 
-pub passes_any_item_again : (ρ : Renaming) (k : Kept) (gathered : Gathered) (r t : Tree) → passes_any_item k gathered (again ρ r) (again ρ t) ≡ passes_any_item (kept_with_others ρ k) gathered r t
+pub passes_any_item_again : (ρ : Renaming) (H : Kept) (gathered : Gathered) (r t : Tree) → passes_any_item H gathered (again ρ r) (again ρ t) ≡ passes_any_item (kept_with_others ρ H) gathered r t
 passes_any_item_again ρ H OfTexts r t = simp (is_constant_again ρ t, shape_of_again ρ t, is_named_leaf_again ρ t, names_of_again ρ t, is_held_name_again ρ H.variables r (names_of t), is_bare_again ρ t 0, kind_again ρ t)
 passes_any_item_again ρ H gathered r t = simp (is_constant_again ρ t, shape_of_again ρ t, is_named_leaf_again ρ t, names_of_again ρ t, is_held_name_again ρ H.variables r (names_of t), is_bare_again ρ t 0, is_bare_again ρ t 2, children_again ρ t, child_or_absent_again ρ (children t) 0, shape_of_again ρ (part t 0), child_or_absent_again ρ (children t) 1, is_constant_again ρ (part t 1), shape_of_again ρ (part t 1), is_named_leaf_again ρ (part t 1), names_of_again ρ (part t 1), is_held_name_again ρ H.variables r (names_of (part t 1)), is_bare_again ρ (part t 1) 0)
 
-pub passes_any_at_again : (ρ : Renaming) (k : Kept) (gathered : Gathered) (r : Tree) (h : Shape) (t : Tree) → passes_any_at k gathered (again ρ r) h (again ρ t) ≡ passes_any_at (kept_with_others ρ k) gathered r h t
+pub passes_any_at_again : (ρ : Renaming) (H : Kept) (gathered : Gathered) (r : Tree) (h : Shape) (t : Tree) → passes_any_at H gathered (again ρ r) h (again ρ t) ≡ passes_any_at (kept_with_others ρ H) gathered r h t
 passes_any_at_again ρ H gathered r (shape.AssignmentExpression o) t = simp (shape_of_again ρ t, is_bare_again ρ t 2, children_again ρ t, child_or_absent_again ρ (children t) 0, is_constant_again ρ (part t 0), shape_of_again ρ (part t 0), is_named_leaf_again ρ (part t 0), names_of_again ρ (part t 0), is_held_name_again ρ H.variables r (names_of (part t 0)), is_bare_again ρ (part t 0) 0, child_or_absent_again ρ (children t) 1, shape_of_again ρ (part t 1), is_constant_again ρ (part t 1), is_named_leaf_again ρ (part t 1), names_of_again ρ (part t 1), is_held_name_again ρ H.variables r (names_of (part t 1)), is_bare_again ρ (part t 1) 0, is_named_leaf_again ρ t, ef_again ρ true t)
 passes_any_at_again ρ H gathered r (shape.ObjectProperty k is_method is_shorthand is_computed) t = simp (shape_of_again ρ t)
 passes_any_at_again ρ H gathered r shape.Listed t = simp (passes_any_item_again ρ H gathered r t)
@@ -89,14 +88,14 @@ passes_any_at_again ρ H gathered r shape.TemplateLiteral t = refl
 passes_any_at_again ρ H gathered r h t = simp (is_constant_again ρ t, shape_of_again ρ t, is_named_leaf_again ρ t, names_of_again ρ t, is_held_name_again ρ H.variables r (names_of t), is_bare_again ρ t 0)
 
 mutual
-  pub all_past_again : (ρ : Renaming) (k : Kept) (x : Name) (gathered : Gathered) (r : Tree) (h : Shape) (i : ℕ) (ts : Trees) → all_past k (rename_name ρ.symbol x) gathered (again ρ r) h i (all_again ρ ts) ≡ all_past (kept_with_others ρ k) x gathered r h i ts
+  pub all_past_again : (ρ : Renaming) (H : Kept) (x : Name) (gathered : Gathered) (r : Tree) (h : Shape) (i : ℕ) (ts : Trees) → all_past H (rename_name ρ.symbol x) gathered (again ρ r) h i (all_again ρ ts) ≡ all_past (kept_with_others ρ H) x gathered r h i ts
   all_past_again ρ H x gathered r h i none = refl
   all_past_again ρ H x gathered r h i (t ▸ ts) = simp (names_again ρ x t, are_past_in_again ρ H x (gathered_below gathered h i) r t, passes_any_at_again ρ H gathered r h t, all_past_again ρ H x gathered r h (suc i) ts)
 
-  pub are_past_in_again : (ρ : Renaming) (k : Kept) (x : Name) (gathered : Gathered) (r t : Tree) → are_past_in k (rename_name ρ.symbol x) gathered (again ρ r) (again ρ t) ≡ are_past_in (kept_with_others ρ k) x gathered r t
+  pub are_past_in_again : (ρ : Renaming) (H : Kept) (x : Name) (gathered : Gathered) (r t : Tree) → are_past_in H (rename_name ρ.symbol x) gathered (again ρ r) (again ρ t) ≡ are_past_in (kept_with_others ρ H) x gathered r t
   are_past_in_again ρ H x gathered r (node h ys n ts) = simp (begins_bare_again ρ x ts, suits_under_again ρ r h, suits_in_again ρ r h, begins_with_again ρ x ts, all_past_again ρ H x gathered r h 0 ts)
 
-pub are_past_again : (ρ : Renaming) (k : Kept) (x : Name) (r t : Tree) → are_past k (rename_name ρ.symbol x) (again ρ r) (again ρ t) ≡ are_past (kept_with_others ρ k) x r t
+pub are_past_again : (ρ : Renaming) (H : Kept) (x : Name) (r t : Tree) → are_past H (rename_name ρ.symbol x) (again ρ r) (again ρ t) ≡ are_past (kept_with_others ρ H) x r t
 are_past_again ρ H x r t = simp (are_past_in_again ρ H x OfValues r t, is_shallow_again ρ 250 r, is_shallow_again ρ 250 t)
 
 pub begun_again : (ρ : Renaming) (V : Assured) (ts : Trees) (x : Variable) → begun V (all_again ρ ts) (rename_variable ρ.symbol x) ≡ begun (assured_with_others ρ V) ts x
@@ -186,7 +185,7 @@ row71_past_next_again ρ V W outside ts us r = record {
   written = simp (← (put_first_again ρ (resolved r.spelling r.symbol) r.init r.value), ← (append_again ρ r.first (declarator r.binds (put_first (resolved r.spelling r.symbol) r.init r.value) ▸ r.last)), ← (append_again ρ r.before (declaration r.kind (append r.first (declarator r.binds (put_first (resolved r.spelling r.symbol) r.init r.value) ▸ r.last)) ▸ r.after))) at (ap (all_again ρ) r.written);
 }
 
-unfoldable pub past_row_again : (ρ : Renaming) (a : Assured) (W : Liberties) (outside : Tree) (ts us : Trees) → PastRow (assured_with_others ρ a) (liberties_with_others_in ρ W) outside ts us → PastRow a W (again ρ outside) (all_again ρ ts) (all_again ρ us)
+unfoldable pub past_row_again : (ρ : Renaming) (V : Assured) (W : Liberties) (outside : Tree) (ts us : Trees) → PastRow (assured_with_others ρ V) (liberties_with_others_in ρ W) outside ts us → PastRow V W (again ρ outside) (all_again ρ ts) (all_again ρ us)
 past_row_again ρ V W outside ts us (inl r) = inl (row71_past_again ρ V W outside ts us r)
 past_row_again ρ V W outside ts us (inr r) = inr (row71_past_next_again ρ V W outside ts us r)
 
@@ -205,7 +204,7 @@ past_function_row_again ρ S W n w r = record {
   written = ap (again ρ) r.written;
 }
 
-pub past_function_again : (ρ : Renaming) (b : BodySets) (W : Liberties) (p : Position) (n w : Tree) → PastFunction (sets_with_others ρ b) (liberties_with_others_in ρ W) p n w → PastFunction b W p (again ρ n) (again ρ w)
+pub past_function_again : (ρ : Renaming) (S : BodySets) (W : Liberties) (p : Position) (n w : Tree) → PastFunction (sets_with_others ρ S) (liberties_with_others_in ρ W) p n w → PastFunction S W p (again ρ n) (again ρ w)
 past_function_again ρ S W (Stmt q) n w r = past_function_row_again ρ S W n w r
 past_function_again ρ S W (Expr s) n w r = past_function_row_again ρ S W n w r
 past_function_again ρ S W Method n w r = past_function_row_again ρ S W n w r

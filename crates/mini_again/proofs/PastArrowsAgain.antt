@@ -1,4 +1,4 @@
--- mini_rows/PastArrows
+-- 71 past such names in arrow functions reads a node that is read again.
 use Rattle.mini_again.proofs.PastAgain.{past_row_again}
 use Rattle.mini_again.specs.Again.{Renaming, again, all_again, liberties_with_others_in, other_number, sets_with_others}
 use Rattle.mini_kept.specs.Without.{BodySets}
@@ -8,8 +8,6 @@ use Rattle.mini_model.specs.declared.place.Position.TheVariants.{Expr}
 use Rattle.mini_rows.specs.PastArrows.{PastArrow, PastArrowRow}
 use Rattle.mini_rows.specs.Switches.{Liberties}
 use Rattle.std.proofs.Common.{ap}
-use Rattle.std.specs.Prelude.{◌≡◌}
-use Rattle.mini_model.specs.declared.shape.Shape.TheVariants as shape
 
 pub past_arrow_row_again : (ρ : Renaming) (S : BodySets) (W : Liberties) (n w : Tree) → PastArrowRow (sets_with_others ρ S) (liberties_with_others_in ρ W) n w → PastArrowRow S W (again ρ n) (again ρ w)
 past_arrow_row_again ρ S W n w r = record {
@@ -23,6 +21,6 @@ past_arrow_row_again ρ S W n w r = record {
   written = ap (again ρ) r.written;
 }
 
-pub past_arrow_again : (ρ : Renaming) (b : BodySets) (W : Liberties) (p : Position) (n w : Tree) → PastArrow (sets_with_others ρ b) (liberties_with_others_in ρ W) p n w → PastArrow b W p (again ρ n) (again ρ w)
+pub past_arrow_again : (ρ : Renaming) (S : BodySets) (W : Liberties) (p : Position) (n w : Tree) → PastArrow (sets_with_others ρ S) (liberties_with_others_in ρ W) p n w → PastArrow S W p (again ρ n) (again ρ w)
 past_arrow_again ρ S W (Expr s) n w r = past_arrow_row_again ρ S W n w r
 past_arrow_again ρ S W p2 n w r = absurd r

@@ -1,4 +1,4 @@
--- mini_rows/PastBlocks
+-- 71 past such names in blocks reads a node that is read again.
 use Rattle.mini_again.proofs.ModelPathsAgain.{append_again}
 use Rattle.mini_again.proofs.PastAgain.{past_row_again}
 use Rattle.mini_again.specs.Again.{Renaming, again, all_again, assured_with_others}
@@ -10,7 +10,7 @@ use Rattle.mini_rows.specs.PastBlocks.{PastBlockRow, PastCaseRow, PastHeadRow, P
 use Rattle.mini_rows.specs.Switches.{Switches, without_vars}
 use Rattle.mini_rows.specs.Unused.{switch_around}
 use Rattle.std.proofs.Common.{ap, inl, inr}
-use Rattle.std.specs.Prelude.{[], ◌≡◌}
+use Rattle.std.specs.Prelude.{[]}
 use Rattle.mini_model.specs.declared.shape.Shape.TheVariants as shape
 
 pub past_block_row_again : (ρ : Renaming) (o : Switches) (V : Assured) (n w : Tree) → PastBlockRow o (assured_with_others ρ V) n w → PastBlockRow o V (again ρ n) (again ρ w)
@@ -47,7 +47,7 @@ past_head_row_again ρ o V n w r = record {
   written = ap (again ρ) r.written;
 }
 
-pub past_statement_row_again : (ρ : Renaming) (o : Switches) (a : Assured) (n w : Tree) → PastStatementRow o (assured_with_others ρ a) n w → PastStatementRow o a (again ρ n) (again ρ w)
+pub past_statement_row_again : (ρ : Renaming) (o : Switches) (V : Assured) (n w : Tree) → PastStatementRow o (assured_with_others ρ V) n w → PastStatementRow o V (again ρ n) (again ρ w)
 past_statement_row_again ρ o V n w (inl r) = inl (past_block_row_again ρ o V n w r)
 past_statement_row_again ρ o V n w (inr (inl r)) = inr (inl (past_case_row_again ρ o V n w r))
 past_statement_row_again ρ o V n w (inr (inr r)) = inr (inr (past_head_row_again ρ o V n w r))

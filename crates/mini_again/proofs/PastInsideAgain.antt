@@ -1,9 +1,9 @@
--- 71 of a `var` further inside a body, past names that keep their value, reads a node that is read again.
-use Rattle.std.specs.Prelude.{◌≡◌, refl, ℕ, suc, ◌&&◌, ◌||◌, not, nat_lt, Bool, true, false, List, [], ◌∷◌, ◌++◌, map}
+-- 71 of a `var` further inside a body, past names that keep their value, survives.
+use Rattle.std.specs.Prelude.{◌≡◌, refl, ℕ, ◌||◌, Bool, true, false, List, [], ◌++◌, map}
 use Rattle.std.proofs.Common.{ap, inl, inr, ◌∙◌, sym, subst}
 use Rattle.std.proofs.lemmas.List.{map-append}
 use Rattle.mini_kept.specs.Without.{Assured, BodySets}
-use Rattle.mini_laws.specs.Naming.{summary, summaries}
+use Rattle.mini_laws.specs.Naming.{summary}
 use Rattle.mini_laws.specs.Renaming.{rename_variable}
 use Rattle.mini_laws.specs.Value.{Variable, Declared, Global, VariableSet, choose, is_in}
 use Rattle.mini_model.specs.declared.place.Position.{Position}

@@ -1,4 +1,4 @@
--- mini_rows/PastStatics
+-- 71 past such names in static blocks reads a node that is read again.
 use Rattle.mini_again.proofs.PastAgain.{past_row_again}
 use Rattle.mini_again.specs.Again.{Renaming, again, all_again, liberties_with_others_in, other_number, sets_with_others}
 use Rattle.mini_kept.specs.Without.{BodySets}
@@ -8,8 +8,6 @@ use Rattle.mini_model.specs.declared.place.Position.TheVariants.{Elsewhere}
 use Rattle.mini_rows.specs.PastStatics.{PastStatic, PastStaticRow}
 use Rattle.mini_rows.specs.Switches.{Liberties}
 use Rattle.std.proofs.Common.{ap}
-use Rattle.std.specs.Prelude.{◌≡◌}
-use Rattle.mini_model.specs.declared.shape.Shape.TheVariants as shape
 
 pub past_static_row_again : (ρ : Renaming) (S : BodySets) (W : Liberties) (n w : Tree) → PastStaticRow (sets_with_others ρ S) (liberties_with_others_in ρ W) n w → PastStaticRow S W (again ρ n) (again ρ w)
 past_static_row_again ρ S W n w r = record {
@@ -21,6 +19,6 @@ past_static_row_again ρ S W n w r = record {
   written = ap (again ρ) r.written;
 }
 
-pub past_static_again : (ρ : Renaming) (b : BodySets) (W : Liberties) (p : Position) (n w : Tree) → PastStatic (sets_with_others ρ b) (liberties_with_others_in ρ W) p n w → PastStatic b W p (again ρ n) (again ρ w)
+pub past_static_again : (ρ : Renaming) (S : BodySets) (W : Liberties) (p : Position) (n w : Tree) → PastStatic (sets_with_others ρ S) (liberties_with_others_in ρ W) p n w → PastStatic S W p (again ρ n) (again ρ w)
 past_static_again ρ S W Elsewhere n w r = past_static_row_again ρ S W n w r
 past_static_again ρ S W p2 n w r = absurd r

@@ -31,7 +31,6 @@ use Rattle.mini_model.specs.declared.place.Position.{Position}
 use Rattle.mini_rows.specs.Redex.{Contracts, Rewrites, Row}
 use Rattle.mini_rows.specs.Switches.{Switches, liberties}
 use Rattle.std.proofs.Common.{inl, inr}
-use Rattle.std.specs.Prelude.{◌≡◌}
 
 pub row_again : (ρ : Renaming) (o : Switches) (p : Position) (n w : Tree) → Row o p n w → Row o p (again ρ n) (again ρ w)
 row_again ρ o p n w (inl r) = inl (redex_row_again ρ p n w r)
@@ -60,7 +59,7 @@ contracts_again ρ o p n w r = record {
   lighter = simp (weight_again ρ p w, weight_again ρ p n) r.lighter;
 }
 
-pub rewrites_again : (ρ : Renaming) (o : Switches) (V : VariableSet) (p : Position) (n w : Tree) → Rewrites o (with_others_in ρ V) p n w → Rewrites o V p (again ρ n) (again ρ w)
+pub rewrites_again : (ρ : Renaming) (o : Switches) (W : VariableSet) (p : Position) (n w : Tree) → Rewrites o (with_others_in ρ W) p n w → Rewrites o W p (again ρ n) (again ρ w)
 rewrites_again ρ o W p n w (inl r) = inl (contracts_again ρ o p n w r)
 rewrites_again ρ o W p n w (inr (inl r)) = inr (inl (unused_contracts_again ρ (liberties o W) p n w r))
 rewrites_again ρ o W p n w (inr (inr (inl r))) = inr (inr (inl (name_contracts_again ρ o p n w r)))

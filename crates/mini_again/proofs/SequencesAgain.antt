@@ -19,7 +19,6 @@ use Rattle.mini_rows.specs.Lists.{sequence}
 use Rattle.mini_rows.specs.Sequences.{Chooses, Converts, Decides, Minus, Negates, Operates, Operation, Row20, Row21, Row21Alone, Row21Idle, SequenceRow, Yields, along, innermost, operand_seat, operation_shape, over, takes_along, takes_last}
 use Rattle.std.proofs.Common.{ap, inl, inr}
 use Rattle.std.specs.Prelude.{List, [], codes, map, refl, true, ◌∷◌, ◌≡◌}
-use Rattle.mini_model.specs.declared.shape.Shape.TheVariants as shape
 
 abbrev pub again_operation : Renaming → Operation → Operation
 again_operation ρ (Decides a0 a1) = Decides a0 (again ρ a1)

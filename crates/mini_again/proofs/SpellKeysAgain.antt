@@ -8,7 +8,6 @@ use Rattle.mini_model.specs.declared.place.Position.TheVariants.{Expr}
 use Rattle.mini_rows.specs.SpellKeys.{KeyForm, KeyRow, PropertyRow, Row51, Row52Function, Row52Name, Row52Number, Row52Numeral, Row52Text, RowInObject, a_name, a_text_in_brackets, a_whole, a_whole_in_brackets, read_key, written_key}
 use Rattle.std.proofs.Common.{ap, inl, inr}
 use Rattle.std.specs.Prelude.{refl, ◌≡◌}
-use Rattle.mini_model.specs.declared.shape.Shape.TheVariants as shape
 
 pub row51_again : (ρ : Renaming) (n w : Tree) → Row51 n w → Row51 (again ρ n) (again ρ w)
 row51_again ρ n w r = record {

@@ -1,4 +1,4 @@
--- mini_rows/Steady
+-- Rows over what is known of a body read a node that is read again.
 use Rattle.mini_again.proofs.IdleAgain.{idle_row_again, idle_statement_again}
 use Rattle.mini_again.proofs.MembersAgain.{member_row_again}
 use Rattle.mini_again.proofs.PastAgain.{is_symbol_again}
@@ -14,7 +14,7 @@ use Rattle.mini_rows.specs.Steady.{SteadyRow, all_bindings, bindings, times_name
 use Rattle.std.proofs.Common.{inl, inr}
 use Rattle.std.specs.Prelude.{List, [], map, refl, ℕ, ◌∷◌, ◌≡◌}
 
-pub steady_row_again : (ρ : Renaming) (a : Assured) (p : Position) (n w : Tree) → SteadyRow (assured_with_others ρ a) p n w → SteadyRow a p (again ρ n) (again ρ w)
+pub steady_row_again : (ρ : Renaming) (V : Assured) (p : Position) (n w : Tree) → SteadyRow (assured_with_others ρ V) p n w → SteadyRow V p (again ρ n) (again ρ w)
 steady_row_again ρ V (Expr s) n w (inl r) = inl (member_row_again ρ V s n w r)
 steady_row_again ρ V (Expr s) n w (inr (inl r)) = inr (inl (idle_row_again ρ V s n w r))
 steady_row_again ρ V (Expr s) n w (inr (inr r)) = inr (inr (still_row_again ρ V s n w r))

@@ -1,13 +1,13 @@
 -- A step in the own code of a body is one of the body that is read again.
-use Rattle.std.specs.Prelude.{◌≡◌, refl, ℕ, zero, suc, ◌+◌, ◌&&◌, ◌||◌, not, nat_lt}
+use Rattle.std.specs.Prelude.{◌≡◌, refl, ℕ, suc}
 use Rattle.std.proofs.Common.{ap, ◌∙◌, sym, subst}
 use Rattle.mini_kept.specs.Without.{Assured}
 use Rattle.mini_laws.specs.Naming.{summaries}
-use Rattle.mini_laws.specs.Renaming.{rename_name, rename_variable}
+use Rattle.mini_laws.specs.Renaming.{rename_variable}
 use Rattle.mini_laws.specs.Value.{Variable, Declared, Global, VariableSet}
 use Rattle.mini_model.specs.declared.place.Position.{Position}
 use Rattle.mini_model.specs.Position.{child_position}
-use Rattle.mini_model.specs.Tree.{Tree, Trees, node, none, ◌▸◌, count}
+use Rattle.mini_model.specs.Tree.{Tree, Trees}
 use Rattle.mini_rows.specs.Steady.{Begun, begun_at, OwnRows, OwnStep, own_here, own_inside, OwnStepIn, own_first, own_later, own_rows, known_in, valued, Symbols}
 use Rattle.mini_again.specs.Again.{Renaming, again, all_again, with_others_in, assured_with_others}
 use Rattle.mini_again.specs.Families.{OwnSurvives}

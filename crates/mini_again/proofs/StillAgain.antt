@@ -14,8 +14,7 @@ use Rattle.mini_model.specs.declared.place.Position.TheVariants.{Expr}
 use Rattle.mini_model.specs.declared.seat.Seat.{Seat}
 use Rattle.mini_rows.specs.Still.{Row17This, Row1This, Row21ZeroThis, Row44This, Row45This, StillRow}
 use Rattle.std.proofs.Common.{ap, inl, inr}
-use Rattle.std.specs.Prelude.{false, ◌≡◌}
-use Rattle.mini_model.specs.declared.shape.Shape.TheVariants as shape
+use Rattle.std.specs.Prelude.{false}
 
 pub row17_this_again : (ρ : Renaming) (V : Assured) (n w : Tree) → Row17This (assured_with_others ρ V) n w → Row17This V (again ρ n) (again ρ w)
 row17_this_again ρ V n w r = record {
@@ -54,7 +53,7 @@ row45_this_again ρ V s n w r = record {
   row = of_either (λ x. chosen_row_again ρ false s n w x) (λ x. of_either (λ x1. chosen_member_row_again ρ false s n w x1) (λ x1. chosen_indexed_row_again ρ false s n w x1) x) r.row;
 }
 
-pub still_row_again : (ρ : Renaming) (a : Assured) (s : Seat) (n w : Tree) → StillRow (assured_with_others ρ a) s n w → StillRow a s (again ρ n) (again ρ w)
+pub still_row_again : (ρ : Renaming) (V : Assured) (s : Seat) (n w : Tree) → StillRow (assured_with_others ρ V) s n w → StillRow V s (again ρ n) (again ρ w)
 still_row_again ρ V s n w (inl r) = inl (row21_zero_this_again ρ V n w r)
 still_row_again ρ V s n w (inr (inl r)) = inr (inl (row1_this_again ρ V n w r))
 still_row_again ρ V s n w (inr (inr (inl r))) = inr (inr (inl (row44_this_again ρ V n w r)))

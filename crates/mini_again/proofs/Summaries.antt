@@ -1,15 +1,14 @@
 -- What a tree declares and begins, of a tree that is read again.
-use Rattle.std.specs.Prelude.{◌≡◌, refl, ℕ, zero, suc, ◌||◌, Bool, true, false, List, [], ◌∷◌, map, Option, Some, None}
+use Rattle.std.specs.Prelude.{◌≡◌, refl, ℕ, zero, suc, ◌||◌, Bool, true, false, List, [], ◌∷◌, map, Option, Some}
 use Rattle.std.proofs.Common.{ap, ◌∙◌, sym, subst}
 use Rattle.mini_laws.proofs.Renamed.{SummaryRenamed, AllRenamed, none_renamed, cons_renamed, summary_renamed, variables_renamed}
 use Rattle.mini_laws.specs.Naming.{Declared as What, Variables, summary, summaries, summary_of}
-use Rattle.mini_laws.specs.Renaming.{rename_name, rename_variable}
+use Rattle.mini_laws.specs.Renaming.{rename_variable}
 use Rattle.mini_laws.specs.Value.{Variable, Declared, Global, variables, variable_eq, is_in, choose}
-use Rattle.mini_model.specs.declared.kind.VariableDeclarationKind.{VariableDeclarationKind}
 use Rattle.mini_model.specs.declared.place.Position.{Position}
 use Rattle.mini_model.specs.declared.shape.Shape.{Shape}
 use Rattle.mini_model.specs.Tree.{Tree, Trees, node, none, ◌▸◌}
-use Rattle.mini_rows.specs.Steady.{Beginning, OfChild, OfHead, OfNone, Begun, begun_at, beginning, begins, begins_by, nth_lets, lets_as, head_lets, enters_lexical, passing}
+use Rattle.mini_rows.specs.Steady.{Beginning, OfChild, OfHead, OfNone, Begun, begun_at, beginning, begins, begins_by, nth_lets, lets_as, head_lets}
 use Rattle.mini_again.specs.Again.{Renaming, again, all_again, other_number}
 
 -- ---- variables

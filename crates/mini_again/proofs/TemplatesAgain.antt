@@ -6,7 +6,6 @@ use Rattle.mini_again.proofs.TermEffectsAgain.{ef_again}
 use Rattle.mini_again.proofs.TermKindAgain.{kind_again}
 use Rattle.mini_again.proofs.TermPartsAgain.{leaves_nothing_again}
 use Rattle.mini_again.specs.Again.{Renaming, again, all_again}
-use Rattle.mini_model.specs.Joined.{joined}
 use Rattle.mini_model.specs.Tree.{Tree, none, ◌▸◌}
 use Rattle.mini_model.specs.declared.operator.BinaryOperator.TheVariants.{Addition}
 use Rattle.mini_model.specs.declared.place.Position.{Position}
@@ -16,7 +15,6 @@ use Rattle.mini_rows.specs.Templates.{Piece, Row18, Row5, Row5After, Row5Before,
 use Rattle.mini_terms.specs.Calculated.{operand_depth}
 use Rattle.std.proofs.Common.{ap, inl, inr}
 use Rattle.std.specs.Prelude.{List, [], false, refl, true, ◌∷◌, ◌≡◌}
-use Rattle.mini_model.specs.declared.shape.Shape.TheVariants as shape
 
 pub pieces_again : (ρ : Renaming) (p : List Piece) → all_again ρ (pieces p) ≡ pieces p
 pieces_again ρ [] = refl

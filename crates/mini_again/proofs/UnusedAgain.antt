@@ -1,4 +1,4 @@
--- Rows of names that nothing mentions, and of names that are read once, read a node that is read again.
+-- Rows of names that are read once or not at all read a node that is read again.
 use Rattle.mini_again.proofs.ChainsAgain.{is_calm_again}
 use Rattle.mini_again.proofs.LawScopeListAgain.{has_eval_again, is_eval_again, is_eval_callee_again}
 use Rattle.mini_again.proofs.ListsAgain.{declares_nothing_again}
@@ -31,7 +31,6 @@ use Rattle.mini_rows.specs.Switches.{Liberties, Switches, without_vars}
 use Rattle.mini_rows.specs.Unused.{Alone, ArrowBodyRow, BlockRow, ForHeadRow, ForNextRow, ForRow, FunctionBodyRow, ModuleRow, Row71, Row71Next, Row72, Row72Idle, StaticBlockRow, SwitchRow, UnusedContracts, UnusedRow, all_passed, any_names, are_passed_in, begins, begins_bare, begins_let, begins_var, begins_with, declared_among, declared_left, declared_one, evaluated, evaluated_hidden, first_value, gathered_below, goes_over, goes_over_let, has_declarator, has_symbol_of, head_left, holds_list, is_called_by, is_childless, is_constant, is_first, is_like_one, is_own_key, leads, leads_to, may_hold, names, passes_at, passes_branch, passes_item, put_among, put_first, reads_first, reads_head, suits_in, suits_under, switch_around, takes_name}
 use Rattle.mini_rows.specs.declared.gathered.Gathered.{Gathered}
 use Rattle.mini_rows.specs.declared.gathered.Gathered.TheVariants.{Texts as OfTexts, Values as OfValues}
-use Rattle.mini_terms.specs.Kind.{kind}
 use Rattle.std.proofs.Common.{ap, inl, inr}
 use Rattle.std.specs.Prelude.{Bool, List, [], false, if◌then◌else◌, map, refl, suc, true, zero, ℕ, ◌∷◌, ◌≡◌}
 use Rattle.mini_model.specs.declared.shape.Shape.TheVariants as shape

@@ -1,13 +1,12 @@
 -- The variables that a program mentions and lets be written, of a program that is read again.
-use Rattle.std.specs.Prelude.{◌≡◌, refl, true, ◌&&◌, ◌||◌, List, [], ◌∷◌, map}
+use Rattle.std.specs.Prelude.{◌≡◌, refl, true, ◌&&◌, ◌||◌, List, map}
 use Rattle.std.proofs.Common.{ap, ◌∙◌, sym}
 use Rattle.mini_laws.proofs.Renamed.{variables_renamed}
-use Rattle.mini_laws.specs.Fixity.{declared_by, lets_fourth, fixed_by, fixed_by_any, fixity_by, stricter}
+use Rattle.mini_laws.specs.Fixity.{declared_by, lets_fourth, fixed_by, fixed_by_any}
 use Rattle.mini_laws.specs.Naming.{summaries}
 use Rattle.mini_laws.specs.Renaming.{rename_name, rename_variable}
-use Rattle.mini_laws.specs.State.{Fixed, Writable}
-use Rattle.mini_laws.specs.Value.{Variable, Declared, Global, variables, is_in, choose}
-use Rattle.mini_laws.specs.Writable.{mentions, any_mentions, writable_by, writable_in, is_open}
+use Rattle.mini_laws.specs.Value.{Variable, Declared, Global, variables, is_in}
+use Rattle.mini_laws.specs.Writable.{mentions, any_mentions, is_open}
 use Rattle.mini_model.specs.declared.name.Name.{Name}
 use Rattle.mini_model.specs.declared.shape.Shape.{Shape}
 use Rattle.mini_model.specs.declared.shape.Shape.TheVariants as shape

@@ -19,7 +19,6 @@ use Rattle.mini_rows.specs.Writes.{Row34, Row37Assigned, Row46Assigned, Row46Ass
 use Rattle.mini_terms.specs.Exact.{by_value, is_guarded}
 use Rattle.std.proofs.Common.{ap, inl, inr}
 use Rattle.std.specs.Prelude.{Bool, false, map, refl, true, ◌≡◌}
-use Rattle.mini_model.specs.declared.shape.Shape.TheVariants as shape
 
 pub row34_again : (ρ : Renaming) (W : VariableSet) (n w : Tree) → Row34 (with_others_in ρ W) n w → Row34 W (again ρ n) (again ρ w)
 row34_again ρ W n w r = record {
@@ -81,7 +80,7 @@ row46_assigned_chain_again ρ W s n w r = record {
   written = simp (← (is_guarded_again ρ s.guard (chain (spine true (assign (resolved r.spelling r.symbol) r.a) r.last r.others)))) at (simp (← (if_again ρ (is_guarded s.guard (chain (spine true (assign (resolved r.spelling r.symbol) r.a) r.last r.others))) (by_value (chain (spine true (assign (resolved r.spelling r.symbol) r.a) r.last r.others))) (chain (spine true (assign (resolved r.spelling r.symbol) r.a) r.last r.others))), ← (spine_again ρ true (assign (resolved r.spelling r.symbol) r.a) r.last r.others)) at (ap (again ρ) r.written));
 }
 
-pub write_row_again : (ρ : Renaming) (V : VariableSet) (p : Position) (n w : Tree) → WriteRow (with_others_in ρ V) p n w → WriteRow V p (again ρ n) (again ρ w)
+pub write_row_again : (ρ : Renaming) (W : VariableSet) (p : Position) (n w : Tree) → WriteRow (with_others_in ρ W) p n w → WriteRow W p (again ρ n) (again ρ w)
 write_row_again ρ W (Expr s) n w (inl r) = inl (row34_again ρ W n w r)
 write_row_again ρ W (Expr s) n w (inr (inl r)) = inr (inl (row46_assigned_again ρ W n w r))
 write_row_again ρ W (Expr s) n w (inr (inr (inl r))) = inr (inr (inl (row37_assigned_again ρ W n w r)))

@@ -41,6 +41,6 @@ liberties_with_others_in ρ V = record { writable = with_others_in ρ V.writable
 abbrev pub assured_with_others : Renaming → Assured → Assured
 assured_with_others ρ V = record { steady = with_others_in ρ V.steady; unshared = with_others_in ρ V.unshared; initial = with_others_in ρ V.initial; has_this = V.has_this }
 
--- and of each body, by its other number
+-- what is known of each body, by its other number
 abbrev pub sets_with_others : Renaming → BodySets → BodySets
 sets_with_others ρ S n = assured_with_others ρ (S (other_number ρ n))

@@ -28,7 +28,9 @@ use Rattle.mini_rows.specs.Steady.{OwnRows, SteadyRow, LexicalRows}
 use Rattle.mini_rows.specs.Switches.{Switches, Liberties, liberties}
 use Rattle.mini_again.specs.Again.{Renaming, again, other_number, with_others_in, assured_with_others, sets_with_others, liberties_with_others_in}
 
--- of all rows but those that rest on what is known of the body around
+-- What a row writes for a node it writes for the node that is read again, where the variables that
+-- may be written are the other ones: each row but those that rest on what is known of the body
+-- around. `0 && x` becomes `0`, whichever symbol `x` has
 abbrev pub RewritesSurvive : Type 0
 RewritesSurvive = (ρ : Renaming) (o : Switches) (V : VariableSet) (p : Position) (n w : Tree) → Rewrites o (with_others_in ρ V) p n w → Rewrites o V p (again ρ n) (again ρ w)
 
@@ -36,21 +38,23 @@ RewritesSurvive = (ρ : Renaming) (o : Switches) (V : VariableSet) (p : Position
 abbrev pub HasOthers : Renaming → VariableSet → VariableSet → Type 0
 HasOthers ρ W V = (x : Variable) → V (rename_variable ρ.symbol x) ≡ W x
 
--- nothing is left to rewrite in a program, if nothing is in the program that is read again
+-- Nothing is left to rewrite in a program by rows that rest on no body, if nothing is left in the
+-- program that is read again
 abbrev pub NothingIsLeft : Type 0
 NothingIsLeft = (ρ : Renaming) (o : Switches) (W V : VariableSet) → HasOthers ρ W V → (p : Position) (t : Tree) → HasNoRedex o V p (again ρ t) → HasNoRedex o W p t
 
 -- ---- rows that rest on what is known of the body around
 
--- of a family of rows in the own code of a body
+-- a family of rows in the own code of a body reads nodes that are read again, over what is known of
+-- the other variables
 abbrev pub OwnSurvives : OwnRows → Type 0
 OwnSurvives F = (ρ : Renaming) (V : Assured) (p : Position) (n w : Tree) → F (assured_with_others ρ V) p n w → F V p (again ρ n) (again ρ w)
 
--- of rows over what is known of each body and over what may be written
+-- rows over what is known of each body and over what may be written read nodes that are read again
 abbrev pub BodiesSurvive : (BodySets → Liberties → Position → Tree → Tree → Type 0) → Type 0
 BodiesSurvive R = (ρ : Renaming) (S : BodySets) (W : Liberties) (p : Position) (n w : Tree) → R (sets_with_others ρ S) (liberties_with_others_in ρ W) p n w → R S W p (again ρ n) (again ρ w)
 
--- ---- all of those rows
+-- ---- all rows that rest on what is known of the body around
 
 -- a row of a family in the own code of whatever has a body
 abbrev pub OwnCodeRow : OwnRows → BodySets → Position → Tree → Tree → Type 0
@@ -64,19 +68,22 @@ PastCodeRow S W p n w = ((PastFunction S W p n w ⊎ PastArrow S W p n w) ⊎ (P
 abbrev pub InsideCodeRow : BodySets → Liberties → Position → Tree → Tree → Type 0
 InsideCodeRow S W p n w = InsideContracts W p n w ⊎ PastInside S W p n w
 
--- and members, `this` and lexical names
+-- a row that rests on what is known of the body around: of members, of `this`, of lexical names, of
+-- names that are read past others, or of a `var` further inside
 abbrev pub BodyRewrites : BodySets → Liberties → Position → Tree → Tree → Type 0
 BodyRewrites S W p n w = (OwnCodeRow SteadyRow S p n w ⊎ OwnCodeRow LexicalRows S p n w) ⊎ (PastCodeRow S W p n w ⊎ InsideCodeRow S W p n w)
 
--- where S says what is known of each body, by its number, and W what may be written
+-- what such a row writes for a node it writes for the node that is read again
 abbrev pub BodyRewritesSurvive : Type 0
 BodyRewritesSurvive = BodiesSurvive BodyRewrites
 
--- S, by other numbers, has the other one of each variable that R has
+-- S knows of the body with another number and of other variables what R knows of the body and the
+-- variables
 abbrev pub HasOtherSets : Renaming → BodySets → BodySets → Type 0
 HasOtherSets ρ R S = (b : ℕ) → sets_with_others ρ S b ≡ R b
 
--- nothing is left for those rows in a program, if nothing is in the program that is read again
+-- Nothing is left to rewrite in a program by rows that rest on bodies, if nothing is left in the
+-- program that is read again
 abbrev pub NothingIsLeftInBodies : Type 0
 NothingIsLeftInBodies =
     (ρ : Renaming) (R S : BodySets) → HasOtherSets ρ R S → (o : Switches) (W V : VariableSet) → HasOthers ρ W V → (p : Position) (t : Tree)
@@ -84,24 +91,27 @@ NothingIsLeftInBodies =
 
 -- ---- what a program tells
 
--- it lets a variable be written where the program that is read again lets the other one be
+-- a program lets a variable be written where the program that is read again lets the other one be
 abbrev pub WritableSurvives : Type 0
 WritableSurvives = (ρ : Renaming) (t : Tree) → HasOthers ρ (writable_in t) (writable_in (again ρ t))
 
--- its bodies are those with other numbers and roots
+-- a body that is read again has another number and another root
 abbrev pub body_again : Renaming → Body → Body
 body_again ρ b = record { number = other_number ρ b.number; kind = b.kind; root = again ρ b.root; strict = b.strict; asks_this = b.asks_this }
 
+-- the bodies of a program that is read again are its bodies, each read again
 abbrev pub BodiesAgain : Type 0
 BodiesAgain = (ρ : Renaming) (t : Tree) → bodies_in (again ρ t) ≡ map (body_again ρ) (bodies_in t)
 
--- Where numbers are told apart, a variable is shared with a body and foreign to it where the other
--- one is with the body with the other number, and written and lexical where the other one is
+-- A variable is shared with a body and foreign to it where the other variable is with the body that
+-- has the other number; it is written and lexical where the other one is
 pub record ToldAgain (ρ : Renaming) (t : Tree) : Type 0 where
   pub shared : (b : ℕ) (x : Name) → is_shared (again ρ t) (other_number ρ b) (rename_name ρ.symbol x) ≡ is_shared t b x
   pub foreign : (b : ℕ) (x : Name) → is_foreign (again ρ t) (other_number ρ b) (rename_name ρ.symbol x) ≡ is_foreign t b x
   pub written : (x : Name) → list_any (is_write (rename_name ρ.symbol x)) (all_writes (again ρ t)) ≡ list_any (is_write x) (all_writes t)
   pub lexical : (b : Bool) (x : Name) → is_among (rename_name ρ.symbol x) (lexical_variables b (again ρ t)) ≡ is_among x (lexical_variables b t)
 
+-- Numbers have to be told apart: were two bodies one by their other numbers, a variable that both
+-- mention would be shared before and not after
 abbrev pub ToldSurvives : Type 0
 ToldSurvives = (ρ : Renaming) → TellsApart ρ.number → (t : Tree) → ToldAgain ρ t

@@ -11,7 +11,8 @@ pub fn rewrites_survive()
     ensures { RewritesSurvive }
 {}
 
-/// Nothing is left for those rows in a program, if nothing is in the program that is read again.
+/// Nothing is left to rewrite in a program by rows that rest on no body, if nothing is left in the
+/// program that is read again.
 pub fn nothing_is_left()
     ensures { NothingIsLeft }
 {}
@@ -22,7 +23,8 @@ pub fn body_rewrites_survive()
     ensures { BodyRewritesSurvive }
 {}
 
-/// Nothing is left for those rows in a program, if nothing is in the program that is read again.
+/// Nothing is left to rewrite in a program by rows that rest on what is known of the body around,
+/// if nothing is left in the program that is read again.
 pub fn nothing_is_left_in_bodies()
     ensures { NothingIsLeftInBodies }
 {}
@@ -43,8 +45,8 @@ pub fn told_survives()
     ensures { ToldSurvives }
 {}
 
-/// What carries a program in lists of numbers and of symbols without repeats reads it again: nothing
-/// is left to rewrite in the program if nothing is left in what is carried.
+/// What carries a program in lists of numbers and of symbols without repeats reads it again:
+/// nothing is left to rewrite in the program if nothing is left in what is carried.
 pub fn carried_is_again()
     ensures again { CarriedIsAgain }
     ensures settled { CarriedLeavesNothing }

@@ -1,22 +1,22 @@
 -- Programs that lose dead items any number of times.
 use Rattle.std.proofs.Common.{◌≡◌, ℕ, zero, suc, Bool, true, false, List, [], ◌∷◌, refl, sym, ap, ◌∙◌, subst, subst₂, true≢false, inl, inr, arith}
-use Rattle.std.specs.Prelude.{◌+◌, ◌<◌, ◌⊎◌, Contains, nat_eq, not, ◌&&◌, ◌||◌}
+use Rattle.std.specs.Prelude.{Contains, nat_eq, not, ◌&&◌}
 use Rattle.std.specs.List.{list_any}
 use Rattle.std.proofs.Math.Path.{fun_ext}
-use Rattle.mini_model.specs.declared.name.Name.{Name}
-use Rattle.mini_model.specs.Tree.{Tree, Trees}
-use Rattle.mini_accept.specs.WellShaped.{IsWellShaped, one, a_program}
+use Rattle.mini_model.specs.Tree.{Tree}
+use Rattle.mini_accept.specs.WellShaped.{one, a_program}
 use Rattle.mini_laws.specs.Value.{Variable, Declared, Global, VariableSet, variables, choose, is_in}
-use Rattle.mini_laws.specs.State.{Environment, Writable, Writes}
+use Rattle.mini_laws.specs.State.{Writable, Writes}
 use Rattle.mini_laws.specs.Fixity.{written_in, fixed_in}
 use Rattle.mini_laws.specs.Writable.{mentions, any_mentions}
 use Rattle.mini_laws.specs.Congruence.{Avoids}
 use Rattle.mini_laws.specs.Body.{environment_in}
 use Rattle.mini_laws.specs.Bodies.{Body, bodies_in}
 use Rattle.mini_kept.specs.Carried.{numbers}
+use Rattle.mini_dead.proofs.Basics.{either_way, both_ways, second, not_second}
 use Rattle.mini_dead.specs.Creations.{FunctionSet, SameWithout, either_set}
 use Rattle.mini_dead.specs.Pruned.{Elsewhere, Pruned, prune, Prunings, end, stays, goes, declarator_goes, earlier, earlier_all, later, later_all, item_tree, declarator_tree}
-use Rattle.mini_dead.specs.PrunedBodies.{MayWrite, BodyWithout, BodiesWithout}
+use Rattle.mini_dead.specs.PrunedBodies.{BodyWithout, BodiesWithout}
 use Rattle.mini_dead.specs.Drops as law
 use Rattle.mini_dead.specs.Drops.{gone, DropsDead, gone_from, lost_from, times_in, NumbersOnce, ShowsShared, BodyStays, BodiesStay, Drops, DropsAgain, nothing_goes, more_goes}
 use Rattle.mini_dead.proofs.Avoiding.{unnamed_writable, unnamed_unshared}
@@ -24,26 +24,6 @@ use Rattle.mini_dead.proofs.Numbers as number
 use Rattle.mini_dead.proofs.Numbers.{Numbered, fits_numbered, numbered_still}
 use Rattle.mini_dead.proofs.Twice.{without_none_same, without_twice_same}
 use Rattle.mini_dead.proofs.Dropping.{of_pruned}
-
--- ---- one of two
-
-either_way : (a b c : Bool) → (b ≡ true → c ≡ true) → (a || b) ≡ true → (a || c) ≡ true
-either_way true b c f p = refl
-either_way false b c f p = f p
-
-both_ways : (a b c d : Bool) → (a ≡ true → b ≡ true) → (c ≡ true → d ≡ true) → (a || c) ≡ true → (b || d) ≡ true
-both_ways true b c d f g p = ap (λ z. z || d) (f refl)
-both_ways false true c d f g p = refl
-both_ways false false c d f g p = g p
-
-second : (a b : Bool) → b ≡ true → (a || b) ≡ true
-second true b p = refl
-second false b p = p
-
-not_second : (a b : Bool) → (a && not b) ≡ true → b ≡ false
-not_second true false p = refl
-not_second true true p = absurd (true≢false (sym p))
-not_second false b p = absurd (true≢false (sym p))
 
 -- ---- the later program names nothing else
 

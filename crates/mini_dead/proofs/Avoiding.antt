@@ -1,8 +1,7 @@
 -- A variable that no node of a tree names: each declaration of the tree lets it be written, and no
 -- body of the tree shares it.
-use Rattle.std.proofs.Common.{◌≡◌, ℕ, Bool, true, false, List, [], ◌∷◌, ◌++◌, Option, Some, refl, sym, ap, ◌∙◌, true≢false, eq-eqb}
+use Rattle.std.proofs.Common.{◌≡◌, ℕ, Bool, true, false, List, [], ◌∷◌, Option, Some, refl, sym, ap, ◌∙◌, true≢false, eq-eqb}
 use Rattle.std.specs.Prelude.{◌||◌}
-use Rattle.mini_model.specs.declared.kind.VariableDeclarationKind.{VariableDeclarationKind}
 use Rattle.mini_model.specs.declared.operator.UnaryOperator.TheVariants.{LogicalNot}
 use Rattle.mini_model.specs.declared.shape.Shape.{Shape}
 use Rattle.mini_model.specs.declared.shape.Shape.TheVariants as shape
@@ -18,6 +17,7 @@ use Rattle.mini_laws.specs.Shared.{is_shared}
 use Rattle.mini_laws.specs.ScopeList.{by_symbol}
 use Rattle.mini_kept.proofs.SameScopes.{text_itself}
 use Rattle.mini_kept.proofs.Undeclared.{unshared}
+use Rattle.mini_dead.proofs.Basics.{neither}
 use Rattle.mini_dead.proofs.Lean.{same_variables}
 use Rattle.mini_dead.proofs.Summed.{is_in_append}
 
@@ -144,10 +144,6 @@ none_such x (y ∷ ys) a = by (variable_eq y x) refl a (none_such x ys)
     by : (b : Bool) → variable_eq y x ≡ b → choose b true (is_in x ys) ≡ false → (is_in x ys ≡ false → NoneIn (λ y. variable_eq y x) ys) → (variable_eq y x ≡ false) × NoneIn (λ y. variable_eq y x) ys
     by true q r f = absurd (true≢false r)
     by false q r f = (q, f r)
-
-neither : (a b : Bool) → (a || b) ≡ false → (a ≡ false) × (b ≡ false)
-neither true b p = absurd (true≢false p)
-neither false b p = (refl, p)
 
 mutual
   avoids_unnamed : (x : Variable) (t : Tree) → mentions t x ≡ false → Avoids (λ y. variable_eq y x) t

@@ -1,31 +1,23 @@
 -- What a program does from which dead items go.
-use Rattle.std.proofs.Common.{◌≡◌, ℕ, zero, suc, Bool, true, false, List, [], ◌∷◌, ◌++◌, Option, Some, None, refl, sym, ap, ◌∙◌, subst, subst₂, true≢false, eq-eqb, inl, inr, arith}
-use Rattle.std.specs.Prelude.{◌+◌, ◌≤◌, ◌<◌, ◌⊎◌, Contains, nat_eq, not, ◌&&◌, ◌||◌, is_none, is_some, if◌then◌else◌}
+use Rattle.std.proofs.Common.{◌≡◌, ℕ, zero, suc, Bool, true, false, List, [], ◌∷◌, ◌++◌, Option, Some, None, refl, sym, ap, ◌∙◌, subst, true≢false, eq-eqb, inl, inr, arith}
+use Rattle.std.specs.Prelude.{◌+◌, ◌≤◌, not, ◌&&◌, ◌||◌, is_some, if◌then◌else◌}
 use Rattle.mini_model.specs.declared.name.Name.{Name}
 use Rattle.mini_model.specs.declared.name.SymbolId.{SymbolId}
 use Rattle.mini_model.specs.declared.shape.Shape.{Shape}
 use Rattle.mini_model.specs.declared.shape.Shape.TheVariants as shape
 use Rattle.mini_model.specs.Tree.{Tree, Trees, node, none, ◌▸◌}
-use Rattle.mini_accept.specs.WellShaped.{IsWellShaped, one, a_program}
-use Rattle.mini_laws.specs.declared.names.Use.TheVariants.{Read}
-use Rattle.mini_laws.specs.Value.{Variable, Declared, Global, VariableSet, variable_by, variable_of, variables, variable_eq, choose, is_in}
-use Rattle.mini_laws.specs.State.{Environment, Writable, Writes}
-use Rattle.mini_laws.specs.References.{references}
+use Rattle.mini_laws.specs.Value.{Variable, Declared, VariableSet, variable_by, variable_of, variables, variable_eq, choose, is_in}
+use Rattle.mini_laws.specs.State.{Environment}
 use Rattle.mini_laws.specs.Naming.{is_lexical}
-use Rattle.mini_laws.specs.Fixity.{written_in}
-use Rattle.mini_laws.specs.Shared.{is_shared_always, script_tops, module_names, reached_by_arguments, caught, program_pattern_writes}
-use Rattle.mini_laws.specs.ScopeList.{seen_by_eval}
-use Rattle.mini_laws.specs.Mentions.{is_among}
 use Rattle.mini_laws.specs.Writable.{mentions, any_mentions}
-use Rattle.mini_laws.specs.Congruence.{NoneIn, Apart, Avoids, AllAvoid}
-use Rattle.mini_laws.specs.Body.{environment_in}
+use Rattle.mini_laws.specs.Congruence.{Avoids, AllAvoid}
 use Rattle.mini_laws.specs.Bodies.{Body, bodies_in}
 use Rattle.mini_kept.specs.Carried.{with_number, numbers, all_numbers}
-use Rattle.mini_dead.specs.Creations.{FunctionSet, SameWithout}
-use Rattle.mini_dead.specs.Pruned.{Spot, Elsewhere, Role, DeclaratorList, role, spot_below, Lone, lone_number, Initializer, without_effect, of_function, initializer_tree, own_name, Declarator, declarator, declarator_tree, declarator_trees, item_tree, Item, function_item, declaration_item, lone_item, Pruned, prune, Prunings, end, stays, goes, declarator_goes, earlier, earlier_all, later, later_all, HoldsItems, HoldsDeclarators, AnyDeclarator, InitializerGoes, TakesValue, DeclaratorGoes, DeclaratorsGo, ItemGoes, Prunes, PrunesAll}
-use Rattle.mini_dead.specs.PrunedBodies.{MayWrite, BodyWithout, BodiesWithout}
-use Rattle.mini_dead.specs.Drops as law
-use Rattle.mini_dead.specs.Drops.{lost_from, declarator_name, declarator_names, item_names, gone_names, all_gone_names, gone, NameIsDead, InitializerIsDead, DeclaratorIsDead, DeclaratorsAreDead, ItemIsDead, DropsDead, AllDropDead, gone_from, times_in, NumbersOnce, ShowsShared, BodyStays, BodiesStay, Drops}
+use Rattle.mini_dead.specs.Creations.{FunctionSet}
+use Rattle.mini_dead.specs.Pruned.{Spot, Elsewhere, Role, DeclaratorList, role, spot_below, Initializer, without_effect, of_function, initializer_tree, own_name, Declarator, declarator, declarator_tree, declarator_trees, item_tree, Item, function_item, declaration_item, lone_item, Pruned, prune, Prunings, end, stays, goes, declarator_goes, earlier, earlier_all, later, later_all, HoldsDeclarators, AnyDeclarator, InitializerGoes, TakesValue, DeclaratorGoes, DeclaratorsGo, ItemGoes, Prunes, PrunesAll}
+use Rattle.mini_dead.specs.PrunedBodies.{MayWrite, BodiesWithout}
+use Rattle.mini_dead.specs.Dead.{has_it, has_name}
+use Rattle.mini_dead.specs.Drops.{lost_from, is_unseen, declarator_name, declarator_names, item_names, gone_names, all_gone_names, gone, InitializerIsDead, DeclaratorIsDead, DeclaratorsAreDead, ItemIsDead, DropsDead, AllDropDead, gone_from, times_in, NumbersOnce}
 use Rattle.mini_dead.proofs.Effects.{without_effect_still}
 use Rattle.mini_dead.proofs.Lean.{same_variables}
 use Rattle.mini_dead.proofs.Avoiding.{unnamed_in, itself}
@@ -39,15 +31,15 @@ abbrev pub Each : {A : Type 0} → (A → Bool) → List A → Type 0
 Each f [] = Unit {0}
 Each f (x ∷ xs) = (f x ≡ true) × Each f xs
 
-first_part : {A : Type 0} (f : A → Bool) (xs ys : List A) → Each f (xs ++ ys) → Each f xs
+pub first_part : {A : Type 0} (f : A → Bool) (xs ys : List A) → Each f (xs ++ ys) → Each f xs
 first_part f [] ys a = tt
 first_part f (x ∷ xs) ys a = (a.0, first_part f xs ys a.1)
 
-last_part : {A : Type 0} (f : A → Bool) (xs ys : List A) → Each f (xs ++ ys) → Each f ys
+pub last_part : {A : Type 0} (f : A → Bool) (xs ys : List A) → Each f (xs ++ ys) → Each f ys
 last_part f [] ys a = a
 last_part f (x ∷ xs) ys a = last_part f xs ys a.1
 
-both_parts : {A : Type 0} (f : A → Bool) (xs ys : List A) → Each f xs → Each f ys → Each f (xs ++ ys)
+pub both_parts : {A : Type 0} (f : A → Bool) (xs ys : List A) → Each f xs → Each f ys → Each f (xs ++ ys)
 both_parts f [] ys a b = b
 both_parts f (x ∷ xs) ys a b = (a.0, both_parts f xs ys a.1 b)
 
@@ -64,13 +56,13 @@ later_name y x xs p = by (variable_eq x y)
     by true = refl
     by false = p
 
-each_name : (f : Name → Bool) (xs : List Name) → ((x : Name) → is_in (variable_of x) (variables xs) ≡ true → f x ≡ true) → Each f xs
+pub each_name : (f : Name → Bool) (xs : List Name) → ((x : Name) → is_in (variable_of x) (variables xs) ≡ true → f x ≡ true) → Each f xs
 each_name f [] h = tt
 each_name f (x ∷ xs) h = (h x (ap (λ b. choose b true (is_in (variable_of x) (variables xs))) (itself (variable_of x))), each_name f xs (λ y p. h y (later_name (variable_of y) (variable_of x) (variables xs) p)))
 
 -- ---- what may go goes
 
-abbrev named : VariableSet → Name → Bool
+abbrev pub named : VariableSet → Name → Bool
 named D x = D (variable_of x)
 
 abbrev kept : FunctionSet → ℕ → Bool
@@ -85,7 +77,7 @@ module _ (t : Tree) (D : VariableSet) (rounds : ℕ → ℕ) (d : FunctionSet) (
   takes true x p = tt
   takes false x p = may x p
 
-  initializer_goes : (i : Initializer) → InitializerIsDead t D rounds i → Each d (initializer_functions i) → InitializerGoes d D e i
+  initializer_goes : (i : Initializer) → InitializerIsDead i → Each d (initializer_functions i) → InitializerGoes d D e i
   initializer_goes (without_effect c) a f = λ s. without_effect_still e c a s
   initializer_goes (of_function v) a f = f.0
 
@@ -120,9 +112,10 @@ module _ (t : Tree) (D : VariableSet) (rounds : ℕ → ℕ) (d : FunctionSet) (
 
     prunes_all : (r : Role) (i : ℕ) (ps : Prunings) → AllDropDead t D rounds r i ps → AllAvoid D (later_all ps) → Each (named D) (all_gone_names ps) → Each d (all_gone_functions ps) → Each (kept d) (all_numbers (later_all ps)) → PrunesAll d D e r i ps
     prunes_all r i end a v m f k = tt
-    prunes_all r i (stays x ps) a v m f k =
-        (prunes (spot_below r i) x a.0 v.0 (first_part (named D) (gone_names x) (all_gone_names ps) m) (first_part d (gone_functions x) (all_gone_functions ps) f) (first_part (kept d) (numbers (later x)) (all_numbers (later_all ps)) k),
-        prunes_all r (suc i) ps a.1 v.1 (last_part (named D) (gone_names x) (all_gone_names ps) m) (last_part d (gone_functions x) (all_gone_functions ps) f) (last_part (kept d) (numbers (later x)) (all_numbers (later_all ps)) k))
+    prunes_all r i (stays x ps) a v m f k = (
+      prunes (spot_below r i) x a.0 v.0 (first_part (named D) (gone_names x) (all_gone_names ps) m) (first_part d (gone_functions x) (all_gone_functions ps) f) (first_part (kept d) (numbers (later x)) (all_numbers (later_all ps)) k),
+      prunes_all r (suc i) ps a.1 v.1 (last_part (named D) (gone_names x) (all_gone_names ps) m) (last_part d (gone_functions x) (all_gone_functions ps) f) (last_part (kept d) (numbers (later x)) (all_numbers (later_all ps)) k),
+    )
     prunes_all r i (goes c ps) a v m f k =
         (a.0, item_is_gone c a.1 (first_part (named D) (item_names c) (all_gone_names ps) m) (first_part d (item_functions c) (all_gone_functions ps) f), prunes_all r (suc i) ps a.2 v (last_part (named D) (item_names c) (all_gone_names ps) m) (last_part d (item_functions c) (all_gone_functions ps) f) k)
     prunes_all r i (declarator_goes c ps) a v m f k =
@@ -134,12 +127,12 @@ abbrev has_symbol_at_all : Name → Bool
 has_symbol_at_all x = is_some x.symbol
 
 module _ (t : Tree) (D : VariableSet) (rounds : ℕ → ℕ) where
-  some_symbol : (x : Name) → is_shared_always t x ≡ false → is_some x.symbol ≡ true
+  some_symbol : (x : Name) → has_name (is_unseen t) x ≡ true → is_some x.symbol ≡ true
   some_symbol x p = by x.symbol p
     where
-      by : (o : Option SymbolId) → (is_none o || is_among x (script_tops t) || is_among x (module_names t) || is_among x (seen_by_eval t) || is_among x (reached_by_arguments false t) || is_among x (caught t) || is_among x (program_pattern_writes t)) ≡ false → is_some o ≡ true
+      by : (o : Option SymbolId) → has_it (is_unseen t) o ≡ true → is_some o ≡ true
       by (Some s) q = refl
-      by None q = absurd (true≢false q)
+      by None q = absurd (true≢false (sym q))
 
   declarators_known : (cs : List Declarator) → DeclaratorsAreDead t D rounds cs → Each has_symbol_at_all (declarator_names cs)
   declarators_known [] a = tt
@@ -154,7 +147,7 @@ module _ (t : Tree) (D : VariableSet) (rounds : ℕ → ℕ) where
   item_known (lone_item xs n f) a = tt
 
   mutual
-    names_known : (p : Spot) (x : Pruned) → DropsDead t D rounds p x → Each has_symbol_at_all (gone_names x)
+    pub names_known : (p : Spot) (x : Pruned) → DropsDead t D rounds p x → Each has_symbol_at_all (gone_names x)
     names_known p (prune h xs n ps) a = all_names_known (role h p) 0 ps a.1
 
     all_names_known : (r : Role) (i : ℕ) (ps : Prunings) → AllDropDead t D rounds r i ps → Each has_symbol_at_all (all_gone_names ps)
@@ -170,7 +163,7 @@ by_its_symbol : (s : List ℕ) (o : Option SymbolId) → is_some o ≡ true → 
 by_its_symbol s (Some k) p = (k.0, refl)
 by_its_symbol s None p = absurd (true≢false (sym p))
 
-known : (xs : List Name) → Each has_symbol_at_all xs → (x : Variable) → is_in x (variables xs) ≡ true → Known x
+pub known : (xs : List Name) → Each has_symbol_at_all xs → (x : Variable) → is_in x (variables xs) ≡ true → Known x
 known [] a x p = absurd (true≢false (sym p))
 known (y ∷ ys) a x p = by (variable_eq (variable_of y) x) refl p (known ys a.1 x)
   where
@@ -180,7 +173,7 @@ known (y ∷ ys) a x p = by (variable_eq (variable_of y) x) refl p (known ys a.1
 
 -- ---- the symbols that go are named in the earlier tree alone
 
-each_weaker : {A : Type 0} (f g : A → Bool) (xs : List A) → ((x : A) → f x ≡ true → g x ≡ true) → Each f xs → Each g xs
+pub each_weaker : {A : Type 0} (f g : A → Bool) (xs : List A) → ((x : A) → f x ≡ true → g x ≡ true) → Each f xs → Each g xs
 each_weaker f g [] h a = tt
 each_weaker f g (x ∷ xs) h a = (h x a.0, each_weaker f g xs h a.1)
 
@@ -209,9 +202,10 @@ declarator_named (declarator n x m init) = in_first (own_name x m) (initializer_
 
 declarators_named : (cs : List Declarator) → Each (named (any_mentions (declarator_trees cs))) (declarator_names cs)
 declarators_named [] = tt
-declarators_named (c ∷ cs) =
-    (in_first (declarator_tree c) (declarator_trees cs) (variable_of (declarator_name c)) (declarator_named c),
-    each_weaker (named (any_mentions (declarator_trees cs))) (named (any_mentions (declarator_trees (c ∷ cs)))) (declarator_names cs) (λ x p. in_others (declarator_tree c) (declarator_trees cs) (variable_of x) p) (declarators_named cs))
+declarators_named (c ∷ cs) = (
+  in_first (declarator_tree c) (declarator_trees cs) (variable_of (declarator_name c)) (declarator_named c),
+  each_weaker (named (any_mentions (declarator_trees cs))) (named (any_mentions (declarator_trees (c ∷ cs)))) (declarator_names cs) (λ x p. in_others (declarator_tree c) (declarator_trees cs) (variable_of x) p) (declarators_named cs),
+)
 
 item_named : (i : Item) → Each (named (mentions (item_tree i))) (item_names i)
 item_named (function_item g ds xs n x m ts) = (in_node (shape.Function true g ds) xs n (own_name x m ▸ ts) (variable_of x) (in_first (own_name x m) ts (variable_of x) (own_named x m)), tt)
@@ -236,7 +230,7 @@ mutual
   all_names_named (declarator_goes c ps) = all_of (declarator_tree c) ps (declarator_name c ∷ []) (declarator_named c, tt) (all_names_named ps)
 
 -- a set that has the variable of each name has each variable of theirs
-has_each : (D : VariableSet) (xs : List Name) → Each (named D) xs → (x : Variable) → is_in x (variables xs) ≡ true → D x ≡ true
+pub has_each : (D : VariableSet) (xs : List Name) → Each (named D) xs → (x : Variable) → is_in x (variables xs) ≡ true → D x ≡ true
 has_each D [] a x p = absurd (true≢false (sym p))
 has_each D (y ∷ ys) a x p = by (variable_eq (variable_of y) x) refl p (has_each D ys a.1 x)
   where
@@ -265,5 +259,5 @@ of_pruned p rounds a v numbered once =
     let d = gone_from (earlier p) (later p) in
     hides_less d (gone p) (lost_from (earlier p) (later p)) (of_gone p rounds a v) (bodies_in (earlier p)) (bodies_in (later p))
     (pruned_program d (gone p) p (number.zero_stays (earlier p) (later p)) (λ e may.
-        prunes (earlier p) (gone p) rounds d (number.zero_stays (earlier p) (later p)) e may Elsewhere p a v (each_name (named (gone p)) (gone_names p) (λ x q. q))
-        (each_counted d (gone_functions p) (λ n k. number.function_gone n p numbered once k)) (each_counted (kept d) (numbers (later p)) (λ n k. ap not (number.number_stays n p k)))))
+    prunes (earlier p) (gone p) rounds d (number.zero_stays (earlier p) (later p)) e may Elsewhere p a v (each_name (named (gone p)) (gone_names p) (λ x q. q))
+    (each_counted d (gone_functions p) (λ n k. number.function_gone n p numbered once k)) (each_counted (kept d) (numbers (later p)) (λ n k. ap not (number.number_stays n p k)))))

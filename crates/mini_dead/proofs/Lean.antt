@@ -24,7 +24,7 @@ onto (f ∷ fs) es = onto fs (f ∷ es)
 cons_rest : (a b : Answer) (as' bs : List Answer) → a ∷ as' ≡ b ∷ bs → as' ≡ bs
 cons_rest a b as' bs p = cc
 
-spared_none : (d : FunctionSet) (fs : List Event) → spared d fs [] ≡ []
+pub spared_none : (d : FunctionSet) (fs : List Event) → spared d fs [] ≡ []
 spared_none d [] = refl
 spared_none d (f ∷ fs) = refl
 

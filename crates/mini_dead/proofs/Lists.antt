@@ -6,18 +6,19 @@ use Rattle.mini_model.specs.Tree.{Tree, Trees, node, none, ◌▸◌}
 use Rattle.mini_laws.specs.Value.{Variable, Declared, Global, VariableSet, Value, Undefined, Slot, Holds, Missing, Uninitialised, variable_of, variables, choose, nth}
 use Rattle.mini_laws.specs.State.{Create, FreshOf, Event, State, Completion, ok, stop, halt, out, either, Environment, Writing, Writes, WritesPresent, Refuses, Keeps}
 use Rattle.mini_laws.specs.Demand.{Want, Val, Unused, Demand, As, Stat, Declares, Binds, Request}
-use Rattle.mini_laws.specs.Command.{Naming, ret, kid, then, Kids, act, run, at_variable, start, fresh_note, note, answered, write_slot, write_global, write_name}
+use Rattle.mini_laws.specs.Command.{Naming, ret, kid, then, Kids, act, run, at_variable, start, fresh_note, note, answered, write_slot, write_name}
 use Rattle.mini_laws.specs.Naming.{summary, summaries, facts, naming, is_lexical}
 use Rattle.mini_laws.specs.Replies.{by_fixity}
 use Rattle.mini_laws.specs.Lists.{declarators}
-use Rattle.mini_laws.specs.Declarations.{declares_by, var_by, declarator_step}
+use Rattle.mini_laws.specs.Declarations.{declarator_step}
 use Rattle.mini_laws.specs.Asking.{first_demand, demand}
 use Rattle.mini_laws.specs.Step.{step, means, meaning}
 use Rattle.mini_laws.specs.Congruence.{Apart}
 use Rattle.mini_laws.proofs.Runs.{either_cong, run_shift}
 use Rattle.mini_laws.proofs.Stretching.{no_names}
+use Rattle.mini_terms.specs.Sound.{Quiet}
 use Rattle.mini_dead.specs.Creations.{FunctionSet}
-use Rattle.mini_dead.specs.Pruned.{Still, Lone, a_function, an_arrow, lone_tree, lone_number, Initializer, without_effect, of_function, initializer_tree, own_name, Declarator, declarator, declarator_tree, declarator_trees, Item, function_item, declaration_item, lone_item, item_tree, InitializerGoes, TakesValue, DeclaratorGoes, DeclaratorsGo, ItemGoes}
+use Rattle.mini_dead.specs.Pruned.{Lone, a_function, an_arrow, lone_tree, lone_number, Initializer, without_effect, of_function, initializer_tree, own_name, Declarator, declarator, declarator_tree, declarator_trees, Item, function_item, declaration_item, lone_item, item_tree, InitializerGoes, TakesValue, DeclaratorGoes, DeclaratorsGo, ItemGoes}
 use Rattle.mini_dead.proofs.Lean as l
 use Rattle.mini_dead.proofs.Lean.{Ahead, Reaches, Follows, Silent, Silently, Grows}
 
@@ -92,8 +93,8 @@ module _ (d : FunctionSet) (D : VariableSet) (E : List Event) (e : Environment) 
   value_alone w (an_arrow ds xs n ts) k s t h =
       l.silently_either d D E e apart (answered e Create s.answers (note e Create (Some n) [] None s)) t _ _ (l.creation_silent d D E e apart n k s.answers s t refl h) (λ b s r. r) (λ b s r. r) (λ b s h. ok_alone _ s t h)
 
-  still_alone : {A : Type 0} (x : Completion A) (s t : State) → Still s x → Lean s t → Alone x t
-  unfolding Still Silently Silent Reaches
+  still_alone : {A : Type 0} (x : Completion A) (s t : State) → Quiet s x → Lean s t → Alone x t
+  unfolding Quiet Silently Silent Reaches
   still_alone (ok a z) s t p h r = subst (λ z. Lean z t) (sym p) h
   still_alone (stop a z) s t p h r = absurd p
   still_alone (halt a z) s t p h r = absurd p

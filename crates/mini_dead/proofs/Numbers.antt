@@ -1,8 +1,7 @@
 -- The numbers of functions that go: each is above 0, and stands in the earlier tree alone.
-use Rattle.std.proofs.Common.{◌≡◌, ℕ, zero, suc, Bool, true, false, List, [], ◌∷◌, ◌++◌, refl, sym, ap, ◌∙◌, subst, true≢false, eqb-true, inl, inr, arith}
-use Rattle.std.specs.Prelude.{◌+◌, ◌≤◌, ◌<◌, ◌⊎◌, ◌==◌, nat_eq, not, ◌&&◌, ◌||◌, if◌then◌else◌}
+use Rattle.std.proofs.Common.{◌≡◌, ℕ, zero, suc, Bool, true, false, List, [], ◌∷◌, ◌++◌, refl, sym, ap, ◌∙◌, true≢false, eqb-true, arith}
+use Rattle.std.specs.Prelude.{◌+◌, ◌≤◌, ◌==◌, nat_eq, not, ◌&&◌, ◌||◌, if◌then◌else◌}
 use Rattle.std.specs.List.{list_any}
-use Rattle.mini_model.specs.declared.name.Name.{Name}
 use Rattle.mini_model.specs.declared.shape.Shape.{Shape}
 use Rattle.mini_model.specs.declared.shape.Shape.TheVariants as shape
 use Rattle.mini_model.specs.Tree.{Tree, Trees, node, none, ◌▸◌}
@@ -10,7 +9,6 @@ use Rattle.mini_accept.specs.WellShaped.{Class, Slot, Tagging, untagged, tagged,
 use Rattle.mini_kept.specs.Carried.{with_number, numbers, all_numbers}
 use Rattle.mini_kept.proofs.Bools.{left, right}
 use Rattle.mini_kept.proofs.FrameSteps.{its_number}
-use Rattle.mini_dead.specs.Creations.{FunctionSet}
 use Rattle.mini_dead.specs.Pruned.{Lone, a_function, an_arrow, lone_tree, lone_number, Initializer, without_effect, of_function, initializer_tree, own_name, Declarator, declarator, declarator_tree, declarator_trees, Item, function_item, declaration_item, lone_item, item_tree, Pruned, prune, Prunings, end, stays, goes, declarator_goes, earlier, earlier_all, later, later_all}
 use Rattle.mini_dead.specs.Drops.{gone_from, times_in, NumbersOnce}
 

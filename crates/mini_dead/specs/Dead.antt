@@ -8,6 +8,7 @@ use Rattle.mini_model.specs.declared.shape.Shape.{Shape}
 use Rattle.mini_model.specs.declared.shape.Shape.TheVariants as shape
 use Rattle.mini_model.specs.Tree.{Tree, Trees, node, none, ◌▸◌, is_absent}
 use Rattle.mini_laws.specs.References.{has_symbol, read_count, write_count}
+use Rattle.mini_laws.specs.ScopeList.{by_symbol}
 use Rattle.mini_laws.specs.Shared.{is_shared_always}
 use Rattle.mini_terms.specs.Effects.{ef}
 use Rattle.mini_dead.specs.Pruned.{Spot, Elsewhere, Role, Plain, StatementList, DeclaratorList, role, spot_below}
@@ -65,30 +66,37 @@ unfoldable mutual
   any_declares_otherwise s r i none = false
   any_declares_otherwise s r i (c ▸ ts) = (if is_some (item_name r c) then declares_inside s c else declares_otherwise s (spot_below r i) c) || any_declares_otherwise s r (suc i) ts
 
-  -- behind the name of an item
+  -- of an item, but for its name
   pub declares_inside : ℕ → Tree → Bool
-  declares_inside s (node h xs n none) = false
-  declares_inside s (node h xs n (id ▸ ts)) = any_declares_otherwise s Plain 1 ts
+  declares_inside s (node h xs n none) = declares s h xs
+  declares_inside s (node h xs n (id ▸ ts)) = declares s h xs || any_declares_otherwise s Plain 1 ts
 
 abbrev pub is_unreferenced : Tree → ℕ → Bool
 is_unreferenced t s = nat_eq (read_count s t) 0 && nat_eq (write_count s t) 0
 
--- Nothing reads or writes the name, items alone declare it, and no other code sees it: it is no top
--- name of a script, neither imported nor exported, in no reach of a direct eval or of `arguments`,
--- and no `var` under a parameter of `catch` of its name
-abbrev pub is_dead_symbol : Tree → Name → Option SymbolId → Bool
-is_dead_symbol t x (Some s) = is_unreferenced t s.0 && not (declares_otherwise s.0 Elsewhere t) && not (is_shared_always t x)
-is_dead_symbol t x None = false
+-- Nothing reads or writes the symbol, items alone declare it, and no other code sees it: it is no
+-- top name of a script, neither imported nor exported, in no reach of a direct eval or of
+-- `arguments`, and that of no `var` under a parameter of `catch` of its name
+abbrev pub is_dead_symbol : Tree → ℕ → Bool
+is_dead_symbol t s = is_unreferenced t s && (not (declares_otherwise s Elsewhere t) && not (is_shared_always t (by_symbol s)))
 
-abbrev pub is_dead_name : Tree → Option Name → Bool
-is_dead_name t (Some x) = is_dead_symbol t x x.symbol
-is_dead_name t None = false
+-- whether a set of symbols has that of a name
+abbrev pub has_it : (ℕ → Bool) → Option SymbolId → Bool
+has_it S (Some s) = S s.0
+has_it S None = false
+
+abbrev pub has_name : (ℕ → Bool) → Name → Bool
+has_name S x = has_it S x.symbol
+
+abbrev pub has_item_name : (ℕ → Bool) → Option Name → Bool
+has_item_name S (Some x) = has_name S x
+has_item_name S None = false
 
 -- ---- items
 
 -- whether a part of a program is a dead item
 abbrev pub is_dead : Tree → Role → Tree → Bool
-is_dead t r c = is_lone r c || is_dead_name t (item_name r c)
+is_dead t r c = is_lone r c || has_item_name (is_dead_symbol t) (item_name r c)
 
 -- how many dead items of a program stand in a part of it; those inside a dead item aren't counted
 unfoldable mutual

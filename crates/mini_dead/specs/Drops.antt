@@ -5,14 +5,13 @@ use Rattle.std.specs.Prelude.{◌≡◌, ℕ, suc, ◌+◌, ◌<◌, nat_eq, Boo
 use Rattle.std.specs.List.{list_any}
 use Rattle.mini_model.specs.declared.name.Name.{Name}
 use Rattle.mini_model.specs.declared.name.SymbolId.{SymbolId}
-use Rattle.mini_model.specs.Tree.{Tree, Trees}
+use Rattle.mini_model.specs.Tree.{Tree}
 use Rattle.mini_accept.specs.WellShaped.{IsWellShaped}
-use Rattle.mini_laws.specs.declared.names.Use.{Use}
 use Rattle.mini_laws.specs.declared.names.Use.TheVariants.{Read}
 use Rattle.mini_laws.specs.References.{Reference, references, references_from}
 use Rattle.mini_laws.specs.Shared.{is_shared_always, is_shared}
 use Rattle.mini_laws.specs.ScopeList.{by_symbol}
-use Rattle.mini_laws.specs.Value.{Variable, Declared, Global, VariableSet, variable_of, variables, is_in}
+use Rattle.mini_laws.specs.Value.{Declared, Global, VariableSet, variable_of, variables, is_in}
 use Rattle.mini_laws.specs.Writable.{mentions}
 use Rattle.mini_laws.specs.Congruence.{Avoids}
 use Rattle.mini_laws.specs.Body.{environment_in}
@@ -21,7 +20,7 @@ use Rattle.mini_kept.specs.Carried.{numbers}
 use Rattle.mini_dead.specs.Creations.{FunctionSet, SameWithout}
 use Rattle.mini_dead.specs.Pruned.{Spot, Elsewhere, Role, DeclaratorList, role, spot_below, Initializer, without_effect, of_function, initializer_tree, Declarator, declarator, Item, function_item, declaration_item, lone_item, Pruned, prune, Prunings, end, stays, goes, declarator_goes, earlier, later, HoldsItems, HoldsDeclarators}
 use Rattle.mini_dead.specs.PrunedBodies.{BodiesWithout}
-use Rattle.mini_dead.specs.Dead.{is_without_effect}
+use Rattle.mini_dead.specs.Dead.{is_without_effect, has_name}
 
 -- ---- what goes
 
@@ -78,6 +77,25 @@ round_of_symbol rounds None = 0
 abbrev pub round_of : (ℕ → ℕ) → Name → ℕ
 round_of rounds x = round_of_symbol rounds x.symbol
 
+-- no other code sees a symbol
+abbrev pub is_unseen : Tree → ℕ → Bool
+is_unseen t s = not (is_shared_always t (by_symbol s))
+
+abbrev pub InitializerIsDead : Initializer → Type 0
+InitializerIsDead (without_effect c) = is_without_effect c ≡ true
+InitializerIsDead (of_function f) = Unit {0}
+
+abbrev pub some_stay : Prunings → Bool
+some_stay end = false
+some_stay (stays p ps) = true
+some_stay (goes i ps) = some_stay ps
+some_stay (declarator_goes c ps) = some_stay ps
+
+-- a declaration that stays keeps a declarator
+abbrev pub KeepsDeclarator : Role → Prunings → Type 0
+KeepsDeclarator (DeclaratorList lexical) ps = some_stay ps ≡ true
+KeepsDeclarator r ps = Unit {0}
+
 -- of a program, the names that go, and the round of each symbol
 module _ (t : Tree) (D : VariableSet) (rounds : ℕ → ℕ) where
   -- each name that goes and that is among these references goes after this round
@@ -85,13 +103,9 @@ module _ (t : Tree) (D : VariableSet) (rounds : ℕ → ℕ) where
   GoLater k [] = Unit {0}
   GoLater k (r ∷ rs) = (D (variable_of r.name) ≡ true → k < round_of rounds r.name) × GoLater k rs
 
-  abbrev pub InitializerIsDead : Initializer → Type 0
-  InitializerIsDead (without_effect c) = is_without_effect c ≡ true
-  InitializerIsDead (of_function f) = Unit {0}
-
   -- no other code sees the name, and what goes with it refers to names of later rounds
   abbrev pub NameIsDead : Name → List Reference → Type 0
-  NameIsDead x rs = (is_shared_always t x ≡ false) × GoLater (round_of rounds x) rs
+  NameIsDead x rs = (has_name (is_unseen t) x ≡ true) × GoLater (round_of rounds x) rs
 
   abbrev pub DeclaratorIsDead : Declarator → Type 0
   DeclaratorIsDead (declarator n x m init) = NameIsDead x (references Read (initializer_tree init)) × InitializerIsDead init
@@ -104,17 +118,6 @@ module _ (t : Tree) (D : VariableSet) (rounds : ℕ → ℕ) where
   ItemIsDead (function_item is_generator directives xs n x m ts) = NameIsDead x (references_from (λ i. Read) 0 ts)
   ItemIsDead (declaration_item k xs n ys m c cs) = DeclaratorsAreDead (c ∷ cs)
   ItemIsDead (lone_item xs n f) = Unit {0}
-
-  abbrev pub some_stay : Prunings → Bool
-  some_stay end = false
-  some_stay (stays p ps) = true
-  some_stay (goes i ps) = some_stay ps
-  some_stay (declarator_goes c ps) = some_stay ps
-
-  -- a declaration that stays keeps a declarator
-  abbrev pub KeepsDeclarator : Role → Prunings → Type 0
-  KeepsDeclarator (DeclaratorList lexical) ps = some_stay ps ≡ true
-  KeepsDeclarator r ps = Unit {0}
 
   -- dead items alone go, from lists of statements and of declarators
   abbrev mutual
@@ -141,6 +144,10 @@ pub record Drops (t u : Tree) (n : ℕ) : Type 0 where
 pub data DropsAgain : Tree → Tree → ℕ → Type 0 where
   nothing_goes : (t : Tree) → DropsAgain t t 0
   more_goes : (t u v : Tree) (m n : ℕ) → DropsAgain t u m → Drops u v n → DropsAgain t v (m + n)
+
+-- a program from which dead items go is a program of ESTree still
+abbrev pub DropsKeepShape : Type 0
+DropsKeepShape = (t u : Tree) (n : ℕ) → DropsAgain t u n → IsWellShaped t → IsWellShaped u
 
 -- ---- what a program does without them
 

@@ -2,6 +2,11 @@ pub mod Creations
 pub mod Pruned
 pub mod Dead
 pub mod Drops
+pub mod Marked
+pub mod Counting
 pub mod Differences
 pub mod DeadExamples
+pub mod MarkedExamples
 pub mod PrunedBodies
+pub mod KeptNames
+pub mod Frames

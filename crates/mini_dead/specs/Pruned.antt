@@ -8,12 +8,13 @@ use Rattle.mini_model.specs.declared.shape.Shape.{Shape}
 use Rattle.mini_model.specs.declared.shape.Shape.TheVariants as shape
 use Rattle.mini_model.specs.Tree.{Tree, Trees, node, none, ◌▸◌}
 use Rattle.mini_laws.specs.Value.{Variable, VariableSet, variable_of, variables}
-use Rattle.mini_laws.specs.State.{State, Completion, ok, stop, halt, out, Environment, Writes}
+use Rattle.mini_laws.specs.State.{State, Environment, Writes}
 use Rattle.mini_laws.specs.Demand.{Val, As}
 use Rattle.mini_laws.specs.Naming.{is_lexical}
 use Rattle.mini_laws.specs.Step.{means}
 use Rattle.mini_laws.specs.Body.{BodyKind}
 use Rattle.mini_laws.specs.Congruence.{NoneIn, Apart}
+use Rattle.mini_terms.specs.Sound.{Quiet}
 use Rattle.mini_dead.specs.Creations.{FunctionSet, SameWithout}
 
 -- where a node stands, as far as items go there: as a list of statements, a statement of one, the
@@ -152,13 +153,6 @@ abbrev mutual
   later_all (goes i ps) = later_all ps
   later_all (declarator_goes c ps) = later_all ps
 
--- a part of a run that leaves the state as it was, or leaves the model
-unfoldable pub Still : {A : Type 0} → State → Completion A → Type 0
-Still s (ok a t) = t ≡ s
-Still s (stop x t) = ⊥
-Still s (halt x t) = ⊥
-Still s out = Unit {0}
-
 -- the lists from which items go, and those from which declarators go
 abbrev pub HoldsItems : Role → Type 0
 HoldsItems StatementList = Unit {0}
@@ -171,7 +165,7 @@ HoldsDeclarators r = ⊥
 module _ (d : FunctionSet) (D : VariableSet) (e : Environment) where
   -- an initializer's evaluation does nothing
   abbrev pub Effectless : Tree → Type 0
-  Effectless t = (s : State) → Still s (means e t (As Val) tt s)
+  Effectless t = (s : State) → Quiet s (means e t (As Val) tt s)
 
   abbrev pub InitializerGoes : Initializer → Type 0
   InitializerGoes (without_effect t) = Effectless t

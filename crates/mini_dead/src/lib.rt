@@ -6,7 +6,11 @@ ghost use Rattle.mini_dead.specs.Creations.{WithoutNone, WithoutTwice};
 ghost use Rattle.mini_dead.specs.Differences.{UnansweredDiffers, LoneDeclarationDiffers};
 ghost use Rattle.mini_dead.specs.Pruned.{PrunedSame};
 ghost use Rattle.mini_dead.specs.PrunedBodies.{PrunedProgram};
-ghost use Rattle.mini_dead.specs.Drops.{DropsKeepBodies, DroppedBodiesStay};
+ghost use Rattle.mini_dead.specs.Counting.{DropsCount, NoneGoes};
+ghost use Rattle.mini_dead.specs.Frames.{DropsKeepFrames, DropsKeepProgram};
+ghost use Rattle.mini_dead.specs.Marked.{MayGoDrops, DeadSymbolsGo, DeadItemsCounted};
+ghost use Rattle.mini_dead.specs.KeptNames.{DropsKeepNames};
+ghost use Rattle.mini_dead.specs.Drops.{DropsKeepShape, DropsKeepBodies, DroppedBodiesStay};
 
 /// A body from whose lists of statements items go does what it did, but for the creation of the
 /// functions that went, where what stays names nothing that went.
@@ -40,4 +44,44 @@ pub fn pruned_program()
 pub fn drops_keep_bodies()
     ensures bodies { DropsKeepBodies }
     ensures stay { DroppedBodiesStay }
+{}
+
+/// A program less a set of symbols loses dead items alone, where no other code sees a symbol of the
+/// set and `may_go` answers that what stays names none and what goes refers to later rounds.
+pub fn may_go_drops()
+    ensures { MayGoDrops }
+{}
+
+/// Dead symbols of a program can go at once, one or more of them; and all of them are its dead
+/// items.
+pub fn dead_symbols_go()
+    ensures go { DeadSymbolsGo }
+    ensures counted { DeadItemsCounted }
+{}
+
+/// The counts of each symbol fall by the references that go with items, and by nothing else; and
+/// where no item goes, the program is what it was.
+pub fn drops_are_counted()
+    ensures fall { DropsCount }
+    ensures none { NoneGoes }
+{}
+
+/// A program from which dead items go is a program of ESTree still.
+pub fn drops_keep_shape()
+    ensures { DropsKeepShape }
+{}
+
+/// A program that lost dead items, any number of times, keeps its names: each that is left has the
+/// symbol that the scopes around it give, no symbol is declared twice, nothing else is declared, and
+/// it has no early error.
+pub fn drops_keep_names()
+    ensures { DropsKeepNames }
+{}
+
+/// Each function and each carried node that is left has the frame that it had, and so has the
+/// program itself, where its names are resolved: its imports, its exports and what a script gives
+/// the global object stay.
+pub fn drops_keep_frames()
+    ensures below { DropsKeepFrames }
+    ensures program { DropsKeepProgram }
 {}

@@ -6,6 +6,7 @@ use Rattle.mini_model.specs.declared.place.Position.{Position}
 use Rattle.mini_model.specs.declared.place.Position.TheVariants.{Stmt, Elsewhere}
 use Rattle.mini_model.specs.Tree.{Tree, none, listed}
 use Rattle.mini_kept.specs.Without.{Assured}
+use Rattle.mini_shrink.specs.Facts.{ReadsLess}
 use Rattle.mini_rows.specs.PastBlocks.{PastBlockRow, PastBlocks, PastCaseRow}
 use Rattle.mini_rows.specs.Switches.{Switches, without_vars}
 use Rattle.mini_rows.specs.Unused.{switch_around}
@@ -68,12 +69,15 @@ module _ (o : Switches) (V : Assured) where
     keeps = λ p n w r. let (k, l) = lost p n w r in (loses_names k).keeps p n w l;
   }
 
-  blocks_shapes : KeepsShapes (PastBlocks o V)
+  pub blocks_shapes : KeepsShapes (PastBlocks o V)
   blocks_shapes = record {
     fitting = λ p n w r. let (k, l) = lost p n w r in (loses_shapes k).fitting p n w l;
     asked = λ p n w r. let (k, l) = lost p n w r in (loses_shapes k).asked p n w l;
   }
 
+pub block_rows_read_less : (o : Switches) (V : Assured) → ReadsLess (PastBlocks o V)
+block_rows_read_less o V = reads_less_by (PastBlocks o V) (blocks_less o V)
+
 -- in the own code of each body
 pub past_blocks_read_less : PastBlocksReadLess
-past_blocks_read_less o = own_less (PastBlocks o) (blocks_names o) (blocks_shapes o) (λ V. reads_less_by (PastBlocks o V) (blocks_less o V))
+past_blocks_read_less o = own_less (PastBlocks o) (blocks_names o) (blocks_shapes o) (block_rows_read_less o)

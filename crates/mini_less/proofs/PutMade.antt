@@ -1,5 +1,5 @@
--- A value stands where a head read a name: what holds by parts of the head and of the value holds of
--- the head with the value in it. Of `g(x)` and `f()` that is `g(f())`.
+-- A value stands where a head read a name: what holds by parts of the head and of the value holds
+-- of the head with the value in it. Of `g(x)` and `f()` that is `g(f())`.
 use Rattle.std.specs.Prelude.{ℕ, zero, suc, ◌≡◌, ◌⊎◌, refl, Bool, true, false, ◌&&◌, ◌||◌, not, List, [], ◌∷◌, if◌then◌else◌}
 use Rattle.std.proofs.Common.{ap, ◌∙◌, sym, subst, inl, inr, true≢false}
 use Rattle.std.proofs.lemmas.Bool.{and_parts}

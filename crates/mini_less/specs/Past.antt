@@ -9,8 +9,8 @@ use Rattle.mini_rows.specs.PastModules.{PastModule}
 use Rattle.mini_rows.specs.PastStatics.{PastStatic}
 use Rattle.mini_rows.specs.Switches.{Liberties}
 
--- what is written in the statements of a function, of an arrow function, of a module and of a static
--- block reads less
+-- what is written in the statements of a function, of an arrow function, of a module and of a
+-- static block reads less
 pub record PastReadLess : Type 0 where
   pub functions : (S : BodySets) (W : Liberties) → ReadsLess (PastFunction S W)
   pub arrows : (S : BodySets) (W : Liberties) → ReadsLess (PastArrow S W)

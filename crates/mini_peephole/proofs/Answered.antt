@@ -20,7 +20,6 @@ use Rattle.mini_peephole.specs.declared.minify.Weighed.{Weighed}
 use Rattle.mini_peephole.specs.declared.minify.Minified.{Minified}
 use Rattle.mini_peephole.specs.ComesBack.{ComesBack}
 use Rattle.mini_peephole.proofs.ComesBack.{comes_back}
-use Rattle.mini_peephole.proofs.Survives.{rewritten_survives}
 use Rattle.mini_peephole.proofs.Faith.{faithful, passes_bounded, weighs, weighs_after}
 
 pub answer_is_faithful : (d : Data) (o : CompressOptions) (t : Tree) (n : ℕ) (made : Result Minified MinifyError) → Fits d → program_at o.max_depth d ≡ Ok (t, n) → IfOk made (λ m. IsAnswer t o m) → IfOk made (λ m. Faithful d o m)
@@ -31,7 +30,7 @@ answer_is_bounded d o t n made read = IfOk-weaker {X = Minified} {Y = MinifyErro
 
 -- a settled answer comes back
 pub answer_comes_back : (d : Data) (o : CompressOptions) (t : Tree) (n : ℕ) (made : Result Minified MinifyError) → Fits d → program_at o.max_depth d ≡ Ok (t, n) → IfOk made (λ m. IsAnswer t o m) → IfOk made (λ m. ComesBack o m)
-answer_comes_back d o t n made small read = IfOk-weaker {X = Minified} {Y = MinifyError} made _ _ (λ m a. comes_back rewritten_survives d o m t (o.max_depth, n, read) a.free a.rewriting (accepted_light d t (o.max_depth, n, read) small))
+answer_comes_back d o t n made small read = IfOk-weaker {X = Minified} {Y = MinifyError} made _ _ (λ m a. comes_back d o m t (o.max_depth, n, read) a.free a.rewriting (accepted_light d t (o.max_depth, n, read) small))
 
 weighed : (d : Data) (o : CompressOptions) (t : Tree) (n : ℕ) (w : Weighed) → Fits d → program_at o.max_depth d ≡ Ok (t, n) → IsWeighedAnswer t o w → IsWeighed d o w.minified w.before w.after
 weighed d o t n w small read a =

@@ -43,6 +43,7 @@ use Rattle.mini_kept.proofs.SameShape.{shaped_resolved}
 use Rattle.mini_kept.proofs.Texts.{text}
 use Rattle.mini_kept.proofs.Undeclared.{unshared, native}
 use Rattle.mini_kept.proofs.WithoutLists.{within_itself, kept_stands}
+use Rattle.mini_again.specs.Carrying.{HasNoRepeat}
 use Rattle.mini_shrink.specs.Exact.{exactly_of}
 use Rattle.mini_writer.specs.Written.{program_data}
 use Rattle.mini_tree.specs.Passes.{PassesReach, MakesPasses}
@@ -54,7 +55,7 @@ use Rattle.mini_peephole.specs.AnyPasses.{KeepsKnown, PassesFaithful, NothingLef
 use Rattle.mini_peephole.specs.Minified.{IsWritten}
 use Rattle.mini_rows.specs.Switches.{let_go}
 use Rattle.mini_peephole.specs.Faithful as faith
-use Rattle.mini_peephole.specs.Faithful.{switches, symbols_of, HasNoRepeat, BeginsWithProgram, AreNamed, IsSameBody, BodiesAreSame, IsFaithfulWith, FaithfulWith}
+use Rattle.mini_peephole.specs.Faithful.{switches, symbols_of, BeginsWithProgram, AreNamed, IsSameBody, BodiesAreSame, IsFaithfulWith, FaithfulWith}
 use Rattle.mini_peephole.specs.declared.minify.Minified.{Minified}
 use Rattle.mini_peephole.proofs.Chains.{EachKnown, known_more, each_known, Any, any_lawful, any_reach, open_in}
 use Rattle.mini_peephole.proofs.Known.{known_is_so}

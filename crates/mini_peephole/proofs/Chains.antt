@@ -111,7 +111,8 @@ module _ (G : Tree → Position → Tree → Tree → Type 0) (K : Shape → Boo
       let (after, further) = steps_lead q d r f (resolved_on q t u kept e) in
       (after, λ b. within_through (exactly_of t b) (exactly_of u b) (exactly_of v b) (stay q t u st e b) (further b))
 
-  -- what holds of each program at which a pass begins: its names are resolved, and all that is known of its bodies is in S
+  -- what holds of each program at which a pass begins: its names are resolved, and all that is
+  -- known of its bodies is in S
   abbrev pub EachKnown : BodySets → {k : ℕ} {s u : Tree} → PassesReach G k s u → Type 0
   EachKnown S (no_pass s) = Unit {0}
   EachKnown S (one_more k s u v r others) = EachKnown S r × (DeclaresOnce u × PartEach (exactly_of u) S)
@@ -131,7 +132,8 @@ module _ (G : Tree → Position → Tree → Tree → Type 0) (K : Shape → Boo
 -- ---- passes as steps of one relation
 
 module _ (G : Tree → Position → Tree → Tree → Type 0) (K : Shape → Bool) (l : (q : Tree) → DeclaresOnce q → LawfulRooted K (writable_in q) (exactly_of q) (G q)) (stay : (q : Tree) → KeepsKnown (G q)) (S : BodySets) (t : Tree) where
-  -- a program whose names are resolved, in which nothing can be written that the first forbids to write, and of whose bodies nothing is known but S
+  -- a program whose names are resolved, in which nothing can be written that the first forbids to
+  -- write, and of whose bodies nothing is known but S
   abbrev Over : Type 0
   Over = (q : Tree) × DeclaresOnce q × Part (writable_in q) (writable_by t) × PartEach (exactly_of q) S
 

@@ -1,20 +1,16 @@
 -- A settled answer that is given again comes back: nothing is left to rewrite in it, whatever its
 -- symbols and numbers are.
-use Rattle.std.proofs.Common.{◌≡◌, ℕ, zero, suc, ◌<◌, ◌^◌, true, refl, sym, ap, ◌∙◌, subst}
-use Rattle.std.specs.Prelude.{None, ◌∷◌}
+use Rattle.std.proofs.Common.{◌≡◌, ◌<◌, ◌^◌, true, refl, sym, ap, ◌∙◌, subst}
+use Rattle.std.specs.Prelude.{None}
 use Rattle.serde_json.specs.Data.{Data}
 use Rattle.serde_json.specs.View.{view}
 use Rattle.mini_model.specs.declared.place.Position.TheVariants.{Elsewhere}
 use Rattle.mini_model.specs.Tree.{Tree}
 use Rattle.mini_model.specs.Weight.{weight}
-use Rattle.mini_laws.specs.Renaming.{rename}
 use Rattle.mini_laws.specs.Resolved.{resolved_program}
-use Rattle.mini_laws.specs.Symbols.{declared_symbols}
 use Rattle.mini_accept.specs.Accept.{Accepts}
 use Rattle.mini_accept.proofs.Depths.{one_tree}
-use Rattle.mini_kept.specs.Carried.{numbers, symbol_numbers}
 use Rattle.mini_kept.proofs.Texts.{text, text_resolved}
-use Rattle.mini_again.specs.Again.{Renaming, other_number, again}
 use Rattle.mini_scope.specs.Pointers.{early_fault}
 use Rattle.mini_tree.specs.declared.options.CompressOptions.{CompressOptions}
 use Rattle.mini_writer.specs.Written.{program_data}
@@ -23,34 +19,20 @@ use Rattle.mini_peephole.specs.Faithful.{IsRewritten}
 use Rattle.mini_peephole.specs.Minified.{IsMinified, IsRewriting}
 use Rattle.mini_peephole.specs.declared.minify.Minified.{Minified}
 use Rattle.mini_peephole.proofs.Faith as faith
-use Rattle.mini_peephole.proofs.SeenAgain.{number_before, other, symbol_at, symbols_apart}
-use Rattle.mini_peephole.proofs.SeenLater.{later_renamed}
+use Rattle.mini_peephole.proofs.SeenLater.{seen_later}
+use Rattle.mini_peephole.proofs.Survives.{rewritten_survives}
 use Rattle.mini_peephole.proofs.WrittenAlike.{written_alike}
 
--- nothing is left in a program, if nothing is in the program with other symbols and numbers
-abbrev pub RewrittenSurvives : Type 0
-RewrittenSurvives = (ρ : Renaming) (o : CompressOptions) (t : Tree) → IsRewritten o (again ρ t) → IsRewritten o t
-
-module _ (survives : RewrittenSurvives) (d : Data) (o : CompressOptions) (m : Minified) (t : Tree) (read : Accepts d t) (free : early_fault t ≡ None) (r : IsRewriting (resolved_program t) o m) (light : weight Elsewhere t < 2 ^ 32) where
+module _ (d : Data) (o : CompressOptions) (m : Minified) (t : Tree) (read : Accepts d t) (free : early_fault t ≡ None) (r : IsRewriting (resolved_program t) o m) (light : weight Elsewhere t < 2 ^ 32) where
   -- the tree that a later run reads
   abbrev seen : Tree
   seen = (faith.again d o m t read free r).0
 
-  -- its symbols and numbers stand for those of the last program
-  renaming : Renaming
-  renaming = record { symbol = symbol_at (symbol_numbers (declared_symbols r.output)); apart = symbols_apart (symbol_numbers (declared_symbols r.output)) (faith.back d o m t read free r).symbols_once; number = number_before (0 ∷ numbers r.output) }
-
-  last_is : again renaming (resolved_program seen) ≡ r.output
-  last_is = (λ i. rename renaming.symbol (λ n. same n i) (resolved_program seen)) ∙ later_renamed t r.output seen (faith.again d o m t read free r).1.1 (faith.back d o m t read free r) (faith.answer_read d o m t read free r)
-    where
-      same : (n : ℕ) → other_number renaming n ≡ other (0 ∷ numbers r.output) n
-      same zero = refl
-      same (suc n) = refl
-
   rewritten_there : m.settled ≡ true → IsRewritten o (resolved_program seen)
   rewritten_there s =
-      let last : IsRewritten o r.output = subst (IsRewritten o) (faith.whole_is d o m t read free r) ((faith.faithful d o m t read free r light).faithful.settled s) in
-      survives renaming o (resolved_program seen) (subst (IsRewritten o) (sym last_is) last)
+      let last : IsRewritten o r.output = subst (IsRewritten o) (faith.whole_is d o m t read free r) ((faith.faithful_there d o m t read free r light).settled s) in
+      let (ρ, far, same) = seen_later t r.output seen (faith.again d o m t read free r).1.1 (faith.back d o m t read free r) (faith.answer_read d o m t read free r) in
+      rewritten_survives ρ far o (resolved_program seen) (subst (IsRewritten o) (sym same) last)
 
   rewritten_again : m.settled ≡ true → (u : Tree) → Accepts (view m.program) u → IsRewritten o (resolved_program u)
   rewritten_again s u a = subst (λ w. IsRewritten o (resolved_program w)) (one_tree (view m.program) seen u (faith.written d o m t read free r) a) (rewritten_there s)

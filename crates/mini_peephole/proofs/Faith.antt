@@ -39,7 +39,6 @@ use Rattle.mini_peephole.proofs.AnyPasses as any
 use Rattle.mini_peephole.proofs.Everywhere.{everywhere_with}
 use Rattle.mini_peephole.proofs.Heaviest.{resolved_lighter}
 use Rattle.mini_peephole.proofs.Lightest.{program_heavy}
-use Rattle.mini_peephole.proofs.ReadLess.{all_read_less}
 use Rattle.mini_peephole.proofs.Rules.{loose_contract, all_lawful, all_known, all_rest}
 use Rattle.mini_unused.specs.Allowed.{allowed_in}
 
@@ -126,11 +125,11 @@ nothing_left o m t u light f = record {
 }
 
 module _ (d : Data) (o : CompressOptions) (m : Minified) (t : Tree) (read : Accepts d t) (free : early_fault t ≡ None) (r : IsRewriting (resolved_program t) o m) where
-  lawful : (q : Tree) → DeclaresOnce q → LawfulRooted (let_go (switches o)) (writable_in q) (exactly_of q) (AllGives o q)
-  lawful = all_lawful all_read_less o
+  pub lawful : (q : Tree) → DeclaresOnce q → LawfulRooted (let_go (switches o)) (writable_in q) (exactly_of q) (AllGives o q)
+  lawful = all_lawful o
 
-  known : (q : Tree) → KeepsKnown (AllGives o q)
-  known = all_known all_read_less o
+  pub known : (q : Tree) → KeepsKnown (AllGives o q)
+  known = all_known o
 
   abbrev pub again : (u : Tree) × Accepts (program_data r.output) u × (text u ≡ text r.output)
   again = any.again (AllGives o) (AllRests o) o lawful known d m t read free r
@@ -150,14 +149,11 @@ module _ (d : Data) (o : CompressOptions) (m : Minified) (t : Tree) (read : Acce
   pub back : IsReadBack t r.output again.0
   back = (any.made (AllGives o) (AllRests o) o lawful known d m t read free r).back
 
+  pub faithful_there : weight Elsewhere t < 2 ^ 32 → IsFaithful o m t again.0
+  faithful_there light = nothing_left o m t again.0 (let a = resolved_lighter t start.unresolved in omega (arith, a, light)) (any.faithful_there (AllGives o) (AllRests o) o lawful known d m t read free r)
+
   pub faithful : weight Elsewhere t < 2 ^ 32 → Faithful d o m
-  faithful light = record {
-    input = t;
-    output = again.0;
-    accepted = read;
-    answered = written;
-    faithful = nothing_left o m t again.0 (let a = resolved_lighter t start.unresolved in omega (arith, a, light)) (any.faithful_there (AllGives o) (AllRests o) o lawful known d m t read free r);
-  }
+  faithful light = record { input = t; output = again.0; accepted = read; answered = written; faithful = faithful_there light }
 
   settles : (b : Bool) → (b ≡ false → ⊥) → b ≡ true
   settles true f = refl
@@ -177,12 +173,12 @@ module _ (d : Data) (o : CompressOptions) (m : Minified) (t : Tree) (read : Acce
   enough : (v : Tree) → Accepts d v → program_weight (earlier v) ≤ max o.passes 1 → m.settled ≡ true
   enough v a h =
       settles m.settled (λ s.
-          let all = (r.passes.stopped s).0 in
-          let (w, (k, reach), near, fell) = r.passes.last s in
-          -- the program at which the last pass began is no empty one, so that it weighs more than 1
-          let heavy = program_heavy w (any.began (AllGives o) (AllRests o) o lawful known d m t read free r reach).shaped (omega (arith, fell)) in
-          let x = input_weight v a in
-          omega (arith, all, near, heavy, x, h))
+      let all = (r.passes.stopped s).0 in
+      let (w, (k, reach), near, fell) = r.passes.last s in
+      -- the program at which the last pass began is no empty one, so that it weighs more than 1
+      let heavy = program_heavy w (any.began (AllGives o) (AllRests o) o lawful known d m t read free r reach).shaped (omega (arith, fell)) in
+      let x = input_weight v a in
+      omega (arith, all, near, heavy, x, h))
 
   fixed : (v : Tree) → Accepts d v → IsRewritten o (earlier v) → Accepts (view m.program) v × (m.passes ≡ 1) × (m.settled ≡ true)
   fixed v a f =

@@ -23,7 +23,8 @@ use Rattle.mini_shrink.specs.Exact.{exactly_of}
 use Rattle.mini_shrink.specs.Facts.{ReadsLess}
 use Rattle.mini_shrink.specs.ToldOn.{AskNoMore}
 use Rattle.mini_shrink.proofs.Exact.{exact_is_so, exactly_within}
-use Rattle.mini_shrink.proofs.ToldOn.{false_not, told_on}
+use Rattle.mini_shrink.proofs.Either.{false_not}
+use Rattle.mini_shrink.proofs.ToldOn.{told_on}
 use Rattle.mini_shrink.proofs.Tops.{shows_less}
 use Rattle.mini_shrink.proofs.Within.{asks_less}
 use Rattle.mini_shrink.specs.SameForeign.{DeclaresOnce}

@@ -6,12 +6,11 @@ mod Known
 mod Lightest
 mod Own
 mod Placing
-mod ReadLess
 mod Rules
-mod SeenAgain
 mod SeenLater
 mod SteadyKnown
 mod Survives
+mod ToldAgain
 mod ToldExactly
 mod WrittenAlike
 pub mod AnswerFloats

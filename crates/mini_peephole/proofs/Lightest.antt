@@ -1,13 +1,12 @@
 -- A program that is not empty weighs at least 2: each statement of it does, and each directive.
-use Rattle.std.specs.Prelude.{ℕ, ◌≡◌, ◌≤◌, ◌&&◌, refl, Bool, true, false, List, [], ◌∷◌, Option, None}
+use Rattle.std.specs.Prelude.{◌≡◌, ◌≤◌, refl, Bool, true, false, [], ◌∷◌, None}
 use Rattle.std.proofs.Common.{ap, sym, true≢false, arith}
-use Rattle.mini_model.specs.declared.place.Position.TheVariants.{Stmt, StatementList, Elsewhere}
+use Rattle.mini_model.specs.declared.place.Position.TheVariants.{Stmt, StatementList}
 use Rattle.mini_model.specs.declared.seat.StmtSeat.TheVariants as stmt_seat
-use Rattle.mini_model.specs.declared.shape.Shape.{Shape}
 use Rattle.mini_model.specs.declared.shape.Shape.TheVariants as shape
-use Rattle.mini_model.specs.Tree.{Tree, Trees, node, none, ◌▸◌}
+use Rattle.mini_model.specs.Tree.{Tree, node, none, ◌▸◌}
 use Rattle.mini_model.specs.Weight.{weight, program_weight}
-use Rattle.mini_accept.specs.WellShaped.{Depth, in_module, in_body, nested, a_program, a_statement, Slot, one, many, filling_by, filling, none_if, in_depth, is_sloppy_function, class_of, is_whole, is_strict_in, fits, fill, IsWellShaped}
+use Rattle.mini_accept.specs.WellShaped.{Depth, in_module, in_body, nested, a_program, a_statement, one, many, filling_by, none_if, in_depth, is_sloppy_function, class_of, is_whole, is_strict_in, fits, IsWellShaped}
 use Rattle.mini_kept.proofs.Bools.{left, right}
 use Rattle.mini_kept.proofs.Expressions.{refused_here}
 

@@ -16,9 +16,9 @@ use Rattle.mini_rows.specs.PastBlocks.{PastBlocks}
 use Rattle.mini_rows.specs.Steady.{OwnRows, LexicalRows, SteadyRow}
 use Rattle.mini_rows.specs.Switches.{Switches}
 use Rattle.mini_rows.proofs.LexicalKept.{lexical_own}
-use Rattle.mini_rows.proofs.OwnProgramLawful.{any_places, steady_places, lexical_places}
+use Rattle.mini_rows.proofs.OwnProgramLawful.{any_places}
 use Rattle.mini_rows.proofs.PastKept.{lost}
-use Rattle.mini_rows.proofs.PastLost.{loses_places, loses_shapes}
+use Rattle.mini_rows.proofs.PastLost.{loses_places}
 use Rattle.mini_rows.proofs.SteadyKept.{steady_own}
 use Rattle.mini_rows.proofs.SteadyLawful.{AnyRow}
 use Rattle.mini_less.proofs.OwnLess.{code_step, program_step, part_step, any_shapes, any_reads}
@@ -59,7 +59,7 @@ steady_shapes V = (steady_own V).shapes
 pub lexical_shapes : (V : Assured) → KeepsShapes (LexicalRows V)
 lexical_shapes V = (lexical_own V).shapes
 
--- a block that loses a name keeps places and shapes, whichever name it is
+-- a block that loses a name keeps places, whichever name it is
 module _ (o : Switches) (V : Assured) where
   pub block_places : KeepsPlaces (PastBlocks o V)
   block_places = record {
@@ -72,10 +72,4 @@ module _ (o : Switches) (V : Assured) where
     ports = λ p n w r. let (k, l) = lost o V p n w r in (loses_places k).ports p n w (V, l);
     listed = λ p n w e r. let (k, l) = lost o V p n w r in (loses_places k).listed p n w e (V, l);
     exported = λ p n w r. let (k, l) = lost o V p n w r in (loses_places k).exported p n w (V, l);
-  }
-
-  pub block_shapes : KeepsShapes (PastBlocks o V)
-  block_shapes = record {
-    fitting = λ p n w r. let (k, l) = lost o V p n w r in (loses_shapes k).fitting p n w (V, l);
-    asked = λ p n w r. let (k, l) = lost o V p n w r in (loses_shapes k).asked p n w (V, l);
   }

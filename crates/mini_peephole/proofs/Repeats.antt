@@ -4,7 +4,7 @@ use Rattle.std.specs.Prelude.{Contains}
 use Rattle.mini_kept.specs.KeepsNames.{count_of}
 use Rattle.mini_kept.proofs.Counts.{counted_there}
 use Rattle.mini_kept.proofs.InPreorder.{tally}
-use Rattle.mini_peephole.specs.Faithful.{HasNoRepeat}
+use Rattle.mini_again.specs.Carrying.{HasNoRepeat}
 
 pub no_repeat : (ks : List ℕ) → ((k : ℕ) → count_of k ks ≤ 1) → HasNoRepeat ks
 no_repeat [] h = tt

@@ -1,5 +1,5 @@
 -- The rules together, and the rows.
-use Rattle.std.proofs.Common.{ℕ, zero, suc, ◌<◌, ◌^◌, Bool, true, false, inl, inr, arith}
+use Rattle.std.proofs.Common.{ℕ, zero, suc, ◌<◌, ◌^◌, Bool, inl, inr, arith}
 use Rattle.mini_model.specs.declared.place.Position.{Position}
 use Rattle.mini_model.specs.declared.place.Position.TheVariants.{Expr, Stmt, Elsewhere}
 use Rattle.mini_model.specs.declared.shape.Shape.{Shape}
@@ -9,8 +9,7 @@ use Rattle.mini_model.specs.Weight.{weight, weights}
 use Rattle.mini_model.specs.Redex as first
 use Rattle.mini_model.specs.Rewriting.{Everywhere, EverywhereIn}
 use Rattle.mini_tree.specs.declared.options.CompressOptions.{CompressOptions}
-use Rattle.mini_tree.specs.Rule.{Both, Either}
-use Rattle.mini_laws.specs.Value.{VariableSet}
+use Rattle.mini_tree.specs.Rule.{Either}
 use Rattle.mini_laws.specs.Writable.{writable_in}
 use Rattle.mini_kept.specs.Loosely.{LawfulWith}
 use Rattle.mini_kept.specs.Rooted.{LawfulRooted}
@@ -39,6 +38,7 @@ use Rattle.mini_rows.specs.PastStatics.{PastStatic}
 use Rattle.mini_rows.specs.Steady.{SteadyRow, LexicalRows}
 use Rattle.mini_steady.specs.Told.{told_in}
 use Rattle.mini_shrink.specs.Exact.{exactly_of}
+use Rattle.mini_less.proofs.UnusedLess.{rewrites_read_less}
 use Rattle.mini_past.proofs.Lawful.{past_code_lawful}
 use Rattle.mini_rows.proofs.PastInsideLawful.{past_inside_is_lawful}
 use Rattle.mini_rows.proofs.PastModuleLawful.{past_modules_are_lawful}
@@ -50,7 +50,6 @@ use Rattle.mini_peephole.specs.Rules.{Gives, Rests, LooseGives, LooseRests, Stea
 use Rattle.mini_peephole.proofs.CodeLawful.{steady_code, lexical_code, block_code}
 use Rattle.mini_peephole.proofs.Everywhere.{everywhere_with}
 use Rattle.mini_peephole.proofs.Known.{less_is_known}
-use Rattle.mini_peephole.proofs.ReadLess.{AllReadLess, rewrites_read_less}
 use Rattle.mini_peephole.proofs.SteadyKnown.{known_join, known_narrowed, steady_known}
 use Rattle.mini_peephole.proofs.ToldExactly.{told_within}
 use Rattle.mini_unused.specs.Allowed.{allowed_in}
@@ -198,23 +197,23 @@ steady_lawful K L S =
 
 -- ---- all rules
 
-pub all_lawful : AllReadLess → LawfulFor AllGives
-all_lawful h o q e =
+pub all_lawful : LawfulFor AllGives
+all_lawful o q e =
     let K = let_go (switches o) in
     let W = writable_in q in
     let S = exactly_of q in
     rooted_join (LooseGives o q) (SteadyGives o q) K W S (steady_is_rooted (LooseGives o q) K W S (loose_is_steady (LooseGives o q) K W S (loose_lawful o q)))
-    (rooted_wider (SteadyGives o q) K W W (told_in q) S (λ x k. k) (told_within h.exact q e) (steady_lawful K (allowed_in o q) (told_in q)))
+    (rooted_wider (SteadyGives o q) K W W (told_in q) S (λ x k. k) (told_within q e) (steady_lawful K (allowed_in o q) (told_in q)))
 
 -- they keep what is known of bodies
-pub all_known : AllReadLess → KnownStays AllGives
-all_known h o q =
+pub all_known : KnownStays AllGives
+all_known o q =
     let K = let_go (switches o) in
     let W = writable_in q in
     known_join (LooseGives o q) (SteadyGives o q)
     (known_narrowed (LooseGives o q) (Rewrites (switches o) W) (loose_contract o q)
-    (less_is_known K W none_steady (Rewrites (switches o) W) (loose_is_steady (Rewrites (switches o) W) K W none_steady (all_loose (switches o) W)) (rewrites_read_less h (switches o) W)))
-    (steady_known h K (told_in q) (allowed_in o q))
+    (less_is_known K W none_steady (Rewrites (switches o) W) (loose_is_steady (Rewrites (switches o) W) K W none_steady (all_loose (switches o) W)) (rewrites_read_less (switches o) W)))
+    (steady_known K (told_in q) (allowed_in o q))
 
 -- where they all rest nothing is left
 pub all_rest : (o : CompressOptions) (u : Tree) → weight Elsewhere u < 2 ^ 64 → Everywhere (AllRests o u) Elsewhere u → IsRewritten o u

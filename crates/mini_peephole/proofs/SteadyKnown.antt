@@ -1,21 +1,15 @@
 -- What is known of the bodies of a program is known of them after each step of the rules.
-use Rattle.std.specs.Prelude.{ℕ, ◌⊎◌, Bool}
+use Rattle.std.specs.Prelude.{Bool}
 use Rattle.std.proofs.Common.{inl, inr}
 use Rattle.mini_model.specs.declared.place.Position.{Position}
-use Rattle.mini_model.specs.declared.place.Position.TheVariants.{Elsewhere}
 use Rattle.mini_model.specs.declared.shape.Shape.{Shape}
 use Rattle.mini_model.specs.Tree.{Tree}
-use Rattle.mini_model.specs.Rewriting.{Step}
 use Rattle.mini_laws.specs.Value.{VariableSet}
 use Rattle.mini_kept.specs.KeepsFrames.{KeepsPlaces}
 use Rattle.mini_kept.specs.KeepsShapes.{KeepsShapes}
-use Rattle.mini_kept.specs.Loosely.{LawfulUnder}
-use Rattle.mini_kept.specs.Rooted.{LawfulRooted}
-use Rattle.mini_kept.specs.Without.{BodySets, Within, none_steady}
+use Rattle.mini_kept.specs.Without.{BodySets, none_steady}
 use Rattle.mini_kept.proofs.Loosely.{loose_is_steady}
 use Rattle.mini_kept.proofs.Rooted.{step_either, step_on}
-use Rattle.mini_shrink.specs.Facts.{ReadsLess}
-use Rattle.mini_tree.specs.declared.options.CompressOptions.{CompressOptions}
 use Rattle.mini_tree.specs.Rule.{Either}
 use Rattle.mini_rows.specs.Inside.{InsideContracts}
 use Rattle.mini_rows.specs.PastInside.{PastInside}
@@ -25,7 +19,7 @@ use Rattle.mini_rows.specs.Past.{PastFunction}
 use Rattle.mini_rows.specs.PastArrows.{PastArrow}
 use Rattle.mini_rows.specs.PastBlocks.{PastBlocks}
 use Rattle.mini_rows.specs.Steady.{LexicalRows, SteadyRow}
-use Rattle.mini_rows.specs.Switches.{Liberties, let_go}
+use Rattle.mini_rows.specs.Switches.{Liberties}
 use Rattle.mini_rows.proofs.InsideLawful.{inside_loose}
 use Rattle.mini_rows.proofs.OwnProgramLawful.{steady_places, lexical_places}
 use Rattle.mini_rows.proofs.PastArrowLawful.{arrows_lawful}
@@ -35,17 +29,19 @@ use Rattle.mini_rows.proofs.PastLawful.{functions_behind_lawful}
 use Rattle.mini_rows.proofs.PastModuleLawful.{module_places, module_shapes, past_modules_are_lawful}
 use Rattle.mini_rows.proofs.PastStaticLawful.{static_places, static_shapes, past_statics_are_lawful}
 use Rattle.mini_past.proofs.Lawful.{past_code_lawful}
+use Rattle.mini_less.proofs.InsideLess.{past_inside_reads_less}
+use Rattle.mini_less.proofs.InsideUnused.{inside_reads_less}
+use Rattle.mini_less.proofs.PastBlocksLess.{blocks_shapes, block_rows_read_less}
 use Rattle.mini_less.proofs.PastLess.{past_read_less}
 use Rattle.mini_peephole.specs.AnyPasses.{KeepsKnown}
 use Rattle.mini_peephole.specs.SteadyRows.{AnyCode, PastCode, InsideCode, SteadyRewrites}
 use Rattle.mini_peephole.proofs.CodeLawful.{steady_code, lexical_code, block_code}
 use Rattle.mini_peephole.proofs.Known.{known_by_less, less_is_known}
-use Rattle.mini_peephole.proofs.Own.{code_known, steady_shapes, lexical_shapes, block_places, block_shapes}
+use Rattle.mini_peephole.proofs.Own.{code_known, steady_shapes, lexical_shapes, block_places}
 use Rattle.mini_peephole.proofs.Placing.{places_join, shapes_join, places_narrowed, shapes_narrowed}
 use Rattle.mini_less.proofs.Joined.{reads_less_joins}
 use Rattle.mini_less.proofs.LexicalLess.{lexical_names_read_less}
 use Rattle.mini_less.proofs.OwnLess.{steady_rows_read_less}
-use Rattle.mini_peephole.proofs.ReadLess.{AllReadLess}
 
 -- of two relations that keep it
 pub known_join : (R Q : Position → Tree → Tree → Type 0) → KeepsKnown R → KeepsKnown Q → KeepsKnown (Either R Q)
@@ -54,7 +50,7 @@ known_join R Q f g t u s e b = elim (step_either R Q s) [ inl x ↦ f t u x e b 
 pub known_narrowed : (R Q : Position → Tree → Tree → Type 0) → ((p : Position) (n w : Tree) → R p n w → Q p n w) → KeepsKnown Q → KeepsKnown R
 known_narrowed R Q f g t u s e b = g t u (step_on f s) e b
 
-module _ (h : AllReadLess) (K : Shape → Bool) (S : BodySets) (L : Liberties) where
+module _ (K : Shape → Bool) (S : BodySets) (L : Liberties) where
   abbrev W : VariableSet
   W = L.writable
 
@@ -83,7 +79,7 @@ module _ (h : AllReadLess) (K : Shape → Bool) (S : BodySets) (L : Liberties) w
       known_by_less K W S R R (past_statics_are_lawful K L S) (λ t u s. s) (places_narrowed R Q (statics_behind S L) (static_places S W)) (shapes_narrowed R Q (statics_behind S L) (static_shapes S W)) (past_read_less.statics S L)
 
   blocks_past : KeepsKnown (AnyCode (PastBlocks L.switches) S)
-  blocks_past = code_known (PastBlocks L.switches) S K W (block_code L.switches K W S) (block_places L.switches) (block_shapes L.switches) (h.blocks L.switches)
+  blocks_past = code_known (PastBlocks L.switches) S K W (block_code L.switches K W S) (block_places L.switches) (blocks_shapes L.switches) (block_rows_read_less L.switches)
 
   past_known : KeepsKnown (PastCode S L)
   past_known =
@@ -118,11 +114,11 @@ module _ (h : AllReadLess) (K : Shape → Bool) (S : BodySets) (L : Liberties) w
   inside_past : KeepsKnown (PastInside S L)
   inside_past =
       let R = PastInside S L in
-      known_by_less K W S R R (past_inside_is_lawful K L S) (λ t u s. s) (places_narrowed R (Holds S L) (held S L) holds_places) (shapes_narrowed R (Holds S L) (held S L) holds_shapes) (h.past_inside S L)
+      known_by_less K W S R R (past_inside_is_lawful K L S) (λ t u s. s) (places_narrowed R (Holds S L) (held S L) holds_places) (shapes_narrowed R (Holds S L) (held S L) holds_shapes) (past_inside_reads_less S L)
 
   inside_known : KeepsKnown (InsideCode S L)
   inside_known =
-      known_join (InsideContracts L) (PastInside S L) (less_is_known K W none_steady (InsideContracts L) (loose_is_steady (InsideContracts L) K W none_steady (inside_loose K L)) (h.inside L)) inside_past
+      known_join (InsideContracts L) (PastInside S L) (less_is_known K W none_steady (InsideContracts L) (loose_is_steady (InsideContracts L) K W none_steady (inside_loose K L)) (inside_reads_less L)) inside_past
 
   -- ---- all that rest on what is known of bodies
 

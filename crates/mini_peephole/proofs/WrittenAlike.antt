@@ -1,13 +1,14 @@
--- What is written for a tree is its text alone: numbers, symbols and the names of declarators aren't.
+-- What is written for a tree is its text alone: numbers, symbols and the names of declarators
+-- aren't.
 use Rattle.std.proofs.Common.{◌≡◌, List, [], ◌∷◌, refl, sym, ap, ◌∙◌}
 use Rattle.serde_json.specs.Data.{Items, item}
 use Rattle.mini_model.specs.declared.name.Name.{Name}
 use Rattle.mini_model.specs.declared.shape.Shape.{Shape}
 use Rattle.mini_model.specs.declared.shape.Shape.TheVariants as shape
 use Rattle.mini_model.specs.Tree.{Tree, Trees, node, none, ◌▸◌}
-use Rattle.mini_laws.specs.Symbols.{bare_names, with_new, no_symbol}
+use Rattle.mini_laws.specs.Symbols.{bare_names}
 use Rattle.mini_writer.specs.Bare.{bare, bares}
-use Rattle.mini_writer.specs.Written.{name_of, node_data, tree_data, trees_data, program_data}
+use Rattle.mini_writer.specs.Written.{node_data, tree_data, trees_data, program_data}
 use Rattle.mini_kept.proofs.Texts.{text}
 use Rattle.mini_peephole.proofs.Written.{same_text}
 

@@ -37,12 +37,12 @@ LessIsKnown R = (K : Shape → Bool) (W : VariableSet) (S : BodySets) → Lawful
 -- ---- rules
 
 -- What a rule makes is lawful, and may drop names that nothing mentions, under any options and over
--- any such program at which its context has looked: names of functions and classes where the options
--- let them go. It may rest on it that the variables can be written that
--- this program mentions and lets be written, and on what is known of each body of it, as that no
--- answer changes a name while the body runs; of the program itself it may give another, by what is
--- known of its own body. What is lawful without that is so (`LawfulIsLoose`, `LooseIsSteady`,
--- `SteadyIsRooted`, mini_kept).
+-- any such program at which its context has looked: names of functions and classes where the
+-- options let them go. It may rest on it that the variables can be written that this program
+-- mentions and lets be written, and on what is known of each body of it, as that no answer changes
+-- a name while the body runs; of the program itself it may give another, by what is known of its
+-- own body. What is lawful without that is so (`LawfulIsLoose`, `LooseIsSteady`, `SteadyIsRooted`,
+-- mini_kept).
 --
 -- This is asked wherever a node may stand, in any tree. What rests on numbers of names, as on there
 -- being one read of a variable in the program, is lawful only in what steps make of that program:

@@ -2,7 +2,7 @@
 --
 -- Both are compared in the numbers and symbols of the earlier one: the later program is resolved,
 -- and each number and symbol in it is replaced by the one that it stands for.
-use Rattle.std.specs.Prelude.{◌≡◌, ℕ, suc, ◌+◌, ◌≤◌, max, Bool, true, false, List, [], ◌∷◌, map, length, ◌⊎◌, Contains, Option, Some, None}
+use Rattle.std.specs.Prelude.{◌≡◌, ℕ, suc, ◌+◌, ◌≤◌, max, true, false, List, [], ◌∷◌, map, length, ◌⊎◌, Contains, Option, Some, None}
 use Rattle.serde_json.specs.Data.{Data}
 use Rattle.serde_json.specs.View.{view}
 use Rattle.mini_model.specs.declared.name.Name.{Name}
@@ -28,6 +28,7 @@ use Rattle.mini_kept.specs.Frames.{frames_in}
 use Rattle.mini_kept.specs.Loosely.{undeclared}
 use Rattle.mini_kept.specs.ShownFrames.{KeyGivenUnder, gone_from, FramesShown}
 use Rattle.mini_rows.specs.Switches.{Switches, let_go}
+use Rattle.mini_again.specs.Carrying.{HasNoRepeat}
 use Rattle.mini_rows.specs.Redex.{HasNoRedex}
 use Rattle.mini_peephole.specs.Environments.{shared_by, foreign_to, initialised_for, steady_in, environment_with}
 use Rattle.mini_peephole.specs.SteadyRows.{IsSteadilyRewritten}
@@ -45,10 +46,6 @@ abbrev pub later : Minified → Tree → Tree
 later m u = carried m.kept (symbols_of m.symbols) (resolved_program u)
 
 -- ---- numbers and symbols
-
-abbrev pub HasNoRepeat : List ℕ → Type 0
-HasNoRepeat [] = Unit {0}
-HasNoRepeat (k ∷ ks) = (Contains ks k → ⊥) × HasNoRepeat ks
 
 -- the program itself comes first
 abbrev pub BeginsWithProgram : List ℕ → Type 0

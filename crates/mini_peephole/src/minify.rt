@@ -38,7 +38,8 @@ use mini_syntax::{
     SubstituteReturns, SubstituteSpellings,
 };
 use mini_tree::{
-    CompressOptions, Numbers, OutOfMemory, Passes, Position, Program, Then, discard, run_passes, weight,
+    CompressOptions, Numbers, OutOfMemory, Passes, Position, Program, Then, discard, run_passes,
+    weight,
 };
 use mini_unused::{RemoveUnusedNames, SubstituteCatches};
 use mini_writer::write_program;
@@ -274,7 +275,8 @@ type Past = Then<
 // Of a `var` further inside a body.
 type Inside = Then<RemoveInside, SubstitutePastInside>;
 
-// Rules of names that are read once or not at all, those of blocks further inside a body among them.
+// Rules of names that are read once or not at all, those of blocks further inside a body among
+// them.
 type Once = Then<Then<Past, AnyCode<PastNamesInBlocks>>, Inside>;
 
 const PAST: Past = Then {

@@ -1,0 +1,6 @@
+pub mod Told
+pub mod Walks
+pub mod Marks
+pub mod Symbols
+pub mod Agreeing
+pub mod Losing

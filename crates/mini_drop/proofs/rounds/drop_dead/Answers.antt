@@ -1,0 +1,13 @@
+use Rattle.mini_dead.specs.Drops.{nothing_goes}
+use Rattle.mini_dead.proofs.Counting.{none_goes}
+use Rattle.mini_drop.proofs.rounds.drop_dead.Goals as goal
+
+pub rounds-init : goal.rounds-init
+rounds-init c = record {
+  again = nothing_goes c.args.program.now;
+  shaped = c.requires.shaped;
+  known = λ o k. k;
+}
+
+pub returns-clause-unchanged : goal.returns-clause-unchanged
+returns-clause-unchanged c = λ e. none_goes c.args.program.now c.drop_more.new.program c.drop_more.new.total (c.in_ok-drop_more.ensures.again c.args.program.now c.rounds.invariant.again) e
