@@ -67,10 +67,21 @@ function* ofRows() {
   }
 }
 
+// The ESTree of a text, or null where it is no code.
+function parsed(source, type) {
+  try {
+    return parseLeniently(source, type);
+  } catch {
+    return null;
+  }
+}
+
+// A text in some hundreds is no code, and is left out.
 function* ofGenerator(count, seed) {
   for (let at = 0; at < count; at++) {
     const { source, type } = generated(seed * 1_000_003 + at);
-    yield [`generated ${at}: ${source}`, parseLeniently(source, type)];
+    const program = parsed(source, type);
+    if (program) yield [`generated ${at}: ${source}`, program];
   }
 }
 

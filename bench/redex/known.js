@@ -80,7 +80,9 @@ const isTurned = ({ node, written }) =>
   has(node, (each) => isUnary(each, "typeof")) || has(written, (each) => isUnary(each, "!"));
 const isDeclared = (node) =>
   isName(node) && Boolean(node.symbol) && node.symbol.kind !== "parameter";
-const isPast = holding((each) => isDeclared(each) && each.symbol.reads > 1);
+// Whether two variables of the body are named, of which one may be passed by the other's value.
+const isPast = (found) =>
+  new Set([...nodes(partsOfFound(found))].filter(isDeclared).map((each) => each.symbol)).size > 1;
 const isOneOfSeveral = (found) =>
   partsOfFound(found).some((node) => isDeclaration(node) && node.declarations.length > 1);
 const isEval = (node) =>

@@ -393,7 +393,8 @@ class Generator {
 
   top() {
     const main = this.declare(this.fresh());
-    return `function ${main}${this.callable(4, this.chance(5) === 0)}`;
+    const isGenerator = this.chance(5) === 0;
+    return `function${isGenerator ? "*" : ""} ${main}${this.callable(4, isGenerator)}`;
   }
 
   script() {
