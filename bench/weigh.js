@@ -464,4 +464,16 @@ const weigh = (program) => new Weigher().weight(program, ELSEWHERE);
 const weighTest = (expression) => new Weigher().weight(expression, WHOLE);
 const weighStatement = (statement) => ["list", "body", "consequent"].map((seat) => new Weigher().weight(statement, stmt(seat)));
 
-module.exports = { weigh, weighTest, weighStatement };
+// What the detector of rewrites needs: the weigher itself, and the places.
+const SEATS = {
+  elsewhere: ELSEWHERE,
+  target: TARGET,
+  method: METHOD,
+  object: OBJECT,
+  list: LIST,
+  body: BODY,
+  consequent: stmt("consequent"),
+  levels: BINARY_LEVEL,
+};
+
+module.exports = { SEATS, Weigher, expr, stmt, weigh, weighTest, weighStatement };
