@@ -6,8 +6,7 @@
 //     node --expose-internals bench/stored.js [PROGRAM]
 //
 // PROGRAM is crates/mini_app/out/mini_app of this repository unless it is given. The text of each
-// line that differs is told, with what came and what is stored. The status is 1 where one differs,
-// or where an answer says that what was known of bodies didn't stay so.
+// line that differs is told, with what came and what is stored. The status is 1 where one differs.
 "use strict";
 const { spawnSync } = require("child_process");
 const fs = require("fs");
