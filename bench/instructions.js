@@ -37,7 +37,8 @@ function inputs() {
 // How many instructions a command takes on a text.
 function counted(command, text) {
   fs.writeFileSync(input, text);
-  const line = 'exec valgrind --tool=callgrind --callgrind-out-file=/dev/null "$@" < "$0" > /dev/null';
+  const tool = "valgrind --tool=callgrind --callgrind-out-file=/dev/null";
+  const line = `exec ${tool} "$@" < "$0" > /dev/null`;
   const { status, stderr } = spawnSync("bash", ["-c", line, input, ...command]);
   const [, told] = /Collected : (\d+)/.exec(stderr.toString()) ?? [];
   if (status !== 0 || told === undefined) throw new Error(`${command[0]} ended with ${status}`);
