@@ -14,8 +14,9 @@
 //
 // A line tells of each rewrite that is left: its row, whether it is known
 // (bench/redex/known.js; told with --all) or NEW, the JSON pointer of the node, the node, and what
-// would be written. WIDER is told of a program that changed though no row reads anything in it. A
-// table by row comes last. The status is 1 where something is new.
+// would be written. WIDER is told of each part that a pass changed though no row reads anything in
+// it or around it (bench/redex/passes.js): programs are given to PROGRAM one pass at a time. A table
+// by row comes last. The status is 1 where something is new.
 "use strict";
 const fs = require("fs");
 const path = require("path");
@@ -24,6 +25,7 @@ const { isOutside, isUnread, parseLeniently, text, written } = require("./estree
 const { estree } = require("./outcome.js");
 const { chosenPieces } = require("./pieces.js");
 const { columns, reasonOf } = require("./redex/known.js");
+const { unaskedFor } = require("./redex/passes.js");
 const { generated } = require("./redex/programs.js");
 const { search } = require("./redex/search.js");
 const { shown } = require("./redex/show.js");
@@ -94,14 +96,30 @@ function* programs({ files, count, seed }) {
 
 // ---- answers
 
-// The settled answer of the program; what it isn't given for is told.
-function answerOf(program, name, input) {
-  const ended = spawnSync(program, [], { input: text(input), maxBuffer: 1 << 28 });
-  const answer = ended.status === 0 ? JSON.parse(ended.stdout.toString()) : null;
-  if (answer?.settled) return answer.program;
-  const why = answer ? "not settled" : `status ${ended.status} ${ended.stderr.toString().trim()}`;
+// No program of a corpus takes as many passes.
+const MOST_PASSES = 100;
+
+// One pass over a program; why there is no answer is told.
+function passOver(program, name, input) {
+  const ended = spawnSync(program, ["--passes=1"], { input: text(input), maxBuffer: 1 << 28 });
+  if (ended.status === 0) return JSON.parse(ended.stdout.toString());
+  const why = `status ${ended.status} ${ended.stderr.toString().trim()}`;
   console.log(`no answer (${why}): ${cut(name)}`);
   return null;
+}
+
+// The programs before, between and after the passes that the program makes, the settled one last;
+// none where there is no settled answer.
+function passesOf(program, name, input) {
+  const programs = [written(input)];
+  for (let pass = 0; pass < MOST_PASSES; pass++) {
+    const answer = passOver(program, name, programs.at(-1));
+    if (!answer) return [];
+    programs.push(answer.program);
+    if (answer.settled) return programs;
+  }
+  console.log(`no answer (not settled): ${cut(name)}`);
+  return [];
 }
 
 function* answersOf(told) {
@@ -110,8 +128,8 @@ function* answersOf(told) {
   }
   for (const [name, input] of programs(told)) {
     if (isUnread(input) || isOutside(input)) continue;
-    const answer = answerOf(told.program, name, input);
-    if (answer) yield [name, answer, input];
+    const passes = passesOf(told.program, name, input);
+    if (passes.length > 0) yield [name, passes];
   }
 }
 
@@ -125,11 +143,8 @@ function* storedAnswers() {
   for (let at = from; at < lines.length && !lines[at].startsWith("# Odd input"); at++) {
     const [, program] = /^\[[\d,]*\] \[[\d,]*\] \d+ true ({.*})$/.exec(lines[at]) ?? [];
     if (!program) continue;
-    yield [
-      lines[at - 1].slice(2), JSON.parse(program), JSON.parse(asked[at].replace(
-        /^answer \d+ /, "",
-      )),
-    ];
+    const input = written(JSON.parse(asked[at].replace(/^answer \d+ /, "")));
+    yield [lines[at - 1].slice(2), [input, JSON.parse(program)]];
   }
 }
 
@@ -137,7 +152,7 @@ function* answers(told) {
   if (told.stored) return yield* storedAnswers();
   if (!told.of) return yield* answersOf(told);
   const read = JSON.parse(fs.readFileSync(told.of, "utf8"));
-  yield [told.of, read.program ?? read];
+  yield [told.of, [read.program ?? read]];
 }
 
 // ---- what is told
@@ -159,13 +174,20 @@ function summary(rows, looked) {
   }
 }
 
-// Whether an answer is another program, though no row reads anything in the one that was given.
-const isWider = (input, program) =>
-  Boolean(input) && text(written(input)) !== text(written(program)) && search(input).length === 0;
+// Tells the parts that a pass changed and no row reads, and gives their number.
+function tellWider(name, passes) {
+  const pairs = passes.slice(1).map((after, at) => [passes[at], after]);
+  const parts = pairs.flatMap(([before, after]) => unaskedFor(before, after));
+  for (const { pointer, before, after } of parts) {
+    console.log(`WIDER at ${pointer || "/"} in ${cut(name)}`);
+    console.log(`    ${cut(shown(before))}\n    ${cut(shown(after))}`);
+  }
+  return parts.length;
+}
 
 // Counts and tells what is left in one answer.
-function look(rows, column, [name, program], all) {
-  for (const found of search(program)) {
+function look(rows, column, [name, passes], all) {
+  for (const found of search(passes.at(-1))) {
     const reason = reasonOf(found, column);
     if (!rows.has(found.row)) rows.set(found.row, { known: 0, fresh: 0 });
     rows.get(found.row)[reason ? "known" : "fresh"] += 1;
@@ -177,15 +199,13 @@ function main() {
   const told = words();
   const [rows, column] = [new Map(), columns()];
   let [looked, wider] = [0, 0];
-  for (const [name, program, input] of answers(told)) {
+  for (const [name, passes] of answers(told)) {
     looked += 1;
-    look(rows, column, [name, program], told.all);
-    if (!isWider(input, program)) continue;
-    wider += 1;
-    console.log(`WIDER: ${cut(name)}\n    ${cut(shown(program))}`);
+    look(rows, column, [name, passes], told.all);
+    wider += tellWider(name, passes);
   }
   summary(rows, looked);
-  console.log(`${wider} changed though no row reads anything in them`);
+  console.log(`${wider} parts changed though no row reads anything in them or around them`);
   process.exitCode = [...rows.values()].some(({ fresh }) => fresh > 0) ? 1 : 0;
 }
 
