@@ -8,7 +8,7 @@ use Rattle.mini_model.specs.Tree.{Tree, node, shape_of}
 use Rattle.mini_model.specs.declared.place.Position.{Position}
 use Rattle.mini_model.specs.declared.place.Position.TheVariants.{Expr}
 use Rattle.mini_node.specs.Children.{names_of}
-use Rattle.mini_rows.specs.Spellings.{IsUndefined, PlainForm, Row19, Row33, Row33Assigned, Row33Name, Row33Number, Row33Updated, Row54, Row55, Row55Value, Row58Left, Row58Right, Row60Yield, Row65, SpellingRow, a_big_int, a_boolean, a_null, a_number, a_template, a_text, a_void, is_awkward_left, is_inner, negated_digit, plain}
+use Rattle.mini_rows.specs.Spellings.{IsUndefined, PlainForm, Row19, Row33, Row33Assigned, Row33Name, Row33Number, Row33Updated, Row54, Row55, Row55Value, Row58Left, Row58Right, Row60Yield, Row65, SpellingRow, a_big_int, a_boolean, a_null, a_number, a_template, a_text, a_void, is_awkward_left, is_inner, negated_digit, plain, ShortBoolean, DottedMember, DottedTarget, DottedUpdate, LooseLeft, LooseRight, SwappedEquality, BareYield, OrderedTypeof, PlainTemplate, ComparedWithVoid, Stepped}
 use Rattle.std.proofs.Common.{ap, inl, inr}
 use Rattle.std.specs.Prelude.{Bool, false, refl, true, ◌≡◌}
 use Rattle.mini_model.specs.declared.shape.Shape.TheVariants as shape
@@ -159,15 +159,15 @@ row65_again ρ n w r = record {
 }
 
 pub spelling_row_again : (ρ : Renaming) (p : Position) (n w : Tree) → SpellingRow p n w → SpellingRow p (again ρ n) (again ρ w)
-spelling_row_again ρ (Expr s) n w (inl r) = inl (row65_again ρ n w r)
-spelling_row_again ρ (Expr s) n w (inr (inl r)) = inr (inl (row33_again ρ n w r))
-spelling_row_again ρ (Expr s) n w (inr (inr (inl r))) = inr (inr (inl (row33_assigned_again ρ n w r)))
-spelling_row_again ρ (Expr s) n w (inr (inr (inr (inl r)))) = inr (inr (inr (inl (row33_updated_again ρ n w r))))
-spelling_row_again ρ (Expr s) n w (inr (inr (inr (inr (inl r))))) = inr (inr (inr (inr (inl (row58_left_again ρ n w r)))))
-spelling_row_again ρ (Expr s) n w (inr (inr (inr (inr (inr (inl r)))))) = inr (inr (inr (inr (inr (inl (row58_right_again ρ n w r))))))
-spelling_row_again ρ (Expr s) n w (inr (inr (inr (inr (inr (inr (inl r))))))) = inr (inr (inr (inr (inr (inr (inl (row54_again ρ n w r)))))))
-spelling_row_again ρ (Expr s) n w (inr (inr (inr (inr (inr (inr (inr (inl r)))))))) = inr (inr (inr (inr (inr (inr (inr (inl (row60_yield_again ρ n w r))))))))
-spelling_row_again ρ (Expr s) n w (inr (inr (inr (inr (inr (inr (inr (inr (inl r))))))))) = inr (inr (inr (inr (inr (inr (inr (inr (inl (row55_again ρ n w r)))))))))
-spelling_row_again ρ (Expr s) n w (inr (inr (inr (inr (inr (inr (inr (inr (inr (inl r)))))))))) = inr (inr (inr (inr (inr (inr (inr (inr (inr (inl (row19_again ρ n w r))))))))))
-spelling_row_again ρ (Expr s) n w (inr (inr (inr (inr (inr (inr (inr (inr (inr (inr r)))))))))) = inr (inr (inr (inr (inr (inr (inr (inr (inr (inr (row55_value_again ρ n w r))))))))))
+spelling_row_again ρ (Expr s) n w (ShortBoolean r) = ShortBoolean (row65_again ρ n w r)
+spelling_row_again ρ (Expr s) n w (DottedMember r) = DottedMember (row33_again ρ n w r)
+spelling_row_again ρ (Expr s) n w (DottedTarget r) = DottedTarget (row33_assigned_again ρ n w r)
+spelling_row_again ρ (Expr s) n w (DottedUpdate r) = DottedUpdate (row33_updated_again ρ n w r)
+spelling_row_again ρ (Expr s) n w (LooseLeft r) = LooseLeft (row58_left_again ρ n w r)
+spelling_row_again ρ (Expr s) n w (LooseRight r) = LooseRight (row58_right_again ρ n w r)
+spelling_row_again ρ (Expr s) n w (SwappedEquality r) = SwappedEquality (row54_again ρ n w r)
+spelling_row_again ρ (Expr s) n w (BareYield r) = BareYield (row60_yield_again ρ n w r)
+spelling_row_again ρ (Expr s) n w (OrderedTypeof r) = OrderedTypeof (row55_again ρ n w r)
+spelling_row_again ρ (Expr s) n w (PlainTemplate r) = PlainTemplate (row19_again ρ n w r)
+spelling_row_again ρ (Expr s) n w (ComparedWithVoid r) = ComparedWithVoid (row55_value_again ρ n w r)
 spelling_row_again ρ p0 n w r = absurd r

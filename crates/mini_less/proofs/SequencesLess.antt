@@ -12,7 +12,6 @@ use Rattle.mini_model.specs.Paths.{append}
 use Rattle.mini_model.specs.Tree.{Tree, Trees, node, none, ◌▸◌, listed, shape_of}
 use Rattle.mini_accept.specs.WellShaped.{Slot, fits}
 use Rattle.mini_laws.specs.ScopeList.{is_eval, is_eval_callee}
-use Rattle.mini_rows.specs.Decrements.{is_spelled}
 use Rattle.mini_rows.specs.Lists.{sequence}
 use Rattle.mini_rows.specs.Sequences.{conversion_operator, Operation, Decides, Chooses, Negates, Operates, Converts, Yields, over, along, stays_alone, Row21, SequenceRow, SequenceContracts}
 use Rattle.mini_rows.specs.Sketches.{Unary, Binary, Logical, Conditional, Sequence, Yield, part, list, end, ◌▹◌, no_items, item, Asked, AsValue}
@@ -21,6 +20,7 @@ use Rattle.mini_less.specs.Families.{LessAt, SequencesReadLess}
 use Rattle.mini_less.proofs.LessRows.{reads_less_by}
 use Rattle.mini_less.proofs.Made.{ByParts}
 use Rattle.mini_less.proofs.Nodes.{unary_part, a_unary, binary_parts, a_binary, logical_parts, a_logical, conditional_parts, a_conditional, sequence_parts, a_sequence, firsts, lasts, both_of, made_under, part_of, MadeOf, Uncalled, seats}
+use Rattle.mini_rows.specs.Folding.{is_spelled}
 
 -- 20: another operand may stand in the place of the first
 module _ (Q : Asked → Tree → Type 0) (l : ByParts Q) where

@@ -9,7 +9,7 @@ use Rattle.mini_model.specs.declared.shape.Shape.TheVariants as shape
 use Rattle.std.specs.Fmt.{signed_decimal}
 use Rattle.mini_model.specs.Tree.{Tree, node, none, ◌▸◌, listed, unary, absent, null_literal}
 use Rattle.mini_rows.specs.Sketches.{AbsentPart, BooleanValue, String, PropertyName, Unary, Binary, StaticMember, ComputedMember, Yield, Template, Assignment, Update, Asked, AsValue, AsWord, target_asked}
-use Rattle.mini_rows.specs.Spellings.{text, numeral, key, boolean, void_zero, negated_digit, computed_member, static_member, plain, typeof_name, ordered, strict_operator, Row33Name, Row33Number, Row33, Row33Assigned, Row33Updated, Row58Left, Row58Right, Row54, Row60Yield, Row55, Row55Value, Row19, SpellingRow, SpellingContracts}
+use Rattle.mini_rows.specs.Spellings.{text, numeral, key, boolean, void_zero, negated_digit, computed_member, static_member, plain, typeof_name, ordered, strict_operator, Row33Name, Row33Number, Row33, Row33Assigned, Row33Updated, Row58Left, Row58Right, Row54, Row60Yield, Row55, Row55Value, Row19, SpellingRow, SpellingContracts, ShortBoolean, DottedMember, DottedTarget, DottedUpdate, LooseLeft, LooseRight, SwappedEquality, BareYield, OrderedTypeof, PlainTemplate, ComparedWithVoid, Stepped}
 use Rattle.mini_less.specs.Families.{LessAt, SpellingsReadLess}
 use Rattle.mini_less.proofs.LessRows.{reads_less_by}
 use Rattle.mini_less.proofs.Made.{ByParts}
@@ -79,18 +79,18 @@ module _ (q : Seat) (n w : Tree) where
   text_less r = made_under q n w Template (listed (node (shape.TemplateElement r.is_tail r.raw (Some r.content)) [] 0 none ▸ none) ▸ listed none ▸ none) refl r.shape tt (String r.content) none refl r.written (λ strict x k Q l y. subst (Q AsValue) (sym r.written) (a_text Q l r.content))
 
 row_less : (p : Position) (n w : Tree) → SpellingRow p n w → LessAt p n w
-row_less (Expr q) n w (inl r) = boolean_less q n w r.value r.shape r.written
-row_less (Expr q) n w (inr (inl (inl r))) = name_less q n w r
-row_less (Expr q) n w (inr (inl (inr r))) = number_less q n w r
-row_less (Expr q) n w (inr (inr (inl r))) = assigned_less q n w r
-row_less (Expr q) n w (inr (inr (inr (inl r)))) = updated_less q n w r
-row_less (Expr q) n w (inr (inr (inr (inr (inl r))))) = left_less q n w r
-row_less (Expr q) n w (inr (inr (inr (inr (inr (inl r)))))) = right_less q n w r
-row_less (Expr q) n w (inr (inr (inr (inr (inr (inr (inl r))))))) = swapped_less q n w r
-row_less (Expr q) n w (inr (inr (inr (inr (inr (inr (inr (inl r)))))))) = yield_less q n w r
-row_less (Expr q) n w (inr (inr (inr (inr (inr (inr (inr (inr (inl r))))))))) = typeof_less q n w r
-row_less (Expr q) n w (inr (inr (inr (inr (inr (inr (inr (inr (inr (inl r)))))))))) = text_less q n w r
-row_less (Expr q) n w (inr (inr (inr (inr (inr (inr (inr (inr (inr (inr r)))))))))) = value_less q n w r
+row_less (Expr q) n w (ShortBoolean r) = boolean_less q n w r.value r.shape r.written
+row_less (Expr q) n w (DottedMember (inl r)) = name_less q n w r
+row_less (Expr q) n w (DottedMember (inr r)) = number_less q n w r
+row_less (Expr q) n w (DottedTarget r) = assigned_less q n w r
+row_less (Expr q) n w (DottedUpdate r) = updated_less q n w r
+row_less (Expr q) n w (LooseLeft r) = left_less q n w r
+row_less (Expr q) n w (LooseRight r) = right_less q n w r
+row_less (Expr q) n w (SwappedEquality r) = swapped_less q n w r
+row_less (Expr q) n w (BareYield r) = yield_less q n w r
+row_less (Expr q) n w (OrderedTypeof r) = typeof_less q n w r
+row_less (Expr q) n w (PlainTemplate r) = text_less q n w r
+row_less (Expr q) n w (ComparedWithVoid r) = value_less q n w r
 row_less p n w r = absurd r
 
 pub spellings_read_less : SpellingsReadLess

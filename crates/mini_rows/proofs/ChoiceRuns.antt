@@ -52,7 +52,7 @@ pub by_value : (n w : Tree) → Tells n → Tells w → summary n ≡ summary w 
 by_value n w t u alike h = record { by = λ e q r s. t.by e q r s ∙ ap (asked q r) (h e s) ∙ sym (u.by e q r s); read = alike }
 
 -- a command, and what follows its value
-after_value : {A : Type 0} (e : Environment) (names : Naming) (q : ℕ → Demand) (K : Kids q) (c : Command q Value) (f : Value → Command q A) (s : State) → run {q = q} e names K (bind c f) s ≡ either (run {q = q} e names K (bind c (λ v. ret v)) s) (λ v z. run {q = q} e names K (f v) z) (λ x z. stop x z)
+pub after_value : {A : Type 0} (e : Environment) (names : Naming) (q : ℕ → Demand) (K : Kids q) (c : Command q Value) (f : Value → Command q A) (s : State) → run {q = q} e names K (bind c f) s ≡ either (run {q = q} e names K (bind c (λ v. ret v)) s) (λ v z. run {q = q} e names K (f v) z) (λ x z. stop x z)
 after_value e names q K c f s = run_bind e names c f K s ∙ sym (ap (λ x. either x (λ v z. run {q = q} e names K (f v) z) (λ x z. stop x z)) (run_bind e names c (λ v. ret v) K s ∙ either_eta (run {q = q} e names K c s)))
 
 conditional_told : (a b c : Tree) (e : Environment) (q : Demand) (r : Request q) (s : State) → means e (conditional a b c) q r s ≡ asked q r (value e (conditional a b c) s)

@@ -1,31 +1,45 @@
--- `x -= 1` does what `--x` does.
-use Rattle.std.proofs.Common.{◌≡◌, Bool, true, false, [], refl, sym, ap, ◌∙◌, inr}
-use Rattle.std.specs.Prelude.{ℤ, pos, negsuc, ◌-ℤ◌}
-use Rattle.mini_model.specs.declared.name.Name.{Name}
-use Rattle.mini_model.specs.declared.operator.AssignmentOperator.TheVariants as assigning
+-- `t -= 1` does what `--t` does, whatever is assigned to.
+use Rattle.std.proofs.Common.{◌≡◌, true, refl, sym, ap, ◌∙◌}
+use Rattle.std.specs.Prelude.{ℤ, pos, negsuc, ◌-ℤ◌, []}
+use Rattle.mini_model.specs.declared.operator.AssignmentOperator.TheVariants.{Subtraction}
 use Rattle.mini_model.specs.declared.operator.BinaryOperator.TheVariants as binary_operator
 use Rattle.mini_model.specs.declared.operator.UpdateOperator.{UpdateOperator}
 use Rattle.mini_model.specs.declared.operator.UpdateOperator.TheVariants.{Increment, Decrement}
 use Rattle.mini_model.specs.declared.shape.Shape.TheVariants as shape
-use Rattle.mini_model.specs.Tree.{none, ◌▸◌, identifier}
+use Rattle.mini_model.specs.Tree.{Tree, none, ◌▸◌}
 use Rattle.mini_laws.specs.Value.{Value, Number, choose}
-use Rattle.mini_laws.specs.State.{State, Stop, ok, stop, either, Environment}
-use Rattle.mini_laws.specs.Demand.{Val, Target, Unused, As, AName, Put}
+use Rattle.mini_laws.specs.State.{Item, State, ok, stop, either, Environment}
+use Rattle.mini_laws.specs.Demand.{Val, Demand, As, Callee, OfType, Deleted, Target, AnEntry, AValue, Prepare, Fetch, Put, Reference, Request, plain_call}
 use Rattle.mini_laws.specs.Command.{Naming, Command, ret, kid, then, bind, Kids, run}
 use Rattle.mini_laws.specs.Naming.{summaries, naming}
 use Rattle.mini_laws.specs.Replies.{reply, of_made, numeric, operate}
-use Rattle.mini_laws.specs.Conversion.{makes, outside}
+use Rattle.mini_laws.specs.Conversion.{Made}
 use Rattle.mini_laws.specs.Operators.{safe_number}
-use Rattle.mini_laws.specs.Targets.{changed}
+use Rattle.mini_laws.specs.Targets.{AssignDemand, put_target, after_read, changed, update_step}
 use Rattle.mini_laws.specs.Step.{step, means, meaning}
-use Rattle.mini_laws.specs.Truth.{told}
 use Rattle.mini_laws.proofs.Runs.{either_cong, either_assoc, either_ok, run_bind}
 use Rattle.mini_laws.proofs.Truth.{coherent}
-use Rattle.mini_rows.specs.Decrements.{amount, subtracts, steps}
-use Rattle.mini_rows.proofs.ChoiceRuns.{value, puts, fetched, sides, binary_names, written_out, computing_value, numeric_free}
-use Rattle.mini_rows.proofs.Weaker.{Weaker}
+use Rattle.mini_rows.specs.Spellings.{amount, subtracts, steps, update}
+use Rattle.mini_rows.proofs.ChoiceRuns.{value, asked, Tells, by_value, after_value, assignment_tells, bind_free, made_free, numeric_free}
+use Rattle.mini_rows.proofs.SpellAlike.{SameTree}
 
--- what is subtracted
+-- ---- an update tells all that is asked of it by its value
+
+update_told : (o : UpdateOperator) (t : Tree) (e : Environment) (q : Demand) (r : Request q) (s : State) → means e (update o true t) q r s ≡ asked q r (value e (update o true t) s)
+unfolding means meaning step asked
+update_told o t e (As w) r s = coherent (update o true t) w e s
+update_told o t e Callee r s = after_value e (naming (shape.UpdateExpression o true) Callee [] 0 (summaries (t ▸ none))) (λ i. Target) (λ i r z. meaning e (t ▸ none) i Target r z) (update_step o true) (λ v. ret (plain_call v)) s
+update_told o t e OfType r s = after_value e (naming (shape.UpdateExpression o true) OfType [] 0 (summaries (t ▸ none))) (λ i. Target) (λ i r z. meaning e (t ▸ none) i Target r z) (update_step o true) (λ v. ret v) s
+update_told o t e Deleted r s = after_value e (naming (shape.UpdateExpression o true) Deleted [] 0 (summaries (t ▸ none))) (λ i. Target) (λ i r z. meaning e (t ▸ none) i Target r z) (update_step o true) (λ v. ret (AValue v)) s
+update_told o t e AnEntry r s = after_value e (naming (shape.UpdateExpression o true) AnEntry [] 0 (summaries (t ▸ none))) (λ i. Target) (λ i r z. meaning e (t ▸ none) i Target r z) (update_step o true) (λ v. ret (Item v)) s
+update_told o t e q r s = refl
+
+update_tells : (o : UpdateOperator) (t : Tree) → Tells (update o true t)
+update_tells o t = record { by = update_told o t }
+
+-- ---- the two do the same
+
+-- the number that is subtracted
 abbrev number_of : UpdateOperator → ℤ
 number_of Decrement = pos 1
 number_of Increment = negsuc 0
@@ -35,62 +49,65 @@ unfolding means meaning step either
 amount_is e Decrement s = refl
 amount_is e Increment s = refl
 
-module _ (e : Environment) (o : UpdateOperator) (x : Name) where
-  abbrev subtracted_names : Naming
-  subtracted_names = binary_names binary_operator.Subtraction (identifier x) (amount o)
+module _ (e : Environment) (o : UpdateOperator) (t : Tree) where
+  abbrev subtracting : Naming
+  subtracting = naming (shape.AssignmentExpression Subtraction) (As Val) [] 0 (summaries (t ▸ amount o ▸ none))
 
-  abbrev subtracted_sides : Kids (λ i. As Val)
-  subtracted_sides = sides e (identifier x) (amount o)
+  abbrev subtracting_kids : Kids AssignDemand
+  subtracting_kids i r z = meaning e (t ▸ amount o ▸ none) i (AssignDemand i) r z
 
-  abbrev stepped_names : Naming
-  stepped_names = naming (shape.UpdateExpression o true) (As Val) [] 0 (summaries (identifier x ▸ none))
+  abbrev stepping : Naming
+  stepping = naming (shape.UpdateExpression o true) (As Val) [] 0 (summaries (t ▸ none))
 
-  abbrev stepped_kids : Kids (λ i. Target)
-  stepped_kids i r z = meaning e (identifier x ▸ none) i Target r z
+  abbrev stepping_kids : Kids (λ i. Target)
+  stepping_kids i r z = meaning e (t ▸ none) i Target r z
 
-  -- what is put to the name is the value of the whole
-  abbrev put_back : ℤ → Value → Command (λ i. Target) Value
-  put_back n v = kid 0 (Put AName v) (then (λ u. ret (choose true v (Number n))))
+  -- a command of the one and a command of the other that do the same
+  abbrev Both : {A : Type 0} → Command AssignDemand A → Command (λ i. Target) A → Type 0
+  Both c d = (z : State) → run {q = AssignDemand} e subtracting subtracting_kids c z ≡ run {q = λ i. Target} e stepping stepping_kids d z
 
-  -- of a difference that is safe, or isn't
-  made : (b : Bool) (n : ℤ) (v : Value) (z : State) → puts e x (run {q = λ i. As Val} e subtracted_names subtracted_sides (of_made (choose b (makes v) outside)) z) ≡ run {q = λ i. Target} e stepped_names stepped_kids (bind (bind (of_made (choose b (makes v) outside)) (put_back n)) (reply (As Val) tt)) z
-  unfolding either meaning
-  made true n v z = refl
-  made false n v z = refl
+  module _ (reference : Reference) where
+    -- the value is put to the target, and is the value of the whole
+    abbrev put_back : ℤ → Value → Command (λ i. Target) Value
+    put_back n v = kid 0 (Put reference v) (then (λ u. ret (choose true v (Number n))))
 
-  difference : (n : ℤ) (z : State) → puts e x (run {q = λ i. As Val} e subtracted_names subtracted_sides (of_made (safe_number (n -ℤ number_of o))) z) ≡ run {q = λ i. Target} e stepped_names stepped_kids (bind (bind (of_made (safe_number (changed o n))) (put_back n)) (reply (As Val) tt)) z
-  difference n z = by o
-    where
-      by : (o : UpdateOperator) → puts e x (run {q = λ i. As Val} e subtracted_names subtracted_sides (of_made (safe_number (n -ℤ number_of o))) z) ≡ run {q = λ i. Target} e stepped_names stepped_kids (bind (bind (of_made (safe_number (changed o n))) (put_back n)) (reply (As Val) tt)) z
-      by Decrement = made _ n (Number (n -ℤ pos 1)) z
-      by Increment = made _ n (Number (n -ℤ negsuc 0)) z
+    put_alike : (n : ℤ) (v : Value) → Both (put_target reference v) (put_back n v)
+    unfolding meaning
+    put_alike n v z = refl
 
-  both_stop : (y : Stop) (k : State) → puts e x (stop y k) ≡ either {A = Value} (stop y k) (λ w k. run {q = λ i. Target} e stepped_names stepped_kids (reply (As Val) tt w) k) (λ y k. stop y k)
-  unfolding either
-  both_stop y k = refl
+    made_alike : (n : ℤ) (x : Made Value) → Both (bind (of_made x) (put_target reference)) (bind (of_made x) (put_back n))
+    made_alike n x = bind_free e subtracting stepping AssignDemand (λ i. Target) subtracting_kids stepping_kids (of_made x) (of_made x) (put_target reference) (put_back n) (made_free e subtracting stepping AssignDemand (λ i. Target) subtracting_kids stepping_kids x) (put_alike n)
 
-  -- of the old value
-  stepped : (v : Value) (z : State) → puts e x (run {q = λ i. As Val} e subtracted_names subtracted_sides (operate binary_operator.Subtraction v (Number (number_of o))) z) ≡ run {q = λ i. Target} e stepped_names stepped_kids (bind (bind (numeric v) (λ n. bind (of_made (safe_number (changed o n))) (put_back n))) (reply (As Val) tt)) z
-  stepped v z =
-      ap (puts e x) (run_bind e subtracted_names (numeric v) (λ n. of_made (safe_number (n -ℤ number_of o))) subtracted_sides z)
-      ∙ either_assoc (run {q = λ i. As Val} e subtracted_names subtracted_sides (numeric v) z) _ _ _ _
-      ∙ ap (λ y. either y (λ n k. puts e x (run {q = λ i. As Val} e subtracted_names subtracted_sides (of_made (safe_number (n -ℤ number_of o))) k)) (λ s k. puts e x (stop s k))) (numeric_free e subtracted_names stepped_names (λ i. As Val) (λ i. Target) subtracted_sides stepped_kids v z)
-      ∙ either_cong (run {q = λ i. Target} e stepped_names stepped_kids (numeric v) z) _ _ _ _ (λ n k. difference n k ∙ run_bind e stepped_names (bind (of_made (safe_number (changed o n))) (put_back n)) (reply (As Val) tt) stepped_kids k) (λ s k. both_stop s k)
-      ∙ sym (ap (λ y. either y (λ w k. run {q = λ i. Target} e stepped_names stepped_kids (reply (As Val) tt w) k) (λ s k. stop s k)) (run_bind e stepped_names (numeric v) (λ n. bind (of_made (safe_number (changed o n))) (put_back n)) stepped_kids z) ∙ either_assoc (run {q = λ i. Target} e stepped_names stepped_kids (numeric v) z) _ _ _ _)
-      ∙ sym (run_bind e stepped_names (bind (numeric v) (λ n. bind (of_made (safe_number (changed o n))) (put_back n))) (reply (As Val) tt) stepped_kids z)
+    difference : (p : UpdateOperator) (n : ℤ) → Both (bind (of_made (safe_number (n -ℤ number_of p))) (put_target reference)) (bind (of_made (safe_number (changed p n))) (put_back n))
+    difference Decrement n = made_alike n (safe_number (n -ℤ pos 1))
+    difference Increment n = made_alike n (safe_number (n -ℤ negsuc 0))
 
-  steps_value : (s : State) → value e (steps o x) s ≡ either (value e (identifier x) s) (λ v z. run {q = λ i. Target} e stepped_names stepped_kids (bind (bind (numeric v) (λ n. bind (of_made (safe_number (changed o n))) (put_back n))) (reply (As Val) tt)) z) (λ y z. stop y z)
+    -- of the old value
+    stepped : (v : Value) → Both (bind (operate binary_operator.Subtraction v (Number (number_of o))) (put_target reference)) (bind (numeric v) (λ n. bind (of_made (safe_number (changed o n))) (put_back n)))
+    unfolding either
+    stepped v z =
+        run_bind e subtracting (operate binary_operator.Subtraction v (Number (number_of o))) (put_target reference) subtracting_kids z
+        ∙ ap (λ y. either y (λ u k. run {q = AssignDemand} e subtracting subtracting_kids (put_target reference u) k) (λ x k. stop x k)) (run_bind e subtracting (numeric v) (λ n. of_made (safe_number (n -ℤ number_of o))) subtracting_kids z)
+        ∙ either_assoc (run {q = AssignDemand} e subtracting subtracting_kids (numeric v) z) _ _ _ _
+        ∙ ap (λ y. either y (λ n k. either (run {q = AssignDemand} e subtracting subtracting_kids (of_made (safe_number (n -ℤ number_of o))) k) (λ u k. run {q = AssignDemand} e subtracting subtracting_kids (put_target reference u) k) (λ x k. stop x k)) (λ x k. stop x k)) (numeric_free e subtracting stepping AssignDemand (λ i. Target) subtracting_kids stepping_kids v z)
+        ∙ either_cong (run {q = λ i. Target} e stepping stepping_kids (numeric v) z) _ _ _ _ (λ n k. sym (run_bind e subtracting (of_made (safe_number (n -ℤ number_of o))) (put_target reference) subtracting_kids k) ∙ difference o n k) (λ x k. refl)
+        ∙ sym (run_bind e stepping (numeric v) (λ n. bind (of_made (safe_number (changed o n))) (put_back n)) stepping_kids z)
+
+  -- and so where it is replied
+  replied : (reference : Reference) (v : Value) → Both (bind (bind (operate binary_operator.Subtraction v (Number (number_of o))) (put_target reference)) (reply (As Val) tt)) (bind (bind (numeric v) (λ n. bind (of_made (safe_number (changed o n))) (put_back reference n))) (reply (As Val) tt))
+  replied reference v = bind_free e subtracting stepping AssignDemand (λ i. Target) subtracting_kids stepping_kids _ _ (reply (As Val) tt) (reply (As Val) tt) (stepped reference v) (λ u z. refl)
+
+  -- behind the old value: the number is read, and nothing else happens
+  counted : (reference : Reference) (v : Value) (z : State) → either (value e (amount o) z) (λ u k. run {q = AssignDemand} e subtracting subtracting_kids (bind (bind (operate binary_operator.Subtraction v u) (put_target (after_read reference))) (reply (As Val) tt)) k) (λ x k. stop x k) ≡ run {q = λ i. Target} e stepping stepping_kids (bind (bind (numeric v) (λ n. bind (of_made (safe_number (changed o n))) (put_back (after_read reference) n))) (reply (As Val) tt)) z
+  counted reference v z =
+      ap (λ y. either y (λ u k. run {q = AssignDemand} e subtracting subtracting_kids (bind (bind (operate binary_operator.Subtraction v u) (put_target (after_read reference))) (reply (As Val) tt)) k) (λ x k. stop x k)) (amount_is e o z)
+      ∙ either_ok (Number (number_of o)) z _ _
+      ∙ replied (after_read reference) v z
+
+  -- ECMA-262, "Assignment Operators" and "Update Expressions": the target is prepared and read
+  step_value : (s : State) → value e (subtracts o t) s ≡ value e (steps o t) s
   unfolding means meaning step either
-  steps_value s = ap (λ y. either y (λ v z. run {q = λ i. Target} e stepped_names stepped_kids (bind (bind (numeric v) (λ n. bind (of_made (safe_number (changed o n))) (put_back n))) (reply (As Val) tt)) z) (λ y z. stop y z)) (fetched e x AName s)
+  step_value s = either_cong (means e t Target Prepare s) _ _ _ _ (λ reference z. either_cong (means e t Target (Fetch reference) z) _ _ _ _ (λ v k. counted reference v k) (λ x k. refl)) (λ x z. refl)
 
-  -- ECMA-262, "Assignment Operators" and "Update Expressions"
-  pub step_value : (s : State) → value e (subtracts o x) s ≡ value e (steps o x) s
-  step_value s =
-      sym (computing_value e binary_operator.Subtraction assigning.Subtraction refl x (amount o) s)
-      ∙ written_out e binary_operator.Subtraction x (amount o) s
-      ∙ either_cong (value e (identifier x) s) _ _ _ _ (λ v z. ap (λ y. either y (λ u k. puts e x (run {q = λ i. As Val} e subtracted_names subtracted_sides (operate binary_operator.Subtraction v u) k)) (λ y k. stop y k)) (amount_is e o z) ∙ either_ok (Number (number_of o)) z _ _ ∙ stepped v z) (λ y z. refl)
-      ∙ sym (steps_value s)
-
--- so where nobody asks for the value
-pub step_unused : (o : UpdateOperator) (x : Name) (e : Environment) (s : State) → Weaker (means e (subtracts o x) (As Unused) tt s) (means e (steps o x) (As Unused) tt s)
-step_unused o x e s = inr (coherent (subtracts o x) Unused e s ∙ ap (told Unused) (step_value e o x s) ∙ sym (coherent (steps o x) Unused e s))
+pub step_same : (o : UpdateOperator) (t : Tree) → SameTree (subtracts o t) (steps o t)
+step_same o t = by_value (subtracts o t) (steps o t) (assignment_tells Subtraction t (amount o)) (update_tells o t) refl (λ e s. step_value e o t s)

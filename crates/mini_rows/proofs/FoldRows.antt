@@ -43,13 +43,11 @@ places p n w r = absurd r
 -- a `for` without a part of its head
 part_read : (n w : Tree) → ForPartRow n w → is_read (shape_of n) ≡ true
 part_read n w (inl r) = ap (λ t. is_read (shape_of t)) r.shape
-part_read n w (inr (inl r)) = ap (λ t. is_read (shape_of t)) r.shape
-part_read n w (inr (inr r)) = ap (λ t. is_read (shape_of t)) r.shape
+part_read n w (inr r) = ap (λ t. is_read (shape_of t)) r.shape
 
 part_plain : (n w : Tree) → ForPartRow n w → (is_plain (shape_of n) ≡ true) × (is_plain (shape_of w) ≡ true)
 part_plain n w (inl r) = (ap (λ t. is_plain (shape_of t)) r.shape, ap (λ t. is_plain (shape_of t)) r.written)
-part_plain n w (inr (inr r)) = (ap (λ t. is_plain (shape_of t)) r.shape, ap (λ t. is_plain (shape_of t)) r.written)
-part_plain n w (inr (inl r)) = (ap (λ t. is_plain (shape_of t)) r.shape, ap (λ t. is_plain (shape_of t)) r.written)
+part_plain n w (inr r) = (ap (λ t. is_plain (shape_of t)) r.shape, ap (λ t. is_plain (shape_of t)) r.written)
 
 row_fits : (p : Position) (n w : Tree) → FoldingRow p n w → (strict : Bool) (s : Slot) → fits_place p s ≡ true → fits strict s n ≡ true → fits strict s w ≡ true
 row_fits (Expr q) n w (inl r) strict s k e = let (takes, first, second) = operands strict s r.operator r.left r.right (subst (λ t. fits strict s t ≡ true) r.shape e) in subst (λ t. fits strict s t ≡ true) (sym r.written) (expression_taken strict s r.right takes second)

@@ -30,7 +30,6 @@ use Rattle.mini_rows.proofs.ChoiceWeights.{name_heavy}
 use Rattle.mini_model.specs.declared.operator.UpdateOperator.{UpdateOperator}
 use Rattle.mini_model.specs.declared.operator.UpdateOperator.TheVariants.{Increment, Decrement}
 use Rattle.mini_rows.specs.Lists.{for_loop}
-use Rattle.mini_rows.specs.Decrements.{subtracts, steps}
 use Rattle.mini_rows.specs.ForParts.{ForPartRow}
 use Rattle.mini_rows.proofs.ForPartMeaning.{idle_is}
 use Rattle.mini_rows.proofs.FoldMeaning.{plain_of, number_of}
@@ -241,21 +240,14 @@ branch_zero s a (node h xs n ts) k = inl refl
 statement_falls : (q : StmtSeat) (a : Tree) → weight (Stmt q) empty_statement < weight (Stmt q) (expression_statement a)
 statement_falls q a = omega arith
 
--- 36: an operator and a 1 go for another operator
-step_falls : (q : StmtSeat) (o : UpdateOperator) (x : Name) (i t b : Tree) → weight (Stmt q) (for_loop i t (steps o x) b) < weight (Stmt q) (for_loop i t (subtracts o x) b)
-step_falls q Decrement x i t b = let there = numeral_there (pos 1) in omega (arith, there)
-step_falls q Increment x i t b = let there = numeral_there (negsuc 0) in omega (arith, there)
-
 -- 22: a part of the head of a `for` goes
 part_falls : (q : StmtSeat) (n w : Tree) → ForPartRow n w → weight (Stmt q) w < weight (Stmt q) n
 part_falls q n w (inl r) = let heavy = two statement_expression_seat r.init (idle_is r.init r.idle).heavy in omega (arith, heavy, ap (weight (Stmt q)) r.shape, ap (weight (Stmt q)) r.written)
-part_falls q n w (inr (inr r)) = omega (arith, step_falls q r.operator r.name r.init r.test r.body, ap (weight (Stmt q)) r.shape, ap (weight (Stmt q)) r.written)
-part_falls q n w (inr (inl r)) = let heavy = two statement_expression_seat r.update (idle_is r.update r.idle).heavy in omega (arith, heavy, ap (weight (Stmt q)) r.shape, ap (weight (Stmt q)) r.written)
+part_falls q n w (inr r) = let heavy = two statement_expression_seat r.update (idle_is r.update r.idle).heavy in omega (arith, heavy, ap (weight (Stmt q)) r.shape, ap (weight (Stmt q)) r.written)
 
 part_outline : (n w : Tree) → ForPartRow n w → outline n ≡ outline w
 part_outline n w (inl r) = ap outline r.shape ∙ sym (ap outline r.written)
-part_outline n w (inr (inr r)) = ap outline r.shape ∙ sym (ap outline r.written)
-part_outline n w (inr (inl r)) = ap outline r.shape ∙ sym (ap outline r.written)
+part_outline n w (inr r) = ap outline r.shape ∙ sym (ap outline r.written)
 
 pub lighter : FoldingsLighter
 lighter (Expr s) n w (inl r) = falls_by (Expr s) n w _ _ r.shape r.written (right_falls r.operator s r.left r.right r.heavy (plain_of s r.right r.stays))

@@ -25,8 +25,6 @@ use Rattle.mini_terms.proofs.EffectsTable.{effect_free_sound}
 use Rattle.mini_rows.specs.Lists.{for_loop}
 use Rattle.mini_rows.specs.ForParts.{is_idle, ForPartRow}
 use Rattle.mini_rows.proofs.PlainRead.{plain_summary, plain_read}
-use Rattle.mini_rows.specs.Decrements.{subtracts, steps}
-use Rattle.mini_rows.proofs.DecrementMeaning.{step_unused}
 use Rattle.mini_rows.proofs.ListHeads.{for_names}
 use Rattle.mini_rows.proofs.Weaker.{Weaker, weaker_run, weaker_goes}
 
@@ -138,15 +136,11 @@ parts_same q n w (inl r) =
     let idle = idle_is r.init r.idle in
     subst (λ t. SameAt (Stmt q) t w) (sym r.shape) (subst (SameAt (Stmt q) (for_loop r.init r.test r.update r.body)) (sym r.written)
     (weaker_same q (for_loop r.init r.test r.update r.body) (for_loop absent r.test r.update r.body) (λ e x l s. init_weaker e r.init absent r.test r.update r.body (like_nothing r.init idle.effect_free e) (plain_read r.init idle.plain) x l s refl)))
-parts_same q n w (inr (inr r)) =
-    subst (λ t. SameAt (Stmt q) t w) (sym r.shape) (subst (SameAt (Stmt q) (for_loop r.init r.test (subtracts r.operator r.name) r.body)) (sym r.written)
-    (weaker_same q (for_loop r.init r.test (subtracts r.operator r.name) r.body) (for_loop r.init r.test (steps r.operator r.name) r.body) (λ e x l s. update_weaker e r.init r.test (subtracts r.operator r.name) (steps r.operator r.name) r.body (step_unused r.operator r.name e) x l s)))
-parts_same q n w (inr (inl r)) =
+parts_same q n w (inr r) =
     let idle = idle_is r.update r.idle in
     subst (λ t. SameAt (Stmt q) t w) (sym r.shape) (subst (SameAt (Stmt q) (for_loop r.init r.test r.update r.body)) (sym r.written)
     (weaker_same q (for_loop r.init r.test r.update r.body) (for_loop r.init r.test absent r.body) (λ e x l s. update_weaker e r.init r.test r.update absent r.body (like_nothing r.update idle.effect_free e) x l s)))
 
 pub parts_read : (n w : Tree) → ForPartRow n w → summary n ≡ summary w
 parts_read n w (inl r) = ap summary r.shape ∙ sym (ap summary r.written)
-parts_read n w (inr (inr r)) = ap summary r.shape ∙ sym (ap summary r.written)
-parts_read n w (inr (inl r)) = ap summary r.shape ∙ sym (ap summary r.written)
+parts_read n w (inr r) = ap summary r.shape ∙ sym (ap summary r.written)

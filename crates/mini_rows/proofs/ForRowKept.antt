@@ -7,9 +7,7 @@ use Rattle.mini_accept.specs.WellShaped.{an_init, an_expression, fits}
 use Rattle.mini_kept.proofs.Rows.{statement}
 use Rattle.mini_rows.specs.Arranged.{KeptAt}
 use Rattle.mini_rows.specs.Lists.{for_loop}
-use Rattle.mini_rows.specs.Decrements.{subtracts, steps}
 use Rattle.mini_rows.specs.ForParts.{ForPartRow}
-use Rattle.mini_rows.proofs.DecrementKept.{step_kept, step_fits}
 use Rattle.mini_rows.proofs.ForPartMeaning.{idle_is}
 use Rattle.mini_rows.proofs.ForPartKept.{gone, init_kept, update_kept, init_fits, update_fits, of_update}
 use Rattle.mini_rows.proofs.Vanishing.{vanishes}
@@ -19,10 +17,7 @@ parts_kept q n w (inl r) =
     let idle = idle_is r.init r.idle in
     subst (λ t. KeptAt (Stmt q) t w) (sym r.shape) (subst (KeptAt (Stmt q) (for_loop r.init r.test r.update r.body)) (sym r.written)
     (init_kept q r.init absent (gone an_init r.init idle.plain (vanishes r.init idle.dropped)) r.test r.update r.body))
-parts_kept q n w (inr (inr r)) =
-    subst (λ t. KeptAt (Stmt q) t w) (sym r.shape) (subst (KeptAt (Stmt q) (for_loop r.init r.test (subtracts r.operator r.name) r.body)) (sym r.written)
-    (update_kept q (subtracts r.operator r.name) (steps r.operator r.name) (step_kept r.operator r.name) r.init r.test r.body))
-parts_kept q n w (inr (inl r)) =
+parts_kept q n w (inr r) =
     let idle = idle_is r.update r.idle in
     subst (λ t. KeptAt (Stmt q) t w) (sym r.shape) (subst (KeptAt (Stmt q) (for_loop r.init r.test r.update r.body)) (sym r.written)
     (update_kept q r.update absent (gone an_expression r.update idle.plain (vanishes r.update idle.dropped)) r.init r.test r.body))
@@ -31,7 +26,4 @@ parts_kept q n w (inr (inl r)) =
 
 pub parts_fit : (strict : Bool) (n w : Tree) → ForPartRow n w → fits strict statement n ≡ true → fits strict statement w ≡ true
 parts_fit strict n w (inl r) e = subst (λ t. fits strict statement t ≡ true) (sym r.written) (init_fits strict r.init r.test r.update r.body (subst (λ t. fits strict statement t ≡ true) r.shape e))
-parts_fit strict n w (inr (inr r)) e =
-    let old = subst (λ t. fits strict statement t ≡ true) r.shape e in
-    subst (λ t. fits strict statement t ≡ true) (sym r.written) (update_fits strict r.init r.test (subtracts r.operator r.name) (steps r.operator r.name) r.body (step_fits strict r.operator r.name (of_update strict r.init r.test (subtracts r.operator r.name) r.body old)) old)
-parts_fit strict n w (inr (inl r)) e = subst (λ t. fits strict statement t ≡ true) (sym r.written) (update_fits strict r.init r.test r.update absent r.body refl (subst (λ t. fits strict statement t ≡ true) r.shape e))
+parts_fit strict n w (inr r) e = subst (λ t. fits strict statement t ≡ true) (sym r.written) (update_fits strict r.init r.test r.update absent r.body refl (subst (λ t. fits strict statement t ≡ true) r.shape e))

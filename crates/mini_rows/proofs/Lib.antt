@@ -117,7 +117,6 @@ mod Weaker
 mod PlainRead
 mod Vanishing
 mod DecrementMeaning
-mod DecrementKept
 mod ForRowKept
 mod ForPartMeaning
 pub mod ForPartKept

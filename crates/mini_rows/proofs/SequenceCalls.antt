@@ -25,11 +25,11 @@ use Rattle.mini_terms.specs.Parts.{is_number, takes_numbers, suits}
 use Rattle.mini_terms.specs.Reading.{is_item, is_plain_part, is_typed_by_value, stands, by_value, SameWanted}
 use Rattle.mini_terms.proofs.Dropping.{weak}
 use Rattle.mini_terms.proofs.Reading.{read_by_value, typed_by_value, same_item, same_in_seat}
-use Rattle.mini_rows.specs.Decrements.{is_name, is_spelled}
-use Rattle.mini_rows.specs.Sequences.{is_callee, is_called_plainly, is_typeof, is_typed_plainly, stays_alone}
+use Rattle.mini_rows.specs.Sequences.{is_callee, is_called_plainly, is_typeof, is_typed_plainly, stays_alone, is_name}
 use Rattle.mini_rows.proofs.ChainRuns.{next, called, value, named_call, name_kind}
 use Rattle.mini_rows.proofs.FoldMeaning.{plain_of, value_of}
 use Rattle.mini_rows.proofs.FoldWeights.{not_a_number}
+use Rattle.mini_rows.specs.Folding.{is_spelled}
 
 -- ---- a name that isn't `eval`
 

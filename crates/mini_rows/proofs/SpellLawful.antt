@@ -1,9 +1,9 @@
 -- What a row on a spelling writes keeps all that a program has to keep: it is built anew of the same parts.
 use Rattle.std.proofs.Common.{◌≡◌, ℕ, Bool, true, false, List, [], ◌∷◌, refl, sym, ap, subst, ◌∙◌, inl, inr}
-use Rattle.std.specs.Prelude.{codes, pos, ℤ}
+use Rattle.std.specs.Prelude.{codes, pos, ℤ, negsuc}
 use Rattle.std.specs.Fmt.{signed_decimal}
 use Rattle.mini_model.specs.declared.operator.AssignmentOperator.{AssignmentOperator}
-use Rattle.mini_model.specs.declared.operator.AssignmentOperator.TheVariants.{Assign}
+use Rattle.mini_model.specs.declared.operator.AssignmentOperator.TheVariants.{Assign, Subtraction}
 use Rattle.mini_model.specs.declared.operator.UnaryOperator.TheVariants as unary_operator
 use Rattle.mini_model.specs.declared.place.Position.{Position}
 use Rattle.mini_model.specs.declared.place.Position.TheVariants.{Expr}
@@ -14,12 +14,14 @@ use Rattle.mini_kept.specs.Lawful.{Lawful}
 use Rattle.mini_laws.specs.DeclaredNames.{has_inner}
 use Rattle.mini_rows.specs.Arranged.{KeptAt, Vanishes}
 use Rattle.mini_rows.specs.Sketches.{AbsentPart, Null, BooleanValue, Number, String, PropertyName, Unary, Binary, StaticMember, ComputedMember, Yield, Assignment, Update, Sketch, part, under, end, ◌▹◌, Free, still, rearranges_expression}
-use Rattle.mini_rows.specs.Spellings.{boolean, assignment, update, template, plain, negated_digit, IsUndefined, Row33, Row33Name, Row33Number, Row33Assigned, Row33Updated, Row58Left, Row58Right, Row54, Row60Yield, ordered, strict_operator, typeof_name, Row55, Row55Value, SpellingRow, SpellingContracts}
+use Rattle.mini_rows.specs.Spellings.{boolean, assignment, update, template, plain, negated_digit, IsUndefined, Row33, Row33Name, Row33Number, Row33Assigned, Row33Updated, Row58Left, Row58Right, Row54, Row60Yield, ordered, strict_operator, typeof_name, Row55, Row55Value, SpellingRow, SpellingContracts, ShortBoolean, DottedMember, DottedTarget, DottedUpdate, LooseLeft, LooseRight, SwappedEquality, BareYield, OrderedTypeof, PlainTemplate, ComparedWithVoid, Stepped, subtracts, steps}
 use Rattle.mini_rows.proofs.ArrangedExpressions.{expressions_arranged, expressions_arranged_freely}
 use Rattle.mini_rows.proofs.ArrangedLawful.{kept_is_lawful}
 use Rattle.mini_rows.proofs.SpellMeaning.{spellings_same}
 use Rattle.mini_rows.proofs.SpellShapes.{row_fits, row_asked, row_slot}
 use Rattle.mini_rows.proofs.TemplateTexts.{text_kept}
+use Rattle.mini_model.specs.declared.operator.UpdateOperator.{UpdateOperator}
+use Rattle.mini_model.specs.declared.operator.UpdateOperator.TheVariants.{Increment, Decrement}
 
 -- 65
 boolean_kept : (q : Seat) (n w : Tree) (b : Bool) → n ≡ boolean b → w ≡ negated_digit b → KeptAt (Expr q) n w
@@ -100,21 +102,27 @@ typeof_kept q n w r = expressions_arranged (record { trees = typeof_name r.name 
 value_kept : (q : Seat) (n w : Tree) → Row55Value n w → KeptAt (Expr q) n w
 value_kept q n w r = expressions_arranged (record { trees = r.operand ▸ none; lists = [] }) (under (Binary r.operator) (under (Unary unary_operator.Typeof) (part 0 ▹ end) ▹ under (String (codes "undefined")) end ▹ end)) (under (Binary (strict_operator r.operator)) (part 0 ▹ under (Unary unary_operator.Void) (under (Number (pos 0)) end ▹ end) ▹ end)) refl q n w r.shape r.written
 
+-- 36
+step_kept : (q : Seat) (n w : Tree) (o : UpdateOperator) (t : Tree) → n ≡ subtracts o t → w ≡ steps o t → KeptAt (Expr q) n w
+step_kept q n w Decrement t = expressions_arranged (record { trees = t ▸ none; lists = [] }) (under (Assignment Subtraction) (part 0 ▹ under (Number (pos 1)) end ▹ end)) (under (Update Decrement true) (part 0 ▹ end)) refl q n w
+step_kept q n w Increment t = expressions_arranged (record { trees = t ▸ none; lists = [] }) (under (Assignment Subtraction) (part 0 ▹ under (Number (negsuc 0)) end ▹ end)) (under (Update Increment true) (part 0 ▹ end)) refl q n w
+
 -- all
 
 expression_kept : (q : Seat) (n w : Tree) → SpellingRow (Expr q) n w → KeptAt (Expr q) n w
-expression_kept q n w (inl r) = boolean_kept q n w r.value r.shape r.written
-expression_kept q n w (inr (inl (inl r))) = name_kept q n w r
-expression_kept q n w (inr (inl (inr r))) = number_kept q n w r
-expression_kept q n w (inr (inr (inl r))) = assigned_kept q n w r
-expression_kept q n w (inr (inr (inr (inl r)))) = updated_kept q n w r
-expression_kept q n w (inr (inr (inr (inr (inl r))))) = left_kept q n w r
-expression_kept q n w (inr (inr (inr (inr (inr (inl r)))))) = right_kept q n w r
-expression_kept q n w (inr (inr (inr (inr (inr (inr (inl r))))))) = swap_kept q n w r
-expression_kept q n w (inr (inr (inr (inr (inr (inr (inr (inl r)))))))) = yield_kept q n w r
-expression_kept q n w (inr (inr (inr (inr (inr (inr (inr (inr (inl r))))))))) = typeof_kept q n w r
-expression_kept q n w (inr (inr (inr (inr (inr (inr (inr (inr (inr (inl r)))))))))) = subst (λ t. KeptAt (Expr q) t w) (sym r.shape) (subst (KeptAt (Expr q) (template r.is_tail r.raw r.content)) (sym r.written) (text_kept r.is_tail r.raw r.content q))
-expression_kept q n w (inr (inr (inr (inr (inr (inr (inr (inr (inr (inr r)))))))))) = value_kept q n w r
+expression_kept q n w (ShortBoolean r) = boolean_kept q n w r.value r.shape r.written
+expression_kept q n w (DottedMember (inl r)) = name_kept q n w r
+expression_kept q n w (DottedMember (inr r)) = number_kept q n w r
+expression_kept q n w (DottedTarget r) = assigned_kept q n w r
+expression_kept q n w (DottedUpdate r) = updated_kept q n w r
+expression_kept q n w (LooseLeft r) = left_kept q n w r
+expression_kept q n w (LooseRight r) = right_kept q n w r
+expression_kept q n w (SwappedEquality r) = swap_kept q n w r
+expression_kept q n w (BareYield r) = yield_kept q n w r
+expression_kept q n w (OrderedTypeof r) = typeof_kept q n w r
+expression_kept q n w (PlainTemplate r) = subst (λ t. KeptAt (Expr q) t w) (sym r.shape) (subst (KeptAt (Expr q) (template r.is_tail r.raw r.content)) (sym r.written) (text_kept r.is_tail r.raw r.content q))
+expression_kept q n w (ComparedWithVoid r) = value_kept q n w r
+expression_kept q n w (Stepped r) = step_kept q n w r.operator r.target r.shape r.written
 
 kept : (p : Position) (n w : Tree) → SpellingRow p n w → KeptAt p n w
 kept (Expr q) n w r = expression_kept q n w r

@@ -27,11 +27,12 @@ use Rattle.mini_laws.specs.Rows.{SameAt}
 use Rattle.mini_laws.specs.Rewritten.{MeansSame}
 use Rattle.mini_laws.proofs.Rows.{equal_same}
 use Rattle.mini_laws.proofs.Runs.{either_cong, either_ok}
-use Rattle.mini_rows.specs.Spellings.{numeral, text, key, boolean, big_int, template, void_zero, binary, computed_member, static_member, yields, IsUndefined, IsLoose, PlainForm, a_number, a_text, a_boolean, a_null, a_big_int, a_template, a_void, plain, negated_digit, Row33, Row33Assigned, Row33Updated, ordered, SpellingRow, SpellingContracts}
+use Rattle.mini_rows.specs.Spellings.{numeral, text, key, boolean, big_int, template, void_zero, binary, computed_member, static_member, yields, IsUndefined, IsLoose, PlainForm, a_number, a_text, a_boolean, a_null, a_big_int, a_template, a_void, plain, negated_digit, Row33, Row33Assigned, Row33Updated, ordered, SpellingRow, SpellingContracts, ShortBoolean, DottedMember, DottedTarget, DottedUpdate, LooseLeft, LooseRight, SwappedEquality, BareYield, OrderedTypeof, PlainTemplate, ComparedWithVoid, Stepped}
 use Rattle.mini_rows.proofs.SpellAlike.{SameTree, Alike, bind_alike, choose_alike, valued_alike, run_kids, first_same}
 use Rattle.mini_rows.proofs.SpellSymmetry.{strictly_sym, loosely_sym}
 use Rattle.mini_rows.proofs.TemplateTexts.{text_same}
 use Rattle.mini_rows.proofs.TypeofMeaning.{typed_same}
+use Rattle.mini_rows.proofs.DecrementMeaning.{step_same}
 
 pub tree_same : (s : Seat) (n w : Tree) → SameTree n w → SameAt (Expr s) n w
 tree_same s n w h = equal_same (Expr s) n w (record { by = λ e q f r z. h.by e q r z })
@@ -450,31 +451,33 @@ yield_same = record { by = yield_does; read = refl }
 -- all
 
 expression_same : (s : Seat) (n w : Tree) → SpellingRow (Expr s) n w → SameAt (Expr s) n w
-expression_same s n w (inl r) = tree_same s n w (same_by n w _ _ r.shape r.written (boolean_same r.value))
-expression_same s n w (inr (inl r)) = tree_same s n w (member_same n w r)
-expression_same s n w (inr (inr (inl r))) = tree_same s n w (assigned_same n w r)
-expression_same s n w (inr (inr (inr (inl r)))) = tree_same s n w (updated_same n w r)
-expression_same s n w (inr (inr (inr (inr (inl r))))) = tree_same s n w (same_by n w _ _ r.shape r.written (left_same r.operator r.loose r.left r.right r.undefined))
-expression_same s n w (inr (inr (inr (inr (inr (inl r)))))) = tree_same s n w (same_by n w _ _ r.shape r.written (right_same r.operator r.loose r.left r.right r.undefined))
-expression_same s n w (inr (inr (inr (inr (inr (inr (inl r))))))) = subst (λ x. SameAt (Expr s) x w) (sym r.shape) (subst (λ x. SameAt (Expr s) (binary r.operator (plain r.left) r.right) x) (sym r.written) (swapped_same r.operator r.equality r.left r.right s))
-expression_same s n w (inr (inr (inr (inr (inr (inr (inr (inl r)))))))) = tree_same s n w (same_by n w _ _ r.shape r.written yield_same)
-expression_same s n w (inr (inr (inr (inr (inr (inr (inr (inr (inl r))))))))) = tree_same s n w (same_by n w _ _ r.shape r.written (ordered_same r.operator r.equality (identifier (unresolved r.name))))
-expression_same s n w (inr (inr (inr (inr (inr (inr (inr (inr (inr (inl r)))))))))) = tree_same s n w (same_by n w _ _ r.shape r.written (text_same r.is_tail r.raw r.content))
-expression_same s n w (inr (inr (inr (inr (inr (inr (inr (inr (inr (inr r)))))))))) = tree_same s n w (same_by n w _ _ r.shape r.written (typed_same r.operator r.equality r.operand r.value))
+expression_same s n w (ShortBoolean r) = tree_same s n w (same_by n w _ _ r.shape r.written (boolean_same r.value))
+expression_same s n w (DottedMember r) = tree_same s n w (member_same n w r)
+expression_same s n w (DottedTarget r) = tree_same s n w (assigned_same n w r)
+expression_same s n w (DottedUpdate r) = tree_same s n w (updated_same n w r)
+expression_same s n w (LooseLeft r) = tree_same s n w (same_by n w _ _ r.shape r.written (left_same r.operator r.loose r.left r.right r.undefined))
+expression_same s n w (LooseRight r) = tree_same s n w (same_by n w _ _ r.shape r.written (right_same r.operator r.loose r.left r.right r.undefined))
+expression_same s n w (SwappedEquality r) = subst (λ x. SameAt (Expr s) x w) (sym r.shape) (subst (λ x. SameAt (Expr s) (binary r.operator (plain r.left) r.right) x) (sym r.written) (swapped_same r.operator r.equality r.left r.right s))
+expression_same s n w (BareYield r) = tree_same s n w (same_by n w _ _ r.shape r.written yield_same)
+expression_same s n w (OrderedTypeof r) = tree_same s n w (same_by n w _ _ r.shape r.written (ordered_same r.operator r.equality (identifier (unresolved r.name))))
+expression_same s n w (PlainTemplate r) = tree_same s n w (same_by n w _ _ r.shape r.written (text_same r.is_tail r.raw r.content))
+expression_same s n w (ComparedWithVoid r) = tree_same s n w (same_by n w _ _ r.shape r.written (typed_same r.operator r.equality r.operand r.value))
+expression_same s n w (Stepped r) = tree_same s n w (same_by n w _ _ r.shape r.written (step_same r.operator r.target))
 
 -- a parent reads no more of an expression than these nodes tell of themselves
 row_reads : (s : Seat) (n w : Tree) → SpellingRow (Expr s) n w → summary n ≡ summary w
-row_reads s n w (inl r) = ap summary r.shape ∙ (boolean_same r.value).read ∙ sym (ap summary r.written)
-row_reads s n w (inr (inl r)) = (member_same n w r).read
-row_reads s n w (inr (inr (inl r))) = (assigned_same n w r).read
-row_reads s n w (inr (inr (inr (inl r)))) = (updated_same n w r).read
-row_reads s n w (inr (inr (inr (inr (inl r))))) = ap summary r.shape ∙ sym (ap summary r.written)
-row_reads s n w (inr (inr (inr (inr (inr (inl r)))))) = ap summary r.shape ∙ sym (ap summary r.written)
-row_reads s n w (inr (inr (inr (inr (inr (inr (inl r))))))) = ap summary r.shape ∙ sym (ap summary r.written)
-row_reads s n w (inr (inr (inr (inr (inr (inr (inr (inl r)))))))) = ap summary r.shape ∙ sym (ap summary r.written)
-row_reads s n w (inr (inr (inr (inr (inr (inr (inr (inr (inl r))))))))) = ap summary r.shape ∙ sym (ap summary r.written)
-row_reads s n w (inr (inr (inr (inr (inr (inr (inr (inr (inr (inl r)))))))))) = ap summary r.shape ∙ sym (ap summary r.written)
-row_reads s n w (inr (inr (inr (inr (inr (inr (inr (inr (inr (inr r)))))))))) = ap summary r.shape ∙ sym (ap summary r.written)
+row_reads s n w (ShortBoolean r) = ap summary r.shape ∙ (boolean_same r.value).read ∙ sym (ap summary r.written)
+row_reads s n w (DottedMember r) = (member_same n w r).read
+row_reads s n w (DottedTarget r) = (assigned_same n w r).read
+row_reads s n w (DottedUpdate r) = (updated_same n w r).read
+row_reads s n w (LooseLeft r) = ap summary r.shape ∙ sym (ap summary r.written)
+row_reads s n w (LooseRight r) = ap summary r.shape ∙ sym (ap summary r.written)
+row_reads s n w (SwappedEquality r) = ap summary r.shape ∙ sym (ap summary r.written)
+row_reads s n w (BareYield r) = ap summary r.shape ∙ sym (ap summary r.written)
+row_reads s n w (OrderedTypeof r) = ap summary r.shape ∙ sym (ap summary r.written)
+row_reads s n w (PlainTemplate r) = ap summary r.shape ∙ sym (ap summary r.written)
+row_reads s n w (ComparedWithVoid r) = ap summary r.shape ∙ sym (ap summary r.written)
+row_reads s n w (Stepped r) = ap summary r.shape ∙ sym (ap summary r.written)
 
 means_same : (p : Position) (n w : Tree) → SpellingRow p n w → SameAt p n w
 means_same (Expr s) n w r = expression_same s n w r

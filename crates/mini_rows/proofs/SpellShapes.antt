@@ -7,7 +7,7 @@ use Rattle.std.specs.Char.Utf16.{has_unpaired_surrogate, utf16_chars}
 use Rattle.mini_model.specs.Texts.{are_units, is_identifier_name}
 use Rattle.mini_model.specs.Numerals.{IsSafe, max_safe_integer}
 use Rattle.mini_model.specs.declared.operator.AssignmentOperator.{AssignmentOperator}
-use Rattle.mini_model.specs.declared.operator.AssignmentOperator.TheVariants.{Assign}
+use Rattle.mini_model.specs.declared.operator.AssignmentOperator.TheVariants.{Assign, Subtraction}
 use Rattle.mini_model.specs.declared.operator.BinaryOperator.{BinaryOperator}
 use Rattle.mini_model.specs.declared.operator.LogicalOperator.{LogicalOperator}
 use Rattle.mini_model.specs.declared.operator.UpdateOperator.{UpdateOperator}
@@ -24,7 +24,7 @@ use Rattle.mini_kept.specs.KeepsShapes.{is_default, AskedAlike}
 use Rattle.mini_kept.specs.Placed.{fits_place}
 use Rattle.mini_kept.proofs.FrameRows.{expression_slot}
 use Rattle.mini_rows.proofs.TemplateTexts.{template_at, text_fits, text_asked}
-use Rattle.mini_rows.specs.Spellings.{numeral, text, key, boolean, binary, assignment, update, computed_member, static_member, yields, void_zero, negated_digit, plain, Row33, ordered, strict_operator, typeof_name, template, Row19, SpellingRow}
+use Rattle.mini_rows.specs.Spellings.{numeral, text, key, boolean, binary, assignment, update, computed_member, static_member, yields, void_zero, negated_digit, plain, Row33, ordered, strict_operator, typeof_name, template, Row19, SpellingRow, ShortBoolean, DottedMember, DottedTarget, DottedUpdate, LooseLeft, LooseRight, SwappedEquality, BareYield, OrderedTypeof, PlainTemplate, ComparedWithVoid, Stepped, subtracts, steps, amount}
 
 -- ---- the nodes that rows on spellings read and write
 
@@ -301,6 +301,20 @@ updated_stands strict o l t u f k e = by k e
     by Assigned e = absurd (cc e)
     by Nowhere e = absurd (cc e)
 
+-- 36
+step_stands : (strict : Bool) (o : UpdateOperator) (t : Tree) → Stands strict (an_assignment Subtraction) (t ▸ amount o ▸ none) (an_update o true) (t ▸ none)
+step_stands strict o t k e = by k e
+  where
+    by' : (fits strict (one a_simple_target) t && (fits strict expression (amount o) && true)) ≡ true → (fits strict (one a_simple_target) t && true) ≡ true
+    by' e = ap (λ b. b && true) (sides (fits strict (one a_simple_target) t) (fits strict expression (amount o)) e).0
+
+    by : (k : Kind) → filled strict k (an_assignment Subtraction) (t ▸ amount o ▸ none) ≡ true → filled strict k (an_update o true) (t ▸ none) ≡ true
+    by Alone e = by' e
+    by Linked e = by' e
+    by Ending e = absurd (cc e)
+    by Assigned e = absurd (cc e)
+    by Nowhere e = absurd (cc e)
+
 -- 60
 yield_stands : (strict : Bool) → Stands strict a_yield (void_zero ▸ none) a_yield (absent ▸ none)
 yield_stands strict Alone e = refl
@@ -319,17 +333,19 @@ anywhere : (q : Seat) (n w : Tree) → FitsToo n w → FitsThere q n w
 anywhere q n w f strict s v e = f strict s e
 
 expression_fits : (q : Seat) (n w : Tree) → SpellingRow (Expr q) n w → FitsThere q n w
-expression_fits q n w (inl r) = anywhere q n w (by_shape n w (boolean r.value) (negated_digit r.value) r.shape r.written (boolean_fits r.value))
-expression_fits q n w (inr (inl r)) = anywhere q n w (member_fits n w r)
-expression_fits q n w (inr (inr (inl r))) = anywhere q n w (by_shape n w (assignment r.operator r.target r.value) (assignment r.operator r.turned r.value) r.shape r.written (λ strict s. stands strict (an_assignment r.operator) (an_assignment r.operator) (r.target ▸ r.value ▸ none) (r.turned ▸ r.value ▸ none) (assigned_stands strict r.operator r.target r.turned r.value (member_fits r.target r.turned r.member)) s))
-expression_fits q n w (inr (inr (inr (inl r)))) = anywhere q n w (by_shape n w (update r.operator r.is_prefix r.target) (update r.operator r.is_prefix r.turned) r.shape r.written (λ strict s. stands strict (an_update r.operator r.is_prefix) (an_update r.operator r.is_prefix) (r.target ▸ none) (r.turned ▸ none) (updated_stands strict r.operator r.is_prefix r.target r.turned (member_fits r.target r.turned r.member)) s))
-expression_fits q n w (inr (inr (inr (inr (inl r))))) = anywhere q n w (by_shape n w (binary r.operator r.left r.right) (binary r.operator null_literal r.right) r.shape r.written (λ strict s. stands strict (a_binary r.operator) (a_binary r.operator) (r.left ▸ r.right ▸ none) (null_literal ▸ r.right ▸ none) (binary_stands strict r.operator r.left r.right null_literal r.right (λ x y. (refl, y))) s))
-expression_fits q n w (inr (inr (inr (inr (inr (inl r)))))) = anywhere q n w (by_shape n w (binary r.operator r.left r.right) (binary r.operator r.left null_literal) r.shape r.written (λ strict s. stands strict (a_binary r.operator) (a_binary r.operator) (r.left ▸ r.right ▸ none) (r.left ▸ null_literal ▸ none) (binary_stands strict r.operator r.left r.right r.left null_literal (λ x y. (x, refl))) s))
-expression_fits q n w (inr (inr (inr (inr (inr (inr (inl r))))))) = anywhere q n w (by_shape n w (binary r.operator (plain r.left) r.right) (binary r.operator r.right (plain r.left)) r.shape r.written (λ strict s. stands strict (a_binary r.operator) (a_binary r.operator) (plain r.left ▸ r.right ▸ none) (r.right ▸ plain r.left ▸ none) (binary_stands strict r.operator (plain r.left) r.right r.right (plain r.left) (λ x y. (y, x))) s))
-expression_fits q n w (inr (inr (inr (inr (inr (inr (inr (inl r)))))))) = anywhere q n w (by_shape n w (yields void_zero) (yields absent) r.shape r.written (λ strict s. stands strict a_yield a_yield (void_zero ▸ none) (absent ▸ none) (yield_stands strict) s))
-expression_fits q n w (inr (inr (inr (inr (inr (inr (inr (inr (inl r))))))))) = anywhere q n w (by_shape n w (binary r.operator (typeof_name r.name) (text (codes "undefined"))) (binary (ordered r.operator) (typeof_name r.name) (text (codes "u"))) r.shape r.written (λ strict s. stands strict (a_binary r.operator) (a_binary (ordered r.operator)) (typeof_name r.name ▸ text (codes "undefined") ▸ none) (typeof_name r.name ▸ text (codes "u") ▸ none) (typeof_stands strict r.operator (ordered r.operator) (typeof_name r.name) (codes "undefined") (codes "u") (u_fits strict)) s))
-expression_fits q n w (inr (inr (inr (inr (inr (inr (inr (inr (inr (inl r)))))))))) = λ strict s v e. subst (λ t. fits strict s t ≡ true) (sym r.written) (text_fits r.is_tail r.raw r.content strict q s v (subst (λ t. fits strict s t ≡ true) r.shape e))
-expression_fits q n w (inr (inr (inr (inr (inr (inr (inr (inr (inr (inr r)))))))))) = anywhere q n w (by_shape n w (binary r.operator (unary Typeof r.operand) (text (codes "undefined"))) (binary (strict_operator r.operator) r.operand void_zero) r.shape r.written (λ strict s. stands strict (a_binary r.operator) (a_binary (strict_operator r.operator)) (unary Typeof r.operand ▸ text (codes "undefined") ▸ none) (r.operand ▸ void_zero ▸ none) (operators_stand strict r.operator (strict_operator r.operator) (unary Typeof r.operand) (text (codes "undefined")) r.operand void_zero (λ x y. (typed_fits strict r.operand x, refl))) s))
+expression_fits q n w (ShortBoolean r) = anywhere q n w (by_shape n w (boolean r.value) (negated_digit r.value) r.shape r.written (boolean_fits r.value))
+expression_fits q n w (DottedMember r) = anywhere q n w (member_fits n w r)
+expression_fits q n w (DottedTarget r) = anywhere q n w (by_shape n w (assignment r.operator r.target r.value) (assignment r.operator r.turned r.value) r.shape r.written (λ strict s. stands strict (an_assignment r.operator) (an_assignment r.operator) (r.target ▸ r.value ▸ none) (r.turned ▸ r.value ▸ none) (assigned_stands strict r.operator r.target r.turned r.value (member_fits r.target r.turned r.member)) s))
+expression_fits q n w (DottedUpdate r) = anywhere q n w (by_shape n w (update r.operator r.is_prefix r.target) (update r.operator r.is_prefix r.turned) r.shape r.written (λ strict s. stands strict (an_update r.operator r.is_prefix) (an_update r.operator r.is_prefix) (r.target ▸ none) (r.turned ▸ none) (updated_stands strict r.operator r.is_prefix r.target r.turned (member_fits r.target r.turned r.member)) s))
+expression_fits q n w (LooseLeft r) = anywhere q n w (by_shape n w (binary r.operator r.left r.right) (binary r.operator null_literal r.right) r.shape r.written (λ strict s. stands strict (a_binary r.operator) (a_binary r.operator) (r.left ▸ r.right ▸ none) (null_literal ▸ r.right ▸ none) (binary_stands strict r.operator r.left r.right null_literal r.right (λ x y. (refl, y))) s))
+expression_fits q n w (LooseRight r) = anywhere q n w (by_shape n w (binary r.operator r.left r.right) (binary r.operator r.left null_literal) r.shape r.written (λ strict s. stands strict (a_binary r.operator) (a_binary r.operator) (r.left ▸ r.right ▸ none) (r.left ▸ null_literal ▸ none) (binary_stands strict r.operator r.left r.right r.left null_literal (λ x y. (x, refl))) s))
+expression_fits q n w (SwappedEquality r) = anywhere q n w (by_shape n w (binary r.operator (plain r.left) r.right) (binary r.operator r.right (plain r.left)) r.shape r.written (λ strict s. stands strict (a_binary r.operator) (a_binary r.operator) (plain r.left ▸ r.right ▸ none) (r.right ▸ plain r.left ▸ none) (binary_stands strict r.operator (plain r.left) r.right r.right (plain r.left) (λ x y. (y, x))) s))
+expression_fits q n w (BareYield r) = anywhere q n w (by_shape n w (yields void_zero) (yields absent) r.shape r.written (λ strict s. stands strict a_yield a_yield (void_zero ▸ none) (absent ▸ none) (yield_stands strict) s))
+expression_fits q n w (OrderedTypeof r) = anywhere q n w (by_shape n w (binary r.operator (typeof_name r.name) (text (codes "undefined"))) (binary (ordered r.operator) (typeof_name r.name) (text (codes "u"))) r.shape r.written (λ strict s. stands strict (a_binary r.operator) (a_binary (ordered r.operator)) (typeof_name r.name ▸ text (codes "undefined") ▸ none) (typeof_name r.name ▸ text (codes "u") ▸ none) (typeof_stands strict r.operator (ordered r.operator) (typeof_name r.name) (codes "undefined") (codes "u") (u_fits strict)) s))
+expression_fits q n w (PlainTemplate r) = λ strict s v e. subst (λ t. fits strict s t ≡ true) (sym r.written) (text_fits r.is_tail r.raw r.content strict q s v (subst (λ t. fits strict s t ≡ true) r.shape e))
+expression_fits q n w (ComparedWithVoid r) = anywhere q n w (by_shape n w (binary r.operator (unary Typeof r.operand) (text (codes "undefined"))) (binary (strict_operator r.operator) r.operand void_zero) r.shape r.written (λ strict s. stands strict (a_binary r.operator) (a_binary (strict_operator r.operator)) (unary Typeof r.operand ▸ text (codes "undefined") ▸ none) (r.operand ▸ void_zero ▸ none) (operators_stand strict r.operator (strict_operator r.operator) (unary Typeof r.operand) (text (codes "undefined")) r.operand void_zero (λ x y. (typed_fits strict r.operand x, refl))) s))
+
+expression_fits q n w (Stepped r) = anywhere q n w (by_shape n w (subtracts r.operator r.target) (steps r.operator r.target) r.shape r.written (λ strict s. stands strict (an_assignment Subtraction) (an_update r.operator true) (r.target ▸ amount r.operator ▸ none) (r.target ▸ none) (step_stands strict r.operator r.target) s))
 
 -- ---- what a parent asks
 
@@ -382,17 +398,18 @@ boolean_formed n w true e f = record { first = a_boolean true; second = a_negati
 boolean_formed n w false e f = record { first = a_boolean false; second = a_negation; parts = none; others = numeral (pos 1) ▸ none; read = e; made = f; optional = λ x. absurd (cc x) }
 
 row_formed : (q : Seat) (n w : Tree) → SpellingRow (Expr q) n w → Formed n w ⊎ Row19 n w
-row_formed q n w (inl r) = inl (boolean_formed n w r.value r.shape r.written)
-row_formed q n w (inr (inl r)) = inl (member_formed n w r)
-row_formed q n w (inr (inr (inl r))) = inl (record { first = an_assignment r.operator; second = an_assignment r.operator; parts = r.target ▸ r.value ▸ none; others = r.turned ▸ r.value ▸ none; read = r.shape; made = r.written; optional = λ x. absurd (cc x) })
-row_formed q n w (inr (inr (inr (inl r)))) = inl (record { first = an_update r.operator r.is_prefix; second = an_update r.operator r.is_prefix; parts = r.target ▸ none; others = r.turned ▸ none; read = r.shape; made = r.written; optional = λ x. absurd (cc x) })
-row_formed q n w (inr (inr (inr (inr (inl r))))) = inl (record { first = a_binary r.operator; second = a_binary r.operator; parts = r.left ▸ r.right ▸ none; others = null_literal ▸ r.right ▸ none; read = r.shape; made = r.written; optional = λ x. absurd (cc x) })
-row_formed q n w (inr (inr (inr (inr (inr (inl r)))))) = inl (record { first = a_binary r.operator; second = a_binary r.operator; parts = r.left ▸ r.right ▸ none; others = r.left ▸ null_literal ▸ none; read = r.shape; made = r.written; optional = λ x. absurd (cc x) })
-row_formed q n w (inr (inr (inr (inr (inr (inr (inl r))))))) = inl (record { first = a_binary r.operator; second = a_binary r.operator; parts = plain r.left ▸ r.right ▸ none; others = r.right ▸ plain r.left ▸ none; read = r.shape; made = r.written; optional = λ x. absurd (cc x) })
-row_formed q n w (inr (inr (inr (inr (inr (inr (inr (inl r)))))))) = inl (record { first = a_yield; second = a_yield; parts = void_zero ▸ none; others = absent ▸ none; read = r.shape; made = r.written; optional = λ x. absurd (cc x) })
-row_formed q n w (inr (inr (inr (inr (inr (inr (inr (inr (inl r))))))))) = inl (record { first = a_binary r.operator; second = a_binary (ordered r.operator); parts = typeof_name r.name ▸ text (codes "undefined") ▸ none; others = typeof_name r.name ▸ text (codes "u") ▸ none; read = r.shape; made = r.written; optional = λ x. absurd (cc x) })
-row_formed q n w (inr (inr (inr (inr (inr (inr (inr (inr (inr (inl r)))))))))) = inr r
-row_formed q n w (inr (inr (inr (inr (inr (inr (inr (inr (inr (inr r)))))))))) = inl (record { first = a_binary r.operator; second = a_binary (strict_operator r.operator); parts = unary Typeof r.operand ▸ text (codes "undefined") ▸ none; others = r.operand ▸ void_zero ▸ none; read = r.shape; made = r.written; optional = λ x. absurd (cc x) })
+row_formed q n w (ShortBoolean r) = inl (boolean_formed n w r.value r.shape r.written)
+row_formed q n w (DottedMember r) = inl (member_formed n w r)
+row_formed q n w (DottedTarget r) = inl (record { first = an_assignment r.operator; second = an_assignment r.operator; parts = r.target ▸ r.value ▸ none; others = r.turned ▸ r.value ▸ none; read = r.shape; made = r.written; optional = λ x. absurd (cc x) })
+row_formed q n w (DottedUpdate r) = inl (record { first = an_update r.operator r.is_prefix; second = an_update r.operator r.is_prefix; parts = r.target ▸ none; others = r.turned ▸ none; read = r.shape; made = r.written; optional = λ x. absurd (cc x) })
+row_formed q n w (LooseLeft r) = inl (record { first = a_binary r.operator; second = a_binary r.operator; parts = r.left ▸ r.right ▸ none; others = null_literal ▸ r.right ▸ none; read = r.shape; made = r.written; optional = λ x. absurd (cc x) })
+row_formed q n w (LooseRight r) = inl (record { first = a_binary r.operator; second = a_binary r.operator; parts = r.left ▸ r.right ▸ none; others = r.left ▸ null_literal ▸ none; read = r.shape; made = r.written; optional = λ x. absurd (cc x) })
+row_formed q n w (SwappedEquality r) = inl (record { first = a_binary r.operator; second = a_binary r.operator; parts = plain r.left ▸ r.right ▸ none; others = r.right ▸ plain r.left ▸ none; read = r.shape; made = r.written; optional = λ x. absurd (cc x) })
+row_formed q n w (BareYield r) = inl (record { first = a_yield; second = a_yield; parts = void_zero ▸ none; others = absent ▸ none; read = r.shape; made = r.written; optional = λ x. absurd (cc x) })
+row_formed q n w (OrderedTypeof r) = inl (record { first = a_binary r.operator; second = a_binary (ordered r.operator); parts = typeof_name r.name ▸ text (codes "undefined") ▸ none; others = typeof_name r.name ▸ text (codes "u") ▸ none; read = r.shape; made = r.written; optional = λ x. absurd (cc x) })
+row_formed q n w (PlainTemplate r) = inr r
+row_formed q n w (ComparedWithVoid r) = inl (record { first = a_binary r.operator; second = a_binary (strict_operator r.operator); parts = unary Typeof r.operand ▸ text (codes "undefined") ▸ none; others = r.operand ▸ void_zero ▸ none; read = r.shape; made = r.written; optional = λ x. absurd (cc x) })
+row_formed q n w (Stepped r) = inl (record { first = an_assignment Subtraction; second = an_update r.operator true; parts = r.target ▸ amount r.operator ▸ none; others = r.target ▸ none; read = r.shape; made = r.written; optional = λ x. absurd (cc x) })
 
 -- ---- where they stand is in a body
 

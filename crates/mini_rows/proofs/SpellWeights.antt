@@ -21,8 +21,10 @@ use Rattle.mini_model.specs.Position.{is_equality, seat_of_level, binary_operand
 use Rattle.mini_model.specs.Weight.{Outline, outline, outlines, weight, place_weight, parentheses, is_parenthesized, awkward_weight, is_awkward, binary_operator_weight, mixes, is_chain, is_call, level_of}
 use Rattle.mini_laws.specs.Weights.{Lightens, counts_items}
 use Rattle.mini_laws.proofs.Seats.{placed}
-use Rattle.mini_rows.specs.Spellings.{numeral, text, key, binary, assignment, update, computed_member, static_member, yields, void_zero, IsUndefined, IsLoose, PlainForm, a_number, a_text, a_boolean, a_null, a_big_int, a_template, a_void, plain, boolean, negated_digit, is_awkward_left, is_inner, Row33, ordered, strict_operator, typeof_name, SpellingRow, SpellingContracts, SpellingsLighter}
+use Rattle.mini_rows.specs.Spellings.{numeral, text, key, binary, assignment, update, computed_member, static_member, yields, void_zero, IsUndefined, IsLoose, PlainForm, a_number, a_text, a_boolean, a_null, a_big_int, a_template, a_void, plain, boolean, negated_digit, is_awkward_left, is_inner, Row33, ordered, strict_operator, typeof_name, SpellingRow, SpellingContracts, SpellingsLighter, ShortBoolean, DottedMember, DottedTarget, DottedUpdate, LooseLeft, LooseRight, SwappedEquality, BareYield, OrderedTypeof, PlainTemplate, ComparedWithVoid, Stepped, subtracts, steps, amount}
 use Rattle.mini_rows.proofs.TemplateTexts.{text_falls}
+use Rattle.mini_model.specs.declared.operator.UpdateOperator.TheVariants.{Increment, Decrement}
+use Rattle.mini_model.specs.declared.operator.AssignmentOperator.TheVariants.{Subtraction}
 
 -- what a place adds is a pair of parentheses at most, and 1 where a form is awkward there
 
@@ -259,20 +261,40 @@ yield_marks s a b = refl
 yield_falls : (s : Seat) → weight (Expr s) (yields absent) < weight (Expr s) (yields void_zero)
 yield_falls s = let same = yield_marks s absent void_zero in omega (arith, same)
 
+-- parentheses that an operator needs one that binds no tighter needs, too
+closer : (a b l : ℕ) → b ≤ a → (r : Bool) → (if nat_lt a l || r then 4 else 0) ≤ (if nat_lt b l || r then 4 else 0)
+closer a b l k r = go (nat_lt a l) (nat_lt b l) r refl refl
+  where
+    go : (c d r : Bool) → nat_lt a l ≡ c → nat_lt b l ≡ d → (if c || r then 4 else 0) ≤ (if d || r then 4 else 0)
+    go true true r p q = omega arith
+    go false true true p q = omega arith
+    go false true false p q = omega arith
+    go false false r p q = omega arith
+    go true false r p q = absurd (omega (arith, k, ltb-true _ _ p, ltb-false _ _ q))
+
+step_marks : (s : Seat) (o : UpdateOperator) (os ps : List Outline) → place_weight (Expr s) (shape.UpdateExpression o true) os ≤ place_weight (Expr s) (shape.AssignmentExpression Subtraction) ps
+step_marks s o os ps = let h = closer (level_of (shape.UpdateExpression o true)) (level_of (shape.AssignmentExpression Subtraction)) s.level (omega arith) (mixes (shape.UpdateExpression o true) s.mix || ((s.access && is_chain (shape.UpdateExpression o true)) || (s.new_callee && is_call (shape.UpdateExpression o true)))) in omega (arith, h)
+
+-- 36: an operator and a number go for another operator
+step_falls : (s : Seat) (o : UpdateOperator) (t : Tree) → weight (Expr s) (steps o t) < weight (Expr s) (subtracts o t)
+step_falls s Decrement t = omega (arith, ap length (decimal_digit 1 (omega arith)), step_marks s Decrement (outlines (t ▸ none)) (outlines (t ▸ amount Decrement ▸ none)))
+step_falls s Increment t = omega (arith, step_marks s Increment (outlines (t ▸ none)) (outlines (t ▸ amount Increment ▸ none)))
+
 -- all
 
 expression_falls : (s : Seat) (n w : Tree) → SpellingRow (Expr s) n w → weight (Expr s) w < weight (Expr s) n
-expression_falls s n w (inl r) = falls_by (Expr s) n w _ _ r.shape r.written (boolean_falls s r.value)
-expression_falls s n w (inr (inl r)) = member_falls s n w r
-expression_falls s n w (inr (inr (inl r))) = falls_by (Expr s) n w _ _ r.shape r.written (assigned_falls s r.operator r.target r.turned r.value (target_falls r.target r.turned r.member))
-expression_falls s n w (inr (inr (inr (inl r)))) = falls_by (Expr s) n w _ _ r.shape r.written (updated_falls s r.operator r.is_prefix r.target r.turned (target_falls r.target r.turned r.member))
-expression_falls s n w (inr (inr (inr (inr (inl r))))) = falls_by (Expr s) n w _ _ r.shape r.written (left_falls r.operator r.loose s r.left r.right r.undefined)
-expression_falls s n w (inr (inr (inr (inr (inr (inl r)))))) = falls_by (Expr s) n w _ _ r.shape r.written (right_falls r.operator r.loose s r.left r.right r.undefined)
-expression_falls s n w (inr (inr (inr (inr (inr (inr (inl r))))))) = falls_by (Expr s) n w _ _ r.shape r.written (swap_falls r.operator r.equality s r.left r.right r.ready r.outer)
-expression_falls s n w (inr (inr (inr (inr (inr (inr (inr (inl r)))))))) = falls_by (Expr s) n w _ _ r.shape r.written (yield_falls s)
-expression_falls s n w (inr (inr (inr (inr (inr (inr (inr (inr (inl r))))))))) = falls_by (Expr s) n w _ _ r.shape r.written (typeof_falls r.operator r.equality s r.name)
-expression_falls s n w (inr (inr (inr (inr (inr (inr (inr (inr (inr (inl r)))))))))) = falls_by (Expr s) n w _ _ r.shape r.written (text_falls s r.is_tail r.raw r.content r.shorter)
-expression_falls s n w (inr (inr (inr (inr (inr (inr (inr (inr (inr (inr r)))))))))) = falls_by (Expr s) n w _ _ r.shape r.written (value_falls r.operator r.equality s r.operand)
+expression_falls s n w (ShortBoolean r) = falls_by (Expr s) n w _ _ r.shape r.written (boolean_falls s r.value)
+expression_falls s n w (DottedMember r) = member_falls s n w r
+expression_falls s n w (DottedTarget r) = falls_by (Expr s) n w _ _ r.shape r.written (assigned_falls s r.operator r.target r.turned r.value (target_falls r.target r.turned r.member))
+expression_falls s n w (DottedUpdate r) = falls_by (Expr s) n w _ _ r.shape r.written (updated_falls s r.operator r.is_prefix r.target r.turned (target_falls r.target r.turned r.member))
+expression_falls s n w (LooseLeft r) = falls_by (Expr s) n w _ _ r.shape r.written (left_falls r.operator r.loose s r.left r.right r.undefined)
+expression_falls s n w (LooseRight r) = falls_by (Expr s) n w _ _ r.shape r.written (right_falls r.operator r.loose s r.left r.right r.undefined)
+expression_falls s n w (SwappedEquality r) = falls_by (Expr s) n w _ _ r.shape r.written (swap_falls r.operator r.equality s r.left r.right r.ready r.outer)
+expression_falls s n w (BareYield r) = falls_by (Expr s) n w _ _ r.shape r.written (yield_falls s)
+expression_falls s n w (OrderedTypeof r) = falls_by (Expr s) n w _ _ r.shape r.written (typeof_falls r.operator r.equality s r.name)
+expression_falls s n w (PlainTemplate r) = falls_by (Expr s) n w _ _ r.shape r.written (text_falls s r.is_tail r.raw r.content r.shorter)
+expression_falls s n w (ComparedWithVoid r) = falls_by (Expr s) n w _ _ r.shape r.written (value_falls r.operator r.equality s r.operand)
+expression_falls s n w (Stepped r) = falls_by (Expr s) n w _ _ r.shape r.written (step_falls s r.operator r.target)
 
 pub lighter : SpellingsLighter
 lighter (Expr s) n w r = expression_falls s n w r
@@ -291,17 +313,18 @@ outline_by_row f p n w r = ap f (kept p n w r)
     digit false = refl
 
     kept : (p : Position) (n w : Tree) → SpellingRow p n w → outline n ≡ outline w
-    kept (Expr s) n w (inl r) = ap outline r.shape ∙ digit r.value ∙ sym (ap outline r.written)
-    kept (Expr s) n w (inr (inl r)) = member n w r
-    kept (Expr s) n w (inr (inr (inl r))) = ap outline r.shape ∙ sym (ap outline r.written)
-    kept (Expr s) n w (inr (inr (inr (inl r)))) = ap outline r.shape ∙ sym (ap outline r.written)
-    kept (Expr s) n w (inr (inr (inr (inr (inl r))))) = ap outline r.shape ∙ sym (ap outline r.written)
-    kept (Expr s) n w (inr (inr (inr (inr (inr (inl r)))))) = ap outline r.shape ∙ sym (ap outline r.written)
-    kept (Expr s) n w (inr (inr (inr (inr (inr (inr (inl r))))))) = ap outline r.shape ∙ sym (ap outline r.written)
-    kept (Expr s) n w (inr (inr (inr (inr (inr (inr (inr (inl r)))))))) = ap outline r.shape ∙ sym (ap outline r.written)
-    kept (Expr s) n w (inr (inr (inr (inr (inr (inr (inr (inr (inl r))))))))) = ap outline r.shape ∙ sym (ap outline r.written)
-    kept (Expr s) n w (inr (inr (inr (inr (inr (inr (inr (inr (inr (inl r)))))))))) = ap outline r.shape ∙ sym (ap outline r.written)
-    kept (Expr s) n w (inr (inr (inr (inr (inr (inr (inr (inr (inr (inr r)))))))))) = ap outline r.shape ∙ sym (ap outline r.written)
+    kept (Expr s) n w (ShortBoolean r) = ap outline r.shape ∙ digit r.value ∙ sym (ap outline r.written)
+    kept (Expr s) n w (DottedMember r) = member n w r
+    kept (Expr s) n w (DottedTarget r) = ap outline r.shape ∙ sym (ap outline r.written)
+    kept (Expr s) n w (DottedUpdate r) = ap outline r.shape ∙ sym (ap outline r.written)
+    kept (Expr s) n w (LooseLeft r) = ap outline r.shape ∙ sym (ap outline r.written)
+    kept (Expr s) n w (LooseRight r) = ap outline r.shape ∙ sym (ap outline r.written)
+    kept (Expr s) n w (SwappedEquality r) = ap outline r.shape ∙ sym (ap outline r.written)
+    kept (Expr s) n w (BareYield r) = ap outline r.shape ∙ sym (ap outline r.written)
+    kept (Expr s) n w (OrderedTypeof r) = ap outline r.shape ∙ sym (ap outline r.written)
+    kept (Expr s) n w (PlainTemplate r) = ap outline r.shape ∙ sym (ap outline r.written)
+    kept (Expr s) n w (ComparedWithVoid r) = ap outline r.shape ∙ sym (ap outline r.written)
+    kept (Expr s) n w (Stepped r) = ap outline r.shape ∙ sym (ap outline r.written)
     kept p n w r = absurd r
 
 no_items : (p : Position) (n w : Tree) → SpellingRow p n w → counts_items p ≡ true → (outline n).items ≡ (outline w).items

@@ -5,7 +5,6 @@ use Rattle.mini_terms.specs.Folds.{is_effect_free}
 use Rattle.mini_terms.specs.Parts.{leaves_nothing, weighs}
 use Rattle.mini_terms.specs.Reading.{is_plain_part}
 use Rattle.mini_rows.specs.Lists.{for_loop}
-use Rattle.mini_rows.specs.Decrements.{Row36}
 
 -- its value is asked by nobody, and it does nothing: it is effect-free, leaves nothing behind, and
 -- a parent reads no more of it than that it is there
@@ -34,4 +33,4 @@ pub record Row22Update (n w : Tree) : Type 0 where
 
 -- a row of the head of a `for` reads n as w
 abbrev pub ForPartRow : Tree → Tree → Type 0
-ForPartRow n w = Row22Init n w ⊎ (Row22Update n w ⊎ Row36 n w)
+ForPartRow n w = Row22Init n w ⊎ Row22Update n w

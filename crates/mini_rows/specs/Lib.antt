@@ -18,7 +18,6 @@ pub mod Chains
 pub mod ChainLinks
 pub mod ChainEnds
 pub mod Choices
-pub mod Decrements
 pub mod ForParts
 pub mod Folding
 pub mod Booleans

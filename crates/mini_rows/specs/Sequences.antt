@@ -22,7 +22,7 @@ use Rattle.mini_node.specs.Children.{names_of}
 use Rattle.mini_terms.specs.Folds.{is_effect_free}
 use Rattle.mini_terms.specs.Parts.{is_number, suits, leaves_nothing, weighs}
 use Rattle.mini_terms.specs.Reading.{is_plain_part, is_typed_by_value}
-use Rattle.mini_rows.specs.Decrements.{is_name, is_spelled}
+use Rattle.mini_rows.specs.Folding.{is_spelled}
 use Rattle.mini_rows.specs.Lists.{sequence}
 use Rattle.mini_rows.specs.Spellings.{binary}
 
@@ -128,6 +128,11 @@ takes_alone s = nat_lt 0 s.level || (not s.access && (not s.new_callee && is_unm
 abbrev pub is_callee : Guard → Bool
 is_callee guard.Callee = true
 is_callee g = false
+
+-- an identifier
+abbrev pub is_name : Shape → Bool
+is_name shape.Identifier = true
+is_name h = false
 
 -- a name that is called is given no `this` (ECMA-262, "Function Calls"), as what stands in
 -- parentheses; but a call of the name `eval` may be a direct eval

@@ -1,14 +1,16 @@
 -- Rows on how an expression is spelled, as equations: each is a shape and what is written in its
 -- place. No order of rewriting is meant.
-use Rattle.std.specs.Prelude.{◌≡◌, ◌<◌, ◌⊎◌, ℕ, nat_le, Bool, true, false, List, [], length, Some, codes, ℤ, pos}
+use Rattle.std.specs.Prelude.{◌≡◌, ◌<◌, ◌⊎◌, ℕ, nat_le, Bool, true, false, List, [], length, Some, codes, ℤ, pos, negsuc}
 use Rattle.std.specs.Fmt.{signed_decimal}
 use Rattle.mini_model.specs.Texts.{is_identifier_name}
 use Rattle.mini_model.specs.Numerals.{IsSafe}
 use Rattle.mini_model.specs.declared.operator.AssignmentOperator.{AssignmentOperator}
+use Rattle.mini_model.specs.declared.operator.AssignmentOperator.TheVariants.{Subtraction}
 use Rattle.mini_model.specs.declared.operator.BinaryOperator.{BinaryOperator}
 use Rattle.mini_model.specs.declared.operator.BinaryOperator.TheVariants.{Equality, Inequality, StrictEquality, StrictInequality, LessThan, GreaterThan}
 use Rattle.mini_model.specs.declared.operator.UnaryOperator.TheVariants.{Typeof, Void}
 use Rattle.mini_model.specs.declared.operator.UpdateOperator.{UpdateOperator}
+use Rattle.mini_model.specs.declared.operator.UpdateOperator.TheVariants.{Increment, Decrement}
 use Rattle.mini_model.specs.declared.shape.Shape.TheVariants as shape
 use Rattle.mini_model.specs.Tree.{Tree, node, none, ◌▸◌, leaf, absent, listed, identifier, unresolved, unary, negation, null_literal}
 use Rattle.mini_model.specs.declared.place.Position.{Position}
@@ -238,9 +240,45 @@ pub record Row19 (n w : Tree) : Type 0 where
   pub shape : n ≡ template is_tail raw content
   pub written : w ≡ text content
 
--- a row on a spelling reads n as w at this place
+-- 1, or -1
+abbrev pub amount : UpdateOperator → Tree
+amount Decrement = numeral (pos 1)
+amount Increment = numeral (negsuc 0)
+
+-- `t -= 1`, or `t -= -1`
+abbrev pub subtracts : UpdateOperator → Tree → Tree
+subtracts o t = assignment Subtraction t (amount o)
+
+-- `--t`, or `++t`
+abbrev pub steps : UpdateOperator → Tree → Tree
+steps o t = update o true t
+
+-- 36: `t -= 1` becomes `--t`, and `t -= -1` becomes `++t`: both convert what t holds to a number
+-- (ECMA-262, "Assignment Operators" and "Update Expressions")
+pub record Row36 (n w : Tree) : Type 0 where
+  pub operator : UpdateOperator
+  pub target : Tree
+  pub shape : n ≡ subtracts operator target
+  pub written : w ≡ steps operator target
+
+-- a row on a spelling reads n as w
+pub data Spelling (n w : Tree) : Type 0 where
+  ShortBoolean : Row65 n w → Spelling n w
+  DottedMember : Row33 n w → Spelling n w
+  DottedTarget : Row33Assigned n w → Spelling n w
+  DottedUpdate : Row33Updated n w → Spelling n w
+  LooseLeft : Row58Left n w → Spelling n w
+  LooseRight : Row58Right n w → Spelling n w
+  SwappedEquality : Row54 n w → Spelling n w
+  BareYield : Row60Yield n w → Spelling n w
+  OrderedTypeof : Row55 n w → Spelling n w
+  PlainTemplate : Row19 n w → Spelling n w
+  ComparedWithVoid : Row55Value n w → Spelling n w
+  Stepped : Row36 n w → Spelling n w
+
+-- at this place
 abbrev pub SpellingRow : Position → Tree → Tree → Type 0
-SpellingRow (Expr s) n w = Row65 n w ⊎ (Row33 n w ⊎ (Row33Assigned n w ⊎ (Row33Updated n w ⊎ (Row58Left n w ⊎ (Row58Right n w ⊎ (Row54 n w ⊎ (Row60Yield n w ⊎ (Row55 n w ⊎ (Row19 n w ⊎ Row55Value n w)))))))))
+SpellingRow (Expr s) n w = Spelling n w
 SpellingRow _ n w = ⊥
 
 -- what it writes, where it weighs less

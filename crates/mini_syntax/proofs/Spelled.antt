@@ -22,7 +22,7 @@ use Rattle.mini_model.specs.Position.{is_equality}
 use Rattle.mini_node.specs.Children.{part}
 use Rattle.mini_node.specs.Kinds.{boolean as boolean_of, string, unary_operator, binary_operator, assignment_operator}
 use Rattle.mini_node.specs.Made.{boolean_is, string_is, unary_is, binary_is, assignment_is}
-use Rattle.mini_rows.specs.Spellings.{numeral, text, template, Row19, key, boolean, binary, assignment, update, computed_member, static_member, yields, void_zero, negated_digit, IsLoose, plain, Row65, Row33, Row33Assigned, Row33Updated, Row58Left, Row58Right, Row54, Row60Yield, ordered, strict_operator, typeof_name, Row55, Row55Value, SpellingRow}
+use Rattle.mini_rows.specs.Spellings.{numeral, text, template, Row19, key, boolean, binary, assignment, update, computed_member, static_member, yields, void_zero, negated_digit, IsLoose, plain, Row65, Row33, Row33Assigned, Row33Updated, Row58Left, Row58Right, Row54, Row60Yield, ordered, strict_operator, typeof_name, Row55, Row55Value, SpellingRow, ShortBoolean, DottedMember, DottedTarget, DottedUpdate, LooseLeft, LooseRight, SwappedEquality, BareYield, OrderedTypeof, PlainTemplate, ComparedWithVoid, Stepped}
 use Rattle.mini_syntax.specs.Forms.{first_of, is_undefined, is_plain, is_text_template}
 use Rattle.mini_syntax.specs.SubstituteBoolean as substituted
 use Rattle.mini_syntax.specs.ConvertToDottedProperties as dotted
@@ -358,29 +358,29 @@ none_first None b e = (refl, e)
 none_first (Some y) b e = absurd (cc e)
 
 of_loose : (s : Seat) (n w : Tree) → Row58Left n w ⊎ Row58Right n w → SpellingRow (Expr s) n w
-of_loose s n w (inl r) = inr (inr (inr (inr (inl r))))
-of_loose s n w (inr r) = inr (inr (inr (inr (inr (inl r)))))
+of_loose s n w (inl r) = LooseLeft r
+of_loose s n w (inr r) = LooseRight r
 
 of_equality : (s : Seat) (n w : Tree) → (loose.written n ≡ Some w) ⊎ (swap.written n ≡ Some w) → SpellingRow (Expr s) n w
 of_equality s n w (inl e) = of_loose s n w (loose_row n w e)
-of_equality s n w (inr e) = inr (inr (inr (inr (inr (inr (inl (swap_row n w e)))))))
+of_equality s n w (inr e) = SwappedEquality (swap_row n w e)
 
 of_typeof : (s : Seat) (n w : Tree) → Row55 n w ⊎ Row55Value n w → SpellingRow (Expr s) n w
-of_typeof s n w (inl r) = inr (inr (inr (inr (inr (inr (inr (inr (inl r))))))))
-of_typeof s n w (inr r) = inr (inr (inr (inr (inr (inr (inr (inr (inr (inr r)))))))))
+of_typeof s n w (inl r) = OrderedTypeof r
+of_typeof s n w (inr r) = ComparedWithVoid r
 
 of_binary : (s : Seat) (n w : Tree) → (typeof.written n ≡ Some w) ⊎ (equality_written n ≡ Some w) → SpellingRow (Expr s) n w
 of_binary s n w (inl e) = of_typeof s n w (typeof_row n w e)
 of_binary s n w (inr e) = of_equality s n w (first_is (loose.written n) (swap.written n) w e)
 
 pub written_is_row : law.WrittenIsRow
-written_is_row s (node (shape.BooleanLiteral b) xs n ts) w e = inl (boolean_follows (node (shape.BooleanLiteral b) xs n ts) w e)
-written_is_row s (node (shape.ComputedMemberExpression o) xs n ts) w e = inr (inl (turned_follows (node (shape.ComputedMemberExpression o) xs n ts) w e))
-written_is_row s (node (shape.AssignmentExpression o) xs n ts) w e = inr (inr (inl (assigned_follows (node (shape.AssignmentExpression o) xs n ts) w e)))
-written_is_row s (node (shape.UpdateExpression o l) xs n ts) w e = inr (inr (inr (inl (updated_follows (node (shape.UpdateExpression o l) xs n ts) w e))))
+written_is_row s (node (shape.BooleanLiteral b) xs n ts) w e = ShortBoolean (boolean_follows (node (shape.BooleanLiteral b) xs n ts) w e)
+written_is_row s (node (shape.ComputedMemberExpression o) xs n ts) w e = DottedMember (turned_follows (node (shape.ComputedMemberExpression o) xs n ts) w e)
+written_is_row s (node (shape.AssignmentExpression o) xs n ts) w e = DottedTarget (assigned_follows (node (shape.AssignmentExpression o) xs n ts) w e)
+written_is_row s (node (shape.UpdateExpression o l) xs n ts) w e = DottedUpdate (updated_follows (node (shape.UpdateExpression o l) xs n ts) w e)
 written_is_row s (node (shape.BinaryExpression o) xs n ts) w e = of_binary s (node (shape.BinaryExpression o) xs n ts) w (first_is (typeof.written (node (shape.BinaryExpression o) xs n ts)) (equality_written (node (shape.BinaryExpression o) xs n ts)) w e)
-written_is_row s (node (shape.YieldExpression d) xs n ts) w e = inr (inr (inr (inr (inr (inr (inr (inl (yield_row (node (shape.YieldExpression d) xs n ts) w e))))))))
-written_is_row s (node shape.TemplateLiteral xs n ts) w e = inr (inr (inr (inr (inr (inr (inr (inr (inr (inl (template_row (node shape.TemplateLiteral xs n ts) w e))))))))))
+written_is_row s (node (shape.YieldExpression d) xs n ts) w e = BareYield (yield_row (node (shape.YieldExpression d) xs n ts) w e)
+written_is_row s (node shape.TemplateLiteral xs n ts) w e = PlainTemplate (template_row (node shape.TemplateLiteral xs n ts) w e)
 written_is_row s (node h xs n ts) w e = absurd (cc e)
 
 -- what is written for a node whose form is told
@@ -409,25 +409,25 @@ member_misses n w (inl r) e = turned_misses (computed_member r.is_optional r.obj
 member_misses n w (inr r) e = turned_misses (computed_member false r.object (text (signed_decimal r.number))) w (subst (λ x. Row33 x w) r.shape (inr r)) (unwritten n (computed_member false r.object (text (signed_decimal r.number))) r.shape e)
 
 pub unwritten_rests : law.UnwrittenRests
-unwritten_rests s n e w (inl r) = absurd (cc (unwritten n (boolean r.value) r.shape e))
-unwritten_rests s n e w (inr (inl r)) = member_misses n w r e
-unwritten_rests s n e w (inr (inr (inl r))) = assigned_misses n w r e
-unwritten_rests s n e w (inr (inr (inr (inl r)))) = updated_misses n w r e
-unwritten_rests s n e w (inr (inr (inr (inr (inl r))))) =
+unwritten_rests s n e w (ShortBoolean r) = absurd (cc (unwritten n (boolean r.value) r.shape e))
+unwritten_rests s n e w (DottedMember r) = member_misses n w r e
+unwritten_rests s n e w (DottedTarget r) = assigned_misses n w r e
+unwritten_rests s n e w (DottedUpdate r) = updated_misses n w r e
+unwritten_rests s n e w (LooseLeft r) =
     let sides = sides_of r.operator r.left r.right (unwritten n (binary r.operator r.left r.right) r.shape e) in
     absurd (cc (sym (undefined_passes r.left r.undefined) ∙ (unwritten_sides r.operator r.left r.right r.loose sides.0).0))
-unwritten_rests s n e w (inr (inr (inr (inr (inr (inl r)))))) =
+unwritten_rests s n e w (LooseRight r) =
     let sides = sides_of r.operator r.left r.right (unwritten n (binary r.operator r.left r.right) r.shape e) in
     absurd (cc (sym (undefined_passes r.right r.undefined) ∙ (unwritten_sides r.operator r.left r.right r.loose sides.0).1))
-unwritten_rests s n e w (inr (inr (inr (inr (inr (inr (inl r))))))) =
+unwritten_rests s n e w (SwappedEquality r) =
     let sides = sides_of r.operator (plain r.left) r.right (unwritten n (binary r.operator (plain r.left) r.right) r.shape e) in
     swap_misses (binary r.operator (plain r.left) r.right) w (subst (λ x. Row54 x w) r.shape r) sides.1
-unwritten_rests s n e w (inr (inr (inr (inr (inr (inr (inr (inl r)))))))) = absurd (cc (unwritten n (yields void_zero) r.shape e))
-unwritten_rests s n e w (inr (inr (inr (inr (inr (inr (inr (inr (inl r))))))))) =
+unwritten_rests s n e w (BareYield r) = absurd (cc (unwritten n (yields void_zero) r.shape e))
+unwritten_rests s n e w (OrderedTypeof r) =
     let long : Tree = binary r.operator (typeof_name r.name) (text (codes "undefined")) in
     typeof_misses long w (subst (λ x. Row55 x w) r.shape r) (none_first (typeof.written long) (equality_written long) (unwritten n long r.shape e)).0
-unwritten_rests s n e w (inr (inr (inr (inr (inr (inr (inr (inr (inr (inl r)))))))))) = template_misses r.is_tail r.raw r.content r.shorter (unwritten n (template r.is_tail r.raw r.content) r.shape e)
-unwritten_rests s n e w (inr (inr (inr (inr (inr (inr (inr (inr (inr (inr r)))))))))) =
+unwritten_rests s n e w (PlainTemplate r) = template_misses r.is_tail r.raw r.content r.shorter (unwritten n (template r.is_tail r.raw r.content) r.shape e)
+unwritten_rests s n e w (ComparedWithVoid r) =
     let long : Tree = binary r.operator (unary Typeof r.operand) (text (codes "undefined")) in
     value_misses long w (subst (λ x. Row55Value x w) r.shape r) (none_first (typeof.written long) (equality_written long) (unwritten n long r.shape e)).0
 
