@@ -1,5 +1,4 @@
 -- Rows of the head of a `for` read a node that is read again.
-use Rattle.mini_again.proofs.DecrementsAgain.{row36_again}
 use Rattle.mini_again.proofs.TermEffectsAgain.{ef_again}
 use Rattle.mini_again.proofs.TermPartsAgain.{leaves_nothing_again, weighs_again}
 use Rattle.mini_again.proofs.TermReadingAgain.{is_plain_part_again}
@@ -33,5 +32,4 @@ row22_update_again ρ n w r = record {
 
 pub for_part_row_again : (ρ : Renaming) (n w : Tree) → ForPartRow n w → ForPartRow (again ρ n) (again ρ w)
 for_part_row_again ρ n w (inl r) = inl (row22_init_again ρ n w r)
-for_part_row_again ρ n w (inr (inl r)) = inr (inl (row22_update_again ρ n w r))
-for_part_row_again ρ n w (inr (inr r)) = inr (inr (row36_again ρ n w r))
+for_part_row_again ρ n w (inr r) = inr (row22_update_again ρ n w r)

@@ -1,5 +1,5 @@
 -- Rows on `this` that does nothing read a node that is read again.
-use Rattle.mini_again.proofs.DecrementsAgain.{is_spelled_again}
+use Rattle.mini_again.proofs.FoldingAgain.{is_spelled_again}
 use Rattle.mini_again.proofs.ModelPathsAgain.{append_again}
 use Rattle.mini_again.proofs.ModelTreeAgain.{count_again, shape_of_again}
 use Rattle.mini_again.proofs.NodeChildrenAgain.{names_of_again}

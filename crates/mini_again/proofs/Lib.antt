@@ -32,7 +32,6 @@ pub mod DeMorganAgain
 pub mod DeadCasesAgain
 pub mod DeadLexicalsAgain
 pub mod DeclarationsAgain
-pub mod DecrementsAgain
 pub mod FoldingAgain
 pub mod ForPartsAgain
 pub mod KeyHoldersAgain

@@ -1,5 +1,5 @@
 -- Rows of sequences read a node that is read again.
-use Rattle.mini_again.proofs.DecrementsAgain.{is_spelled_again}
+use Rattle.mini_again.proofs.FoldingAgain.{is_spelled_again}
 use Rattle.mini_again.proofs.ModelPathsAgain.{append_again}
 use Rattle.mini_again.proofs.ModelTreeAgain.{children_again, count_again, shape_of_again}
 use Rattle.mini_again.proofs.ModelWeightAgain.{outlines_again}

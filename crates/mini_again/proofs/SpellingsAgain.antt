@@ -8,10 +8,12 @@ use Rattle.mini_model.specs.Tree.{Tree, node, shape_of}
 use Rattle.mini_model.specs.declared.place.Position.{Position}
 use Rattle.mini_model.specs.declared.place.Position.TheVariants.{Expr}
 use Rattle.mini_node.specs.Children.{names_of}
-use Rattle.mini_rows.specs.Spellings.{IsUndefined, PlainForm, Row19, Row33, Row33Assigned, Row33Name, Row33Number, Row33Updated, Row54, Row55, Row55Value, Row58Left, Row58Right, Row60Yield, Row65, SpellingRow, a_big_int, a_boolean, a_null, a_number, a_template, a_text, a_void, is_awkward_left, is_inner, negated_digit, plain, ShortBoolean, DottedMember, DottedTarget, DottedUpdate, LooseLeft, LooseRight, SwappedEquality, BareYield, OrderedTypeof, PlainTemplate, ComparedWithVoid, Stepped}
+use Rattle.mini_rows.specs.Spellings.{IsUndefined, PlainForm, Row19, Row33, Row33Assigned, Row33Name, Row33Number, Row33Updated, Row54, Row55, Row55Value, Row58Left, Row58Right, Row60Yield, Row65, SpellingRow, a_big_int, a_boolean, a_null, a_number, a_template, a_text, a_void, is_awkward_left, is_inner, negated_digit, plain, ShortBoolean, DottedMember, DottedTarget, DottedUpdate, LooseLeft, LooseRight, SwappedEquality, BareYield, OrderedTypeof, PlainTemplate, ComparedWithVoid, Stepped, Row36, amount}
 use Rattle.std.proofs.Common.{ap, inl, inr}
 use Rattle.std.specs.Prelude.{Bool, false, refl, true, ◌≡◌}
 use Rattle.mini_model.specs.declared.shape.Shape.TheVariants as shape
+use Rattle.mini_model.specs.declared.operator.UpdateOperator.{UpdateOperator}
+use Rattle.mini_model.specs.declared.operator.UpdateOperator.TheVariants.{Decrement, Increment}
 
 pub is_undefined_again : (ρ : Renaming) (v : Tree) → IsUndefined v → IsUndefined (again ρ v)
 is_undefined_again ρ v (inl r) = inl (ap (again ρ) r)
@@ -158,6 +160,18 @@ row65_again ρ n w r = record {
   written = simp (negated_digit_again ρ r.value) at (ap (again ρ) r.written);
 }
 
+pub amount_again : (ρ : Renaming) (o : UpdateOperator) → again ρ (amount o) ≡ amount o
+amount_again ρ Decrement = refl
+amount_again ρ Increment = refl
+
+pub row36_again : (ρ : Renaming) (n w : Tree) → Row36 n w → Row36 (again ρ n) (again ρ w)
+row36_again ρ n w r = record {
+  operator = r.operator;
+  target = again ρ r.target;
+  shape = simp (amount_again ρ r.operator) at (ap (again ρ) r.shape);
+  written = ap (again ρ) r.written;
+}
+
 pub spelling_row_again : (ρ : Renaming) (p : Position) (n w : Tree) → SpellingRow p n w → SpellingRow p (again ρ n) (again ρ w)
 spelling_row_again ρ (Expr s) n w (ShortBoolean r) = ShortBoolean (row65_again ρ n w r)
 spelling_row_again ρ (Expr s) n w (DottedMember r) = DottedMember (row33_again ρ n w r)
@@ -170,4 +184,5 @@ spelling_row_again ρ (Expr s) n w (BareYield r) = BareYield (row60_yield_again 
 spelling_row_again ρ (Expr s) n w (OrderedTypeof r) = OrderedTypeof (row55_again ρ n w r)
 spelling_row_again ρ (Expr s) n w (PlainTemplate r) = PlainTemplate (row19_again ρ n w r)
 spelling_row_again ρ (Expr s) n w (ComparedWithVoid r) = ComparedWithVoid (row55_value_again ρ n w r)
+spelling_row_again ρ (Expr s) n w (Stepped r) = Stepped (row36_again ρ n w r)
 spelling_row_again ρ p0 n w r = absurd r

@@ -14,7 +14,6 @@ use Rattle.mini_kept.proofs.Quiet.{no_names}
 use Rattle.mini_terms.specs.Folds.{is_effect_free}
 use Rattle.mini_terms.specs.Parts.{leaves_nothing, weighs}
 use Rattle.mini_terms.specs.Reading.{is_plain_part}
-use Rattle.mini_rows.specs.Decrements.{amount, subtracts, Row36}
 use Rattle.mini_rows.specs.Folding.{Row13, Row12, Row28, Row49Idle, Row9, Row22, FoldingRow, FoldingContracts}
 use Rattle.mini_rows.specs.ForParts.{is_idle, Row22Init, Row22Update}
 use Rattle.mini_rows.proofs.ForPartKept.{plain_is_quiet}
@@ -65,11 +64,6 @@ update_less q n w r =
     loop_less q n w AFor r.init r.init (r.test ▸ (r.update ▸ (r.body ▸ none))) (r.test ▸ (absent ▸ (r.body ▸ none))) r.shape r.written refl (inl (refl, refl)) (λ strict x k Q l y.
     (y.0, (y.1.0, (l.up AbsentPart refl AsValue none tt tt, y.1.1.1))))
 
-decrement_less : (q : StmtSeat) (n w : Tree) → Row36 n w → LessAt (Stmt q) n w
-decrement_less q n w r =
-    loop_less q n w AFor r.init r.init (r.test ▸ (subtracts r.operator r.name ▸ (r.body ▸ none))) (r.test ▸ (_ ▸ (r.body ▸ none))) r.shape r.written refl (inl (refl, refl)) (λ strict x k Q l y.
-    (y.0, (y.1.0, (l.up (Update r.operator true) refl AsValue (identifier r.name ▸ none) tt ((l.down (Assignment Subtraction) refl AsValue (identifier r.name ▸ amount r.operator ▸ none) tt y.1.1.0).0, tt), y.1.1.1))))
-
 pub emptied_less : (q : StmtSeat) (n w : Tree) → Row22 n w → LessAt (Stmt q) n w
 emptied_less q n w r = made_statement_less q n w OfExpression Empty (r.expression ▸ none) none refl refl r.shape r.written tt (λ strict x k Q l y. subst (Q AsWhole) (sym r.written) (l.up Empty refl AsWhole none tt tt))
 
@@ -81,8 +75,7 @@ row_less (Expr q) n w (inr (inr (inr (inl r)))) = branch_less q n w r
 row_less (Expr q) n w (inr (inr (inr (inr r)))) = counted_less q n w r
 row_less (Stmt q) n w (inl r) = emptied_less q n w r
 row_less (Stmt q) n w (inr (inl r)) = init_less q n w r
-row_less (Stmt q) n w (inr (inr (inl r))) = update_less q n w r
-row_less (Stmt q) n w (inr (inr (inr r))) = decrement_less q n w r
+row_less (Stmt q) n w (inr (inr r)) = update_less q n w r
 row_less p n w r = absurd r
 
 pub foldings_read_less : FoldingsReadLess

@@ -9,11 +9,12 @@ use Rattle.mini_model.specs.declared.shape.Shape.TheVariants as shape
 use Rattle.std.specs.Fmt.{signed_decimal}
 use Rattle.mini_model.specs.Tree.{Tree, node, none, ◌▸◌, listed, unary, absent, null_literal}
 use Rattle.mini_rows.specs.Sketches.{AbsentPart, BooleanValue, String, PropertyName, Unary, Binary, StaticMember, ComputedMember, Yield, Template, Assignment, Update, Asked, AsValue, AsWord, target_asked}
-use Rattle.mini_rows.specs.Spellings.{text, numeral, key, boolean, void_zero, negated_digit, computed_member, static_member, plain, typeof_name, ordered, strict_operator, Row33Name, Row33Number, Row33, Row33Assigned, Row33Updated, Row58Left, Row58Right, Row54, Row60Yield, Row55, Row55Value, Row19, SpellingRow, SpellingContracts, ShortBoolean, DottedMember, DottedTarget, DottedUpdate, LooseLeft, LooseRight, SwappedEquality, BareYield, OrderedTypeof, PlainTemplate, ComparedWithVoid, Stepped}
+use Rattle.mini_rows.specs.Spellings.{text, numeral, key, boolean, void_zero, negated_digit, computed_member, static_member, plain, typeof_name, ordered, strict_operator, Row33Name, Row33Number, Row33, Row33Assigned, Row33Updated, Row58Left, Row58Right, Row54, Row60Yield, Row55, Row55Value, Row19, SpellingRow, SpellingContracts, ShortBoolean, DottedMember, DottedTarget, DottedUpdate, LooseLeft, LooseRight, SwappedEquality, BareYield, OrderedTypeof, PlainTemplate, ComparedWithVoid, Stepped, Row36, amount}
 use Rattle.mini_less.specs.Families.{LessAt, SpellingsReadLess}
 use Rattle.mini_less.proofs.LessRows.{reads_less_by}
 use Rattle.mini_less.proofs.Made.{ByParts}
 use Rattle.mini_less.proofs.Nodes.{unary_part, binary_parts, a_binary, a_number, a_text, a_null, a_void, a_truth, made_under}
+use Rattle.mini_model.specs.declared.operator.AssignmentOperator.TheVariants.{Subtraction}
 
 -- 33, however the member stands
 module _ (Q : Asked → Tree → Type 0) (l : ByParts Q) (c : Asked) where
@@ -78,6 +79,12 @@ module _ (q : Seat) (n w : Tree) where
   text_less : Row19 n w → LessAt (Expr q) n w
   text_less r = made_under q n w Template (listed (node (shape.TemplateElement r.is_tail r.raw (Some r.content)) [] 0 none ▸ none) ▸ listed none ▸ none) refl r.shape tt (String r.content) none refl r.written (λ strict x k Q l y. subst (Q AsValue) (sym r.written) (a_text Q l r.content))
 
+  stepped_less : Row36 n w → LessAt (Expr q) n w
+  stepped_less r =
+      made_under q n w (Assignment Subtraction) (r.target ▸ amount r.operator ▸ none) refl r.shape tt (Update r.operator true) (r.target ▸ none) refl r.written (λ strict x k Q l y.
+      let target = (l.down (Assignment Subtraction) refl AsValue (r.target ▸ amount r.operator ▸ none) tt (subst (Q AsValue) r.shape y)).0 in
+      subst (Q AsValue) (sym r.written) (l.up (Update r.operator true) refl AsValue (r.target ▸ none) tt (target, tt)))
+
 row_less : (p : Position) (n w : Tree) → SpellingRow p n w → LessAt p n w
 row_less (Expr q) n w (ShortBoolean r) = boolean_less q n w r.value r.shape r.written
 row_less (Expr q) n w (DottedMember (inl r)) = name_less q n w r
@@ -91,6 +98,7 @@ row_less (Expr q) n w (BareYield r) = yield_less q n w r
 row_less (Expr q) n w (OrderedTypeof r) = typeof_less q n w r
 row_less (Expr q) n w (PlainTemplate r) = text_less q n w r
 row_less (Expr q) n w (ComparedWithVoid r) = value_less q n w r
+row_less (Expr q) n w (Stepped r) = stepped_less q n w r
 row_less p n w r = absurd r
 
 pub spellings_read_less : SpellingsReadLess

@@ -8,10 +8,7 @@ use Rattle.mini_rows.proofs.SpellWeights.{lighter}
 use Rattle.mini_tree.specs.Rule.{Applied}
 use Rattle.mini_tree.proofs.Reaching.{moves_once}
 use Rattle.mini_syntax.specs.Forms.{first_of}
-use Rattle.mini_syntax.specs.SubstituteLooseEqualsUndefined as loose
-use Rattle.mini_syntax.specs.SubstituteSwapBinaryExpressions as swap
-use Rattle.mini_syntax.specs.SubstituteTypeofUndefined as typeof
-use Rattle.mini_syntax.specs.Spelled.{equality_written, binary_written, written, Gives, Rests}
+use Rattle.mini_syntax.specs.Spelled.{written, Gives, Rests}
 use Rattle.mini_syntax.proofs.Spelled.{written_is_row, unwritten_rests}
 
 pub applied : (s : Seat) (t u : Tree) (b : Bool) → u ≡ unwrap_or (written t) t → b ≡ is_some (written t) → Applied Gives Rests (Expr s) t u b
@@ -21,33 +18,11 @@ applied s t u b e f = subst (λ v. Applied Gives Rests (Expr s) t v b) (sym e) (
     go None h = (refl, unwritten_rests s t h)
     go (Some w) h = let row = written_is_row s t w h in moves_once Gives (Expr s) t w (record { row = row; lighter = lighter (Expr s) t w row })
 
--- where the first of two rewrites writes nothing, the second is tried on the same expression
+-- ---- two rewrites of one expression, of which the second is tried where the first writes nothing
 
 none_written : (o : Option Tree) → false ≡ is_some o → o ≡ None
 none_written None e = refl
 none_written (Some w) e = absurd (cc e)
-
-left_as_it_was : (t u : Tree) → u ≡ unwrap_or (loose.written t) t → false ≡ is_some (loose.written t) → u ≡ t
-left_as_it_was t u e f = e ∙ ap (λ o. unwrap_or o t) (none_written (loose.written t) f)
-
-pub second_written : (t u : Tree) → u ≡ unwrap_or (loose.written t) t → false ≡ is_some (loose.written t) → swap.written u ≡ equality_written t
-second_written t u e f = ap swap.written (left_as_it_was t u e f) ∙ sym (ap (λ o. first_of o (swap.written t)) (none_written (loose.written t) f))
-
-pub second_made : (t u : Tree) → u ≡ unwrap_or (loose.written t) t → false ≡ is_some (loose.written t) → unwrap_or (swap.written u) u ≡ unwrap_or (equality_written t) t
-second_made t u e f = ap (λ o. unwrap_or o u) (second_written t u e f) ∙ ap (unwrap_or (equality_written t)) (left_as_it_was t u e f)
-
--- so is the one after them
-
-typeof_as_it_was : (t u : Tree) → u ≡ unwrap_or (typeof.written t) t → false ≡ is_some (typeof.written t) → u ≡ t
-typeof_as_it_was t u e f = e ∙ ap (λ o. unwrap_or o t) (none_written (typeof.written t) f)
-
-pub third_written : (t u : Tree) → u ≡ unwrap_or (typeof.written t) t → false ≡ is_some (typeof.written t) → equality_written u ≡ binary_written t
-third_written t u e f = ap equality_written (typeof_as_it_was t u e f) ∙ sym (ap (λ o. first_of o (equality_written t)) (none_written (typeof.written t) f))
-
-pub third_made : (t u : Tree) → u ≡ unwrap_or (typeof.written t) t → false ≡ is_some (typeof.written t) → unwrap_or (equality_written u) u ≡ unwrap_or (binary_written t) t
-third_made t u e f = ap (λ o. unwrap_or o u) (third_written t u e f) ∙ ap (unwrap_or (binary_written t)) (typeof_as_it_was t u e f)
-
--- where the first one wrote something, that is what is written
 
 some_made : (a b : Option Tree) (t u : Tree) → u ≡ unwrap_or a t → true ≡ is_some a → u ≡ unwrap_or (first_of a b) t
 some_made (Some w) b t u e f = e
@@ -57,8 +32,23 @@ some_said : (a b : Option Tree) → true ≡ is_some a → true ≡ is_some (fir
 some_said (Some w) b f = refl
 some_said None b f = absurd (cc f)
 
-pub typeof_made : (t u : Tree) → u ≡ unwrap_or (typeof.written t) t → true ≡ is_some (typeof.written t) → u ≡ unwrap_or (binary_written t) t
-typeof_made t u e f = some_made (typeof.written t) (equality_written t) t u e f
+module _ (first second : Tree → Option Tree) (t u : Tree) where
+  -- what the two write
+  abbrev either : Option Tree
+  either = first_of (first t) (second t)
 
-pub typeof_said : (t : Tree) → true ≡ is_some (typeof.written t) → true ≡ is_some (binary_written t)
-typeof_said t f = some_said (typeof.written t) (equality_written t) f
+  left_as_it_was : u ≡ unwrap_or (first t) t → false ≡ is_some (first t) → u ≡ t
+  left_as_it_was e f = e ∙ ap (λ o. unwrap_or o t) (none_written (first t) f)
+
+  pub second_written : u ≡ unwrap_or (first t) t → false ≡ is_some (first t) → second u ≡ either
+  second_written e f = ap second (left_as_it_was e f) ∙ sym (ap (λ o. first_of o (second t)) (none_written (first t) f))
+
+  pub second_made : u ≡ unwrap_or (first t) t → false ≡ is_some (first t) → unwrap_or (second u) u ≡ unwrap_or either t
+  second_made e f = ap (λ o. unwrap_or o u) (second_written e f) ∙ ap (unwrap_or either) (left_as_it_was e f)
+
+  -- where the first one wrote something, that is what is written
+  pub first_made : u ≡ unwrap_or (first t) t → true ≡ is_some (first t) → u ≡ unwrap_or either t
+  first_made e f = some_made (first t) (second t) t u e f
+
+  pub first_said : true ≡ is_some (first t) → true ≡ is_some either
+  first_said f = some_said (first t) (second t) f

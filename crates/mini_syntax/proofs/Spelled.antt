@@ -1,6 +1,6 @@
 -- What the rewrites of spellings write is what a row says, and where they write nothing no row reads the expression.
-use Rattle.std.proofs.Common.{◌≡◌, ℕ, zero, Bool, true, false, List, [], ◌∷◌, Option, Some, None, refl, sym, ap, subst, ◌∙◌, inl, inr}
-use Rattle.std.specs.Prelude.{◌⊎◌, ◌&&◌, nat_le, length, is_none, codes, ℤ, if◌then◌else◌}
+use Rattle.std.proofs.Common.{◌≡◌, ℕ, zero, Bool, true, false, List, [], ◌∷◌, Option, Some, None, refl, sym, ap, subst, ◌∙◌, inl, inr, suc}
+use Rattle.std.specs.Prelude.{◌⊎◌, ◌&&◌, nat_le, length, is_none, codes, ℤ, if◌then◌else◌, pos, negsuc}
 use Rattle.std.specs.Fmt.{signed_decimal}
 use Rattle.std.proofs.lemmas.Bool.{and_parts}
 use Rattle.mini_model.specs.Texts.{is_identifier_name}
@@ -20,13 +20,14 @@ use Rattle.mini_model.specs.declared.shape.Shape.TheVariants as shape
 use Rattle.mini_model.specs.Tree.{Tree, shape_of, node, none, ◌▸◌, absent, identifier, unresolved, unary, null_literal}
 use Rattle.mini_model.specs.Position.{is_equality}
 use Rattle.mini_node.specs.Children.{part}
-use Rattle.mini_node.specs.Kinds.{boolean as boolean_of, string, unary_operator, binary_operator, assignment_operator}
-use Rattle.mini_node.specs.Made.{boolean_is, string_is, unary_is, binary_is, assignment_is}
-use Rattle.mini_rows.specs.Spellings.{numeral, text, template, Row19, key, boolean, binary, assignment, update, computed_member, static_member, yields, void_zero, negated_digit, IsLoose, plain, Row65, Row33, Row33Assigned, Row33Updated, Row58Left, Row58Right, Row54, Row60Yield, ordered, strict_operator, typeof_name, Row55, Row55Value, SpellingRow, ShortBoolean, DottedMember, DottedTarget, DottedUpdate, LooseLeft, LooseRight, SwappedEquality, BareYield, OrderedTypeof, PlainTemplate, ComparedWithVoid, Stepped}
+use Rattle.mini_node.specs.Kinds.{boolean as boolean_of, string, unary_operator, binary_operator, assignment_operator, number}
+use Rattle.mini_node.specs.Made.{boolean_is, string_is, unary_is, binary_is, assignment_is, number_is}
+use Rattle.mini_rows.specs.Spellings.{numeral, text, template, Row19, key, boolean, binary, assignment, update, computed_member, static_member, yields, void_zero, negated_digit, IsLoose, plain, Row65, Row33, Row33Assigned, Row33Updated, Row58Left, Row58Right, Row54, Row60Yield, ordered, strict_operator, typeof_name, Row55, Row55Value, SpellingRow, ShortBoolean, DottedMember, DottedTarget, DottedUpdate, LooseLeft, LooseRight, SwappedEquality, BareYield, OrderedTypeof, PlainTemplate, ComparedWithVoid, Stepped, Row36, amount, subtracts, steps}
 use Rattle.mini_syntax.specs.Forms.{first_of, is_undefined, is_plain, is_text_template}
 use Rattle.mini_syntax.specs.SubstituteBoolean as substituted
 use Rattle.mini_syntax.specs.ConvertToDottedProperties as dotted
 use Rattle.mini_syntax.specs.ConvertToDottedProperties.{turned, is_name_text, named_member, numbered_member, as_name, update_operator}
+use Rattle.mini_syntax.specs.MinimizeAssignmentToUpdateExpression as stepping
 use Rattle.mini_syntax.specs.SubstituteLooseEqualsUndefined as loose
 use Rattle.mini_syntax.specs.SubstituteSwapBinaryExpressions as swap
 use Rattle.mini_syntax.specs.SubstituteTemplateLiteral as templates
@@ -38,6 +39,8 @@ use Rattle.mini_syntax.specs.SubstituteYieldExpression as yielding
 use Rattle.mini_syntax.specs.Spelled as law
 use Rattle.mini_syntax.specs.Spelled.{equality_written, written}
 use Rattle.mini_syntax.proofs.FormsAre.{same_texts, void_zero_is, undefined_is, undefined_passes, template_told, plain_is, plain_passes, ready_is, ready_passes}
+use Rattle.mini_model.specs.declared.operator.UpdateOperator.TheVariants.{Decrement, Increment}
+use Rattle.mini_model.specs.declared.operator.AssignmentOperator.TheVariants.{Subtraction}
 
 some_is : {A : Type 0} (x y : A) → Some x ≡ Some y → x ≡ y
 some_is x y e = cc e
@@ -315,6 +318,37 @@ value_unwritten t w r e =
 pub value_misses : (t w : Tree) → Row55Value t w → typeof.written t ≡ None → ⊥
 value_misses t w r e = value_unwritten t w r (no_value t e)
 
+-- 36
+
+amount_is : (o : UpdateOperator) (t : Tree) → stepping.step_in (number t) ≡ Some o → t ≡ amount o
+amount_is o t e = go (number t) refl e
+  where
+    go : (n : Option ℤ) → number t ≡ n → stepping.step_in n ≡ Some o → t ≡ amount o
+    go (Some (pos (suc zero))) h e = number_is t (pos 1) h ∙ ap amount {x = Decrement} {y = o} (cc e)
+    go (Some (negsuc zero)) h e = number_is t (negsuc 0) h ∙ ap amount {x = Increment} {y = o} (cc e)
+    go n h e = absurd (cc e)
+
+subtracts_is : (o : UpdateOperator) (t : Tree) → stepping.step_of t ≡ Some o → t ≡ subtracts o (part t 0)
+subtracts_is o t e = go (assignment_operator t) refl e
+  where
+    go : (a : Option AssignmentOperator) → assignment_operator t ≡ a → (if stepping.is_subtraction a then stepping.step_in (number (part t 1)) else None) ≡ Some o → t ≡ subtracts o (part t 0)
+    go (Some Subtraction) h e = assignment_is t Subtraction h ∙ ap (assignment Subtraction (part t 0)) (amount_is o (part t 1) e)
+    go a h e = absurd (cc e)
+
+pub step_row : (n w : Tree) → stepping.written n ≡ Some w → Row36 n w
+step_row n w e = go (stepping.step_of n) refl e
+  where
+    go : (x : Option UpdateOperator) → stepping.step_of n ≡ x → stepping.written_by x n ≡ Some w → Row36 n w
+    go (Some o) h e = record { operator = o; target = part n 0; shape = subtracts_is o n h; written = sym (some_is (steps o (part n 0)) w e) }
+    go None h e = absurd (cc e)
+
+pub step_misses : (n w : Tree) → Row36 n w → stepping.written n ≡ None → ⊥
+step_misses n w r e = by r.operator (sym (ap stepping.written r.shape) ∙ e)
+  where
+    by : (o : UpdateOperator) → stepping.written (subtracts o r.target) ≡ None → ⊥
+    by Decrement e = absurd (cc e)
+    by Increment e = absurd (cc e)
+
 -- 60
 
 yield_is : (t : Tree) → yielding.yields_void_zero t ≡ true → t ≡ yields void_zero
@@ -357,6 +391,10 @@ none_first : {A : Type 0} (a b : Option A) → first_of a b ≡ None → (a ≡ 
 none_first None b e = (refl, e)
 none_first (Some y) b e = absurd (cc e)
 
+of_assignment : (s : Seat) (n w : Tree) → (stepping.written n ≡ Some w) ⊎ (dotted.assigned n ≡ Some w) → SpellingRow (Expr s) n w
+of_assignment s n w (inl e) = Stepped (step_row n w e)
+of_assignment s n w (inr e) = DottedTarget (assigned_follows n w e)
+
 of_loose : (s : Seat) (n w : Tree) → Row58Left n w ⊎ Row58Right n w → SpellingRow (Expr s) n w
 of_loose s n w (inl r) = LooseLeft r
 of_loose s n w (inr r) = LooseRight r
@@ -376,7 +414,7 @@ of_binary s n w (inr e) = of_equality s n w (first_is (loose.written n) (swap.wr
 pub written_is_row : law.WrittenIsRow
 written_is_row s (node (shape.BooleanLiteral b) xs n ts) w e = ShortBoolean (boolean_follows (node (shape.BooleanLiteral b) xs n ts) w e)
 written_is_row s (node (shape.ComputedMemberExpression o) xs n ts) w e = DottedMember (turned_follows (node (shape.ComputedMemberExpression o) xs n ts) w e)
-written_is_row s (node (shape.AssignmentExpression o) xs n ts) w e = DottedTarget (assigned_follows (node (shape.AssignmentExpression o) xs n ts) w e)
+written_is_row s (node (shape.AssignmentExpression o) xs n ts) w e = of_assignment s (node (shape.AssignmentExpression o) xs n ts) w (first_is (stepping.written (node (shape.AssignmentExpression o) xs n ts)) (dotted.assigned (node (shape.AssignmentExpression o) xs n ts)) w e)
 written_is_row s (node (shape.UpdateExpression o l) xs n ts) w e = DottedUpdate (updated_follows (node (shape.UpdateExpression o l) xs n ts) w e)
 written_is_row s (node (shape.BinaryExpression o) xs n ts) w e = of_binary s (node (shape.BinaryExpression o) xs n ts) w (first_is (typeof.written (node (shape.BinaryExpression o) xs n ts)) (equality_written (node (shape.BinaryExpression o) xs n ts)) w e)
 written_is_row s (node (shape.YieldExpression d) xs n ts) w e = BareYield (yield_row (node (shape.YieldExpression d) xs n ts) w e)
@@ -388,7 +426,7 @@ unwritten : (n m : Tree) → n ≡ m → written n ≡ None → written m ≡ No
 unwritten n m e h = sym (ap written e) ∙ h
 
 assigned_misses : (n w : Tree) → Row33Assigned n w → written n ≡ None → ⊥
-assigned_misses n w r e = go (turned r.target) refl (unwritten n (assignment r.operator r.target r.value) r.shape e)
+assigned_misses n w r e = let long : Tree = assignment r.operator r.target r.value in go (turned r.target) refl (none_first (stepping.written long) (dotted.written long) (unwritten n long r.shape e)).1
   where
     go : (m : Option Tree) → turned r.target ≡ m → dotted.assigned_by (Some r.operator) (turned r.target) (assignment r.operator r.target r.value) ≡ None → ⊥
     go None h e = turned_misses r.target r.turned r.member h
@@ -430,6 +468,7 @@ unwritten_rests s n e w (PlainTemplate r) = template_misses r.is_tail r.raw r.co
 unwritten_rests s n e w (ComparedWithVoid r) =
     let long : Tree = binary r.operator (unary Typeof r.operand) (text (codes "undefined")) in
     value_misses long w (subst (λ x. Row55Value x w) r.shape r) (none_first (typeof.written long) (equality_written long) (unwritten n long r.shape e)).0
+unwritten_rests s n e w (Stepped r) = let long : Tree = subtracts r.operator r.target in step_misses long w (subst (λ x. Row36 x w) r.shape r) (none_first (stepping.written long) (dotted.written long) (unwritten n long r.shape e)).0
 
 pub rests_settle : law.RestsSettle
 rests_settle p n w r c = r w c.row

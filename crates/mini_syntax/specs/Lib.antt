@@ -2,6 +2,7 @@ pub mod Forms
 pub mod SubstituteArrowExpression
 pub mod SubstituteBoolean
 pub mod ConvertToDottedProperties
+pub mod MinimizeAssignmentToUpdateExpression
 pub mod SubstituteLooseEqualsUndefined
 pub mod SubstituteSwapBinaryExpressions
 pub mod SubstituteTypeofValue

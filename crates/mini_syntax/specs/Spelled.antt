@@ -10,11 +10,16 @@ use Rattle.mini_rows.specs.Spellings.{SpellingRow, SpellingContracts}
 use Rattle.mini_syntax.specs.Forms.{first_of}
 use Rattle.mini_syntax.specs.SubstituteBoolean as boolean
 use Rattle.mini_syntax.specs.ConvertToDottedProperties as dotted
+use Rattle.mini_syntax.specs.MinimizeAssignmentToUpdateExpression as stepping
 use Rattle.mini_syntax.specs.SubstituteLooseEqualsUndefined as loose
 use Rattle.mini_syntax.specs.SubstituteSwapBinaryExpressions as swap
 use Rattle.mini_syntax.specs.SubstituteTemplateLiteral as templates
 use Rattle.mini_syntax.specs.SubstituteTypeofUndefined as typeof
 use Rattle.mini_syntax.specs.SubstituteYieldExpression as yielding
+
+-- of an assignment
+abbrev pub assignment_written : Tree → Option Tree
+assignment_written t = first_of (stepping.written t) (dotted.written t)
 
 -- of an equality
 abbrev pub equality_written : Tree → Option Tree
@@ -27,7 +32,7 @@ binary_written t = first_of (typeof.written t) (equality_written t)
 abbrev pub written_by : Shape → Tree → Option Tree
 written_by (shape.BooleanLiteral b) t = boolean.written t
 written_by (shape.ComputedMemberExpression is_optional) t = dotted.written t
-written_by (shape.AssignmentExpression o) t = dotted.written t
+written_by (shape.AssignmentExpression o) t = assignment_written t
 written_by (shape.UpdateExpression o is_prefix) t = dotted.written t
 written_by (shape.BinaryExpression o) t = binary_written t
 written_by (shape.YieldExpression is_delegate) t = yielding.written t

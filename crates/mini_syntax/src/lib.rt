@@ -12,6 +12,7 @@ pub use rewrites::compress_assignment_target_property::{
     compress_assignment_target_property as try_compress_assignment_target_property,
 };
 pub use rewrites::convert_to_dotted_properties::convert_to_dotted_properties;
+pub use rewrites::minimize_assignment_to_update_expression::minimize_assignment_to_update_expression;
 pub use rewrites::substitute_arrow_expression::{SubstituteArrows, substitute_arrow_expression};
 pub use rewrites::substitute_binding_property::substitute_binding_property;
 pub use rewrites::substitute_boolean::substitute_boolean;

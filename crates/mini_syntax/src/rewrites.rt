@@ -1,5 +1,6 @@
 pub mod compress_assignment_target_property;
 pub mod convert_to_dotted_properties;
+pub mod minimize_assignment_to_update_expression;
 pub mod substitute_arrow_expression;
 pub mod substitute_binding_property;
 pub mod substitute_boolean;

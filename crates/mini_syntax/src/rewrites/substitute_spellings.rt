@@ -3,9 +3,10 @@
 ghost use Rattle.std.specs.Prelude.{◌≡◌, is_some, unwrap_or, OnOk, IfOk};
 ghost use Rattle.mini_tree.specs.Rule.{Applied};
 ghost use Rattle.mini_syntax.specs.Lighter.{spellings_lighter};
-ghost use Rattle.mini_syntax.specs.Spelled.{equality_written, binary_written, written, Gives, Rests};
+ghost use Rattle.mini_syntax.specs.Spelled.{assignment_written, equality_written, binary_written, written, Gives, Rests};
 
 use crate::rewrites::convert_to_dotted_properties::convert_to_dotted_properties;
+use crate::rewrites::minimize_assignment_to_update_expression::minimize_assignment_to_update_expression;
 use crate::rewrites::substitute_boolean::substitute_boolean;
 use crate::rewrites::substitute_loose_equals_undefined::substitute_loose_equals_undefined;
 use crate::rewrites::substitute_swap_binary_expressions::substitute_swap_binary_expressions;
@@ -16,6 +17,16 @@ use mini_model::{OutOfMemory, Position, Shape};
 use mini_node::Node;
 use mini_tree::{Context, Rule};
 use std::alloc::Global;
+
+fn substitute_assignment(alloc: Global, node: &mut Node) -> Result<bool, OutOfMemory>
+    ensures tree { OnOk result (node.new ≡ unwrap_or (assignment_written node.old) node.old) }
+    ensures said { IfOk result (λ changed. changed ≡ is_some (assignment_written node.old)) }
+{
+    if minimize_assignment_to_update_expression(alloc, node)? {
+        return Ok(true);
+    }
+    convert_to_dotted_properties(alloc, node)
+}
 
 fn substitute_equality(alloc: Global, node: &mut Node) -> Result<bool, OutOfMemory>
     ensures tree { OnOk result (node.new ≡ unwrap_or (equality_written node.old) node.old) }
@@ -44,9 +55,10 @@ fn substitute_spelling(alloc: Global, node: &mut Node) -> Result<bool, OutOfMemo
 {
     match node.shape() {
         Shape::BooleanLiteral(_) => substitute_boolean(alloc, node),
-        Shape::ComputedMemberExpression(_)
-        | Shape::AssignmentExpression(_)
-        | Shape::UpdateExpression(_, _) => convert_to_dotted_properties(alloc, node),
+        Shape::ComputedMemberExpression(_) | Shape::UpdateExpression(_, _) => {
+            convert_to_dotted_properties(alloc, node)
+        }
+        Shape::AssignmentExpression(_) => substitute_assignment(alloc, node),
         Shape::BinaryExpression(_) => substitute_binary(alloc, node),
         Shape::YieldExpression(_) => substitute_yield_expression(alloc, node),
         Shape::TemplateLiteral => substitute_template_literal(alloc, node),
