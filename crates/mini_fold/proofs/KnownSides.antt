@@ -22,9 +22,8 @@ use Rattle.mini_rows.proofs.FoldWeights.{lighter}
 use Rattle.mini_tree.specs.Rule.{Applied}
 use Rattle.mini_tree.proofs.Reaching.{moves_once}
 use Rattle.mini_rows.specs.Lists.{for_loop, encloses}
-use Rattle.mini_rows.specs.Decrements.{subtracts}
-use Rattle.mini_rows.specs.ForParts.{ForPartRow}
-use Rattle.mini_fold.proofs.ForHeads.{for_row, for_rests}
+use Rattle.mini_rows.specs.ForParts.{Row22Init, Row22Update}
+use Rattle.mini_fold.proofs.IdleHeads.{head_row, head_there, init_idle, update_idle}
 use Rattle.mini_fold.specs.MinimizeBinary.{loosened_by, with_operator, written_by}
 use Rattle.mini_fold.specs.MinimizeBinary as equality
 use Rattle.mini_fold.proofs.Lengths.{length_is_row, length_rests}
@@ -180,7 +179,7 @@ expression_row n w e = go (does_nothing n) refl e
 
 pub statement_is_row : StatementIsRow
 statement_is_row q (node shape.ExpressionStatement xs m ts) w e = inl (expression_row (node shape.ExpressionStatement xs m ts) w e)
-statement_is_row q (node shape.ForStatement xs m ts) w e = inr (for_row (node shape.ForStatement xs m ts) w e)
+statement_is_row q (node shape.ForStatement xs m ts) w e = inr (head_row (node shape.ForStatement xs m ts) w e)
 statement_is_row q (node h xs m ts) w e = absurd (cc e)
 
 pub expression_rests : (n w : Tree) → expression_written n ≡ None → Row22 n w → ⊥
@@ -199,9 +198,8 @@ statement_as n m e h = sym (ap statement_written e) ∙ h
 
 pub statement_rests : StatementRests
 statement_rests q n e w (inl r) = expression_rests (expression_statement r.expression) w (statement_as n (expression_statement r.expression) r.shape e) (subst (λ t. Row22 t w) r.shape r)
-statement_rests q n e w (inr (inl r)) = let t : Tree = for_loop r.init r.test r.update r.body in for_rests t w (statement_as n t r.shape e) (subst (λ t. ForPartRow t w) r.shape (inl r))
-statement_rests q n e w (inr (inr (inl r))) = let t : Tree = for_loop r.init r.test r.update r.body in for_rests t w (statement_as n t r.shape e) (subst (λ t. ForPartRow t w) r.shape (inr (inl r)))
-statement_rests q n e w (inr (inr (inr r))) = let t : Tree = for_loop r.init r.test (subtracts r.operator r.name) r.body in for_rests t w (statement_as n t r.shape e) (subst (λ t. ForPartRow t w) r.shape (inr (inr r)))
+statement_rests q n e w (inr (inl r)) = let t : Tree = for_loop r.init r.test r.update r.body in head_there t (init_idle t w (subst (λ t. Row22Init t w) r.shape r)) (statement_as n t r.shape e)
+statement_rests q n e w (inr (inr r)) = let t : Tree = for_loop r.init r.test r.update r.body in head_there t (update_idle t w (subst (λ t. Row22Update t w) r.shape r)) (statement_as n t r.shape e)
 
 -- the rule
 

@@ -1,7 +1,5 @@
 pub mod Lengths
 pub mod IdleHeads
-pub mod Counters
-pub mod ForHeads
 pub mod KnownSides
 pub mod Joins
 pub mod Gains

@@ -1,6 +1,6 @@
 -- The rewrites on what is known of an expression from its text: 12, 13 and 15 of logical
 -- expressions, 28 of equalities, 49 of conditionals whose test is effect-free, 9 of the lengths of
--- texts, 22 of expression statements and of the head of a `for`, and 36 of its counter.
+-- texts, and 22 of expression statements and of the head of a `for`.
 use Rattle.std.specs.Prelude.{◌≡◌, Bool, false, not, ◌&&◌, Option, Some, None, if◌then◌else◌}
 use Rattle.mini_model.specs.declared.operator.LogicalOperator.{LogicalOperator}
 use Rattle.mini_model.specs.declared.place.Position.{Position}
@@ -20,7 +20,6 @@ use Rattle.mini_rows.specs.Lists.{encloses}
 use Rattle.mini_fold.specs.FoldStaticMember as member
 use Rattle.mini_fold.specs.MinimizeBinary as equality
 use Rattle.mini_fold.specs.RemoveIdleHead as head
-use Rattle.mini_fold.specs.DecrementCounter as counter
 
 -- the left side goes: it is effect-free, and the right one is evaluated after it
 abbrev pub is_passed : Seat → LogicalOperator → Tree → Tree → Bool
@@ -70,13 +69,9 @@ does_nothing t = is_expression_statement t && (is_effect_free (part t 0) && leav
 abbrev pub expression_written : Tree → Option Tree
 expression_written t = if does_nothing t then Some empty_statement else None
 
--- and for a `for`
-abbrev pub for_written : Tree → Option Tree
-for_written t = if head.has_idle_head t then head.written t else counter.written t
-
 abbrev pub statement_by : Shape → Tree → Option Tree
 statement_by shape.ExpressionStatement t = expression_written t
-statement_by shape.ForStatement t = for_written t
+statement_by shape.ForStatement t = head.written t
 statement_by _ t = None
 
 -- and for a statement

@@ -1,7 +1,6 @@
 pub mod MinimizeBinary
 pub mod FoldStaticMember
 pub mod RemoveIdleHead
-pub mod DecrementCounter
 pub mod FoldKnown
 pub mod JoinConstants
 pub mod FoldConstants

@@ -8,13 +8,10 @@ mod rewrites;
 
 pub use laws::{constants_are_rows, folds_are_rows};
 pub use mini_terms::{ConstantValue, evaluate_value, is_true, operand_value, value_to_expr};
-pub use rewrites::decrement_counter::{
-    decrement_counter, decrement_counter as minimize_assignment_to_update_expression,
-};
 pub use rewrites::fold_binary::fold_binary_expr;
 pub use rewrites::fold_constants::{FoldConstants, fold_constant};
 pub use rewrites::fold_known::{
-    FoldKnown, fold_conditional, fold_expression, fold_for, fold_logical_expression,
+    FoldKnown, fold_conditional, fold_expression, fold_logical_expression,
     fold_statement, remove_unused_expression,
 };
 pub use rewrites::fold_operands::{FoldOperands, fold_operands};

@@ -1,4 +1,3 @@
-pub mod decrement_counter;
 pub mod fold_binary;
 pub mod fold_constants;
 pub mod fold_known;

@@ -4,7 +4,7 @@
 ghost use Rattle.std.specs.Prelude.{◌≡◌, codes};
 ghost use Rattle.mini_node.specs.Children.{names};
 ghost use Rattle.mini_terms.specs.Parts.{is_number as is_it_number};
-ghost use Rattle.mini_rows.specs.Decrements.{is_spelled};
+ghost use Rattle.mini_rows.specs.Folding.{is_spelled};
 ghost use Rattle.mini_rows.specs.Sequences as row;
 
 use mini_model::{Guard, Mix, Name, Seat, Shape};

@@ -1,4 +1,4 @@
-//! Rows 9, 12, 13, 15, 22, 28 and 36, and 49 of an effect-free test: what is known of a part from
+//! Rows 9, 12, 13, 15, 22 and 28, and 49 of an effect-free test: what is known of a part from
 //! its text goes. `!0 && b` becomes `b`, `0 && b` becomes `0`, `!a ? b : b` becomes `b`,
 //! `"abc".length` becomes `3`, the statement `void 0;` becomes `;`, `for (0;;) b` becomes
 //! `for (;;) b`, and `typeof a === "string"` becomes `typeof a == "string"`. What is written is
@@ -8,10 +8,9 @@ ghost use Rattle.std.specs.Prelude.{◌≡◌, is_some, unwrap_or, OnOk, IfOk};
 ghost use Rattle.mini_tree.specs.Rule.{Applied};
 ghost use Rattle.mini_node.specs.Children.{part};
 ghost use Rattle.mini_fold.specs.Lighter.{folds_lighter};
-ghost use Rattle.mini_fold.specs.FoldKnown.{is_passed as passes_left, is_stopped as stops_right, is_idle_test as has_idle_test, chooses_nothing as chooses_it_nothing, branch_written, written, folded, does_nothing as does_it_nothing, expression_written, for_written, statement_written, Gives, Rests};
+ghost use Rattle.mini_fold.specs.FoldKnown.{is_passed as passes_left, is_stopped as stops_right, is_idle_test as has_idle_test, chooses_nothing as chooses_it_nothing, branch_written, written, folded, does_nothing as does_it_nothing, expression_written, statement_written, Gives, Rests};
 
 use crate::exports::names_exports;
-use crate::rewrites::decrement_counter::decrement_counter;
 use crate::rewrites::fold_static_member::fold_static_member;
 use crate::rewrites::minimize_binary::minimize_binary;
 use crate::rewrites::remove_idle_head::{has_idle_head, remove_idle_head};
@@ -139,34 +138,20 @@ pub fn remove_unused_expression(alloc: Global, node: &mut Node) -> bool
     true
 }
 
-/// A part of the head of a `for` goes where it does nothing, or its counter steps by `--x`. The
-/// answer says whether something changed; the only error is that memory runs out, and then the
-/// statement is fit only to be dropped.
-pub fn fold_for(alloc: Global, node: &mut Node) -> Result<bool, OutOfMemory>
-    ensures tree { OnOk result (node.new ≡ unwrap_or (for_written node.old) node.old) }
-    ensures said { IfOk result (λ changed. changed ≡ is_some (for_written node.old)) }
-{
-    if has_idle_head(node) {
-        return Ok(remove_idle_head(alloc, node));
-    }
-    decrement_counter(alloc, node)
-}
-
-/// An expression statement, or a part of the head of a `for`, goes where it does nothing, and a
-/// counter steps by `--x`. The answer says whether something changed; the only error is that memory
-/// runs out, and then the statement is fit only to be dropped.
-pub fn fold_statement(alloc: Global, node: &mut Node) -> Result<bool, OutOfMemory>
-    ensures tree { OnOk result (node.new ≡ unwrap_or (statement_written node.old) node.old) }
-    ensures said { IfOk result (λ changed. changed ≡ is_some (statement_written node.old)) }
+/// An expression statement, or a part of the head of a `for`, goes where it does nothing. The answer
+/// says whether one did.
+pub fn fold_statement(alloc: Global, node: &mut Node) -> bool
+    ensures tree { node.new ≡ unwrap_or (statement_written node.old) node.old }
+    ensures said { result ≡ is_some (statement_written node.old) }
 {
     match node.shape() {
-        Shape::ExpressionStatement => Ok(remove_unused_expression(alloc, node)),
-        Shape::ForStatement => fold_for(alloc, node),
-        _ => Ok(false),
+        Shape::ExpressionStatement => remove_unused_expression(alloc, node),
+        Shape::ForStatement => remove_idle_head(alloc, node),
+        _ => false,
     }
 }
 
-/// Rows 9, 12, 13, 15, 22, 28 and 36, and 49 of an effect-free test, as a rule: of each expression
+/// Rows 9, 12, 13, 15, 22 and 28, and 49 of an effect-free test, as a rule: of each expression
 /// and each statement.
 pub struct FoldKnown;
 
@@ -187,7 +172,7 @@ impl<C: Context> Rule<C> for FoldKnown {
     ) -> Result<bool, OutOfMemory> {
         match place {
             Position::Expr(seat) => Ok(fold_expression(alloc, node, seat)),
-            Position::Stmt(_) => Ok(fold_statement(alloc, node)?),
+            Position::Stmt(_) => Ok(fold_statement(alloc, node)),
             _ => Ok(false),
         }
     }

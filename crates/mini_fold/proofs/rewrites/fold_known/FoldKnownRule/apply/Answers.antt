@@ -8,6 +8,6 @@ pub returns-in-Expr-clause-applied : goal.returns-in-Expr-clause-applied
 returns-in-Expr-clause-applied g c = λ o q k.
     subst (λ p. Applied Gives Rests p c.args.node.now c.fold_expression.new.node c.fold_expression.result) (sym c.in-Expr.is) (applied c.in-Expr.seat c.args.node.now c.fold_expression.new.node c.fold_expression.result c.fold_expression.ensures.tree c.fold_expression.ensures.said)
 
-pub returns-in_ok-fold_statement-in-Stmt-clause-applied : goal.returns-in_ok-fold_statement-in-Stmt-clause-applied
-returns-in_ok-fold_statement-in-Stmt-clause-applied g c = λ o q k.
-    subst (λ p. Applied Gives Rests p c.args.node.now c.fold_statement.new.node c.in_ok-fold_statement-in-Stmt.field-0) (sym c.in-Stmt.is) (statement_applied c.in-Stmt.field-0 c.args.node.now c.fold_statement.new.node c.in_ok-fold_statement-in-Stmt.field-0 c.in_ok-fold_statement-in-Stmt.ensures.tree c.in_ok-fold_statement-in-Stmt.ensures.said)
+pub returns-in-Stmt-clause-applied : goal.returns-in-Stmt-clause-applied
+returns-in-Stmt-clause-applied g c = λ o q k.
+    subst (λ p. Applied Gives Rests p c.args.node.now c.fold_statement.new.node c.fold_statement.result) (sym c.in-Stmt.is) (statement_applied c.in-Stmt.field-0 c.args.node.now c.fold_statement.new.node c.fold_statement.result c.fold_statement.ensures.tree c.fold_statement.ensures.said)
