@@ -110,7 +110,6 @@ const KNOWN = [
   [47, "a negation that is found inside", isTurned],
   [48, "a negation that is found inside", isTurned],
   [33, "members in patterns and heads of loops", ({ seat }) => seat.is === "target"],
-  [36, "all but the counter of a for", () => true],
   [37, "an assigned name that no scope declares", ({ node }) => has(node, isPlainAssignment)],
   [38, "a member of a var with an initializer", isMemberSet],
   [45, "a member of a var with an initializer, or of a function", isMemberSet],

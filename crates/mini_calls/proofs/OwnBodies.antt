@@ -13,10 +13,7 @@ use Rattle.mini_rows.specs.Branches.{Row78, Row79}
 use Rattle.mini_rows.specs.Cases.{OneCaseRow}
 use Rattle.mini_rows.specs.DeadCases.{DeadCaseRow}
 use Rattle.mini_rows.specs.Loops.{Row84}
-use Rattle.mini_rows.specs.Decrements.{Row36}
-use Rattle.mini_fold.specs.DecrementCounter as counter
 use Rattle.mini_fold.specs.RemoveIdleHead as head
-use Rattle.mini_fold.proofs.Counters.{counted_row, counter_rests}
 use Rattle.mini_fold.proofs.IdleHeads.{head_row, head_there, init_idle, update_idle}
 use Rattle.mini_logic.specs.LastContinue as last_continue
 use Rattle.mini_logic.specs.MinimizeForStatement as for_statement
@@ -151,7 +148,7 @@ negated_own = record {
   unwritten = λ s n e small w r less. negated_rest s n w e small r less;
 }
 
--- ---- 22 of the head of a `for`, and 36
+-- ---- 22 of the head of a `for`
 
 head_rest : (n w : Tree) → IdleHeadRow n w → head.written n ≡ None → ⊥
 head_rest n w (inl r) e = head_there n (init_idle n w r) e
@@ -159,6 +156,3 @@ head_rest n w (inr r) e = head_there n (update_idle n w r) e
 
 pub head_own : Own head.written IdleHeadRow
 head_own = record { written = head_row; unwritten = λ n e w r. head_rest n w r e }
-
-pub counter_own : Own counter.written Row36
-counter_own = record { written = counted_row; unwritten = λ n e w r. counter_rests n w e r }

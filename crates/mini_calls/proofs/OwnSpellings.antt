@@ -3,7 +3,7 @@ use Rattle.std.proofs.Common.{◌≡◌, false, Option, Some, None, refl, sym, a
 use Rattle.std.specs.Fmt.{signed_decimal}
 use Rattle.mini_model.specs.declared.shape.Shape.TheVariants as shape
 use Rattle.mini_model.specs.Tree.{Tree, node}
-use Rattle.mini_rows.specs.Spellings.{text, assignment, computed_member, Row19, Row33, Row54, Row55Value, Row60Yield, Row65}
+use Rattle.mini_rows.specs.Spellings.{text, assignment, computed_member, Row19, Row36, Row33, Row54, Row55Value, Row60Yield, Row65}
 use Rattle.mini_syntax.specs.ConvertToDottedProperties as dotted
 use Rattle.mini_syntax.specs.SubstituteBoolean as substituted
 use Rattle.mini_syntax.specs.SubstituteLooseEqualsUndefined as loose
@@ -11,9 +11,10 @@ use Rattle.mini_syntax.specs.SubstituteSwapBinaryExpressions as swap
 use Rattle.mini_syntax.specs.SubstituteTemplateLiteral as templates
 use Rattle.mini_syntax.specs.SubstituteTypeofUndefined as typeof
 use Rattle.mini_syntax.specs.SubstituteTypeofValue as by_value
+use Rattle.mini_syntax.specs.MinimizeAssignmentToUpdateExpression as stepping
 use Rattle.mini_syntax.specs.SubstituteYieldExpression as yielding
 use Rattle.mini_syntax.proofs.FormsAre.{undefined_passes}
-use Rattle.mini_syntax.proofs.Spelled.{boolean_follows, turned_follows, turned_misses, assigned_follows, updated_follows, loose_row, unwritten_sides, swap_row, swap_misses, value_row, value_unwritten, typeof_row, typeof_misses, value_misses, yield_row, template_row, template_misses}
+use Rattle.mini_syntax.proofs.Spelled.{boolean_follows, turned_follows, turned_misses, assigned_follows, updated_follows, loose_row, unwritten_sides, swap_row, swap_misses, value_row, value_unwritten, typeof_row, typeof_misses, value_misses, yield_row, template_row, template_misses, step_row, step_misses}
 use Rattle.mini_calls.proofs.OwnOperators.{nothing}
 use Rattle.mini_calls.specs.OwnRows.{Own, DottedRow, LooseRow, UndefinedRow}
 
@@ -73,6 +74,9 @@ pub undefined_own : Own typeof.written UndefinedRow
 undefined_own = record { written = typeof_row; unwritten = λ n e w r. undefined_rest n w r e }
 
 -- ---- 60 and 19
+
+pub step_own : Own stepping.written Row36
+step_own = record { written = step_row; unwritten = λ n e w r. step_misses n w r e }
 
 pub yield_own : Own yielding.written Row60Yield
 yield_own = record { written = yield_row; unwritten = λ n e w r. nothing (sym (sym (ap yielding.written r.shape) ∙ e)) }

@@ -1,8 +1,7 @@
 //! Rewrites of what is known of an expression: of constants, operands, sequences and templates.
 
-ghost use Rattle.mini_fold.specs.DecrementCounter as row_of_decrement_counter;
 ghost use Rattle.mini_fold.specs.FoldConstants.{written};
-ghost use Rattle.mini_fold.specs.FoldKnown.{branch_written, expression_written, folded, for_written, statement_written, written as written_of_fold_known};
+ghost use Rattle.mini_fold.specs.FoldKnown.{branch_written, expression_written, folded, statement_written, written as written_of_fold_known};
 ghost use Rattle.mini_fold.specs.FoldOperands as operand;
 ghost use Rattle.mini_fold.specs.FoldOperators as tree;
 ghost use Rattle.mini_fold.specs.FoldSequences.{Gives, Rests};
@@ -108,22 +107,11 @@ impl PeepholeOptimizations {
         mini_fold::fold_binary_expr(alloc, node, seat)
     }
 
-    /// A part of the head of a `for` goes where it does nothing, or its counter steps by `--x`. The
-    /// answer says whether something changed; the only error is that memory runs out, and then the
-    /// statement is fit only to be dropped.
-    pub fn fold_for(&self, alloc: Global, node: &mut Node) -> Result<bool, OutOfMemory>
-        ensures tree { OnOk result (node.new ≡ unwrap_or (for_written node.old) node.old) }
-        ensures said { IfOk result (λ changed. changed ≡ is_some (for_written node.old)) }
-    {
-        mini_fold::fold_for(alloc, node)
-    }
-
-    /// An expression statement, or a part of the head of a `for`, goes where it does nothing, and a
-    /// counter steps by `--x`. The answer says whether something changed; the only error is that
-    /// memory runs out, and then the statement is fit only to be dropped.
-    pub fn fold_statement(&self, alloc: Global, node: &mut Node) -> Result<bool, OutOfMemory>
-        ensures tree { OnOk result (node.new ≡ unwrap_or (statement_written node.old) node.old) }
-        ensures said { IfOk result (λ changed. changed ≡ is_some (statement_written node.old)) }
+    /// An expression statement, or a part of the head of a `for`, goes where it does nothing. The
+    /// answer says whether one did.
+    pub fn fold_statement(&self, alloc: Global, node: &mut Node) -> bool
+        ensures tree { node.new ≡ unwrap_or (statement_written node.old) node.old }
+        ensures said { result ≡ is_some (statement_written node.old) }
     {
         mini_fold::fold_statement(alloc, node)
     }
@@ -136,21 +124,6 @@ impl PeepholeOptimizations {
         ensures said { result ≡ is_some (row.written node.old) }
     {
         mini_fold::remove_idle_head(alloc, node)
-    }
-
-    /// A counter of a `for` that holds numbers only steps by `--x` in place of `x -= 1`, and by
-    /// `++x` in place of `x -= -1` (ECMA-262, "Update Expressions"). The answer says whether it
-    /// does now; the only error is that memory runs out, and then the statement is fit only to be
-    /// dropped.
-    pub fn minimize_assignment_to_update_expression(
-        &self,
-        alloc: Global,
-        node: &mut Node,
-    ) -> Result<bool, OutOfMemory>
-        ensures tree { OnOk result (node.new ≡ unwrap_or (row_of_decrement_counter.written node.old) node.old) }
-        ensures said { IfOk result (λ changed. changed ≡ is_some (row_of_decrement_counter.written node.old)) }
-    {
-        mini_fold::minimize_assignment_to_update_expression(alloc, node)
     }
 
     /// An operand whose value is known goes, or is written shorter. The answer says whether it was;

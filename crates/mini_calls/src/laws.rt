@@ -21,7 +21,6 @@ ghost use Rattle.mini_choices.specs.MinimizeObjectTest as object_test;
 ghost use Rattle.mini_choices.specs.Names.{chain_written};
 ghost use Rattle.mini_choices.specs.OwnRows.{FoldedRow, SharedRow};
 ghost use Rattle.mini_choices.specs.SubstituteRotateLogicalExpression as rotated;
-ghost use Rattle.mini_fold.specs.DecrementCounter as counter;
 ghost use Rattle.mini_fold.specs.FoldKnown.{branch_written, expression_written, folded};
 ghost use Rattle.mini_fold.specs.FoldStaticMember.{computed_written, written as length_written};
 ghost use Rattle.mini_fold.specs.MinimizeBinary as equality;
@@ -39,18 +38,18 @@ ghost use Rattle.mini_rows.specs.DeadCases.{DeadCaseRow};
 ghost use Rattle.mini_rows.specs.ChainLinks.{Row64};
 ghost use Rattle.mini_rows.specs.Chains.{Row46Chain};
 ghost use Rattle.mini_rows.specs.Choices.{Row38, Row38Last, Row39};
-ghost use Rattle.mini_rows.specs.Decrements.{Row36};
 ghost use Rattle.mini_rows.specs.Folding.{Row22, Row28, Row49Idle, Row9};
 ghost use Rattle.mini_rows.specs.KeyHolders.{Row52Declared, Row52Held, Row53};
 ghost use Rattle.mini_rows.specs.Loops.{Row84};
 ghost use Rattle.mini_rows.specs.Operands.{Row30};
 ghost use Rattle.mini_rows.specs.Operators.{Row2};
-ghost use Rattle.mini_rows.specs.Spellings.{Row19, Row54, Row55Value, Row60Yield, Row65};
+ghost use Rattle.mini_rows.specs.Spellings.{Row19, Row36, Row54, Row55Value, Row60Yield, Row65};
 ghost use Rattle.mini_rows.specs.Writes.{Row34, Row37Assigned, Row46Assigned, Row46AssignedChain};
 ghost use Rattle.mini_switch.specs.DropUnreachableSwitchCases as dead_cases;
 ghost use Rattle.mini_switch.specs.MinimizeSwitchStatements as one_case;
 ghost use Rattle.mini_syntax.specs.CompressAssignmentTargetProperty.{compressed, is_doubled};
 ghost use Rattle.mini_syntax.specs.ConvertToDottedProperties as dotted;
+ghost use Rattle.mini_syntax.specs.MinimizeAssignmentToUpdateExpression as stepping;
 ghost use Rattle.mini_syntax.specs.SubstituteBindingProperty.{declared_bare, declares_brackets};
 ghost use Rattle.mini_syntax.specs.SubstituteBoolean as boolean;
 ghost use Rattle.mini_syntax.specs.SubstituteLooseEqualsUndefined as loose;
@@ -76,7 +75,7 @@ pub fn operators_are_own_rows()
     ensures computed_length { OwnIn computed_written LengthRow }
 {}
 
-/// The calls of sides, branches and statements that go: 12 to 15, 22, 36 and 49.
+/// The calls of sides, branches and statements that go: 12 to 15, 22 and 49.
 pub fn folds_are_own_rows()
     ensures side { OwnIn folded SideRow }
     ensures and_or { OwnIn name.and_or_written AndOrRow }
@@ -85,7 +84,6 @@ pub fn folds_are_own_rows()
     ensures branch { OwnIn branch_written Row49Idle }
     ensures statement { Own expression_written Row22 }
     ensures head { Own idle_head.written IdleHeadRow }
-    ensures counter { Own counter.written Row36 }
 {}
 
 /// The calls of choices: 10, 11, 13, 15, 21, 34, 35, 37 to 39, 41 to 46, 49, 57 and 64.
@@ -126,6 +124,7 @@ pub fn spellings_are_own_rows()
     ensures value { Own typeof_value.written Row55Value }
     ensures yielded { Own yielded.written Row60Yield }
     ensures template { Own template.written Row19 }
+    ensures stepped { Own stepping.written Row36 }
 {}
 
 /// The calls of keys of patterns and classes: 52 and 53.

@@ -8,6 +8,7 @@ ghost use Rattle.mini_syntax.specs.ConvertToDottedProperties.{written as written
 ghost use Rattle.mini_switch.specs.DropUnreachableSwitchCases.{written as written_of_drop_unreachable_switch_cases};
 ghost use Rattle.mini_switch.specs.MinimizeSwitchStatements.{written as written_of_minimize_switch_statements};
 ghost use Rattle.mini_switch.specs.MinimizeSwitchStatements as row_of_minimize_switch_statements;
+ghost use Rattle.mini_syntax.specs.MinimizeAssignmentToUpdateExpression as stepping;
 ghost use Rattle.mini_syntax.specs.SubstituteArrowExpression.{written as written_of_substitute_arrow_expression};
 ghost use Rattle.mini_syntax.specs.SubstituteBindingProperty.{declared_bare, declares_brackets};
 ghost use Rattle.mini_syntax.specs.SubstituteBoolean.{written};
@@ -64,6 +65,20 @@ impl PeepholeOptimizations {
         ensures said { IfOk result (λ changed. changed ≡ is_some (written_of_convert_to_dotted_properties node.old)) }
     {
         mini_syntax::convert_to_dotted_properties(alloc, node)
+    }
+
+    /// `t -= 1` becomes `--t`, and `t -= -1` becomes `++t` (ECMA-262, "Update Expressions"),
+    /// whatever t is. The answer says whether it did; the only error is that memory runs out, and
+    /// then the expression is fit only to be dropped.
+    pub fn minimize_assignment_to_update_expression(
+        &self,
+        alloc: Global,
+        node: &mut Node,
+    ) -> Result<bool, OutOfMemory>
+        ensures tree { OnOk result (node.new ≡ unwrap_or (stepping.written node.old) node.old) }
+        ensures said { IfOk result (λ changed. changed ≡ is_some (stepping.written node.old)) }
+    {
+        mini_syntax::minimize_assignment_to_update_expression(alloc, node)
     }
 
     /// `1 == b` becomes `b == 1`, where the left side of an equality is a value written out and the

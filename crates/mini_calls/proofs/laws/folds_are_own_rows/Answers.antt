@@ -1,4 +1,4 @@
-use Rattle.mini_calls.proofs.OwnBodies.{head_own, counter_own}
+use Rattle.mini_calls.proofs.OwnBodies.{head_own}
 use Rattle.mini_calls.proofs.OwnLogical.{side_own, and_or_own, coalesce_own, logical_own, branch_own, statement_own}
 use Rattle.mini_calls.proofs.laws.folds_are_own_rows.Goals as goal
 
@@ -22,6 +22,3 @@ returns-clause-statement c = statement_own
 
 pub returns-clause-head : goal.returns-clause-head
 returns-clause-head c = head_own
-
-pub returns-clause-counter : goal.returns-clause-counter
-returns-clause-counter c = counter_own

@@ -1,4 +1,4 @@
-use Rattle.mini_calls.proofs.OwnSpellings.{boolean_own, dotted_own, loose_own, swap_own, undefined_own, value_own, yield_own, template_own}
+use Rattle.mini_calls.proofs.OwnSpellings.{boolean_own, dotted_own, loose_own, swap_own, undefined_own, value_own, yield_own, template_own, step_own}
 use Rattle.mini_calls.proofs.laws.spellings_are_own_rows.Goals as goal
 
 pub returns-clause-boolean : goal.returns-clause-boolean
@@ -24,3 +24,6 @@ returns-clause-yielded c = yield_own
 
 pub returns-clause-template : goal.returns-clause-template
 returns-clause-template c = template_own
+
+pub returns-clause-stepped : goal.returns-clause-stepped
+returns-clause-stepped c = step_own
