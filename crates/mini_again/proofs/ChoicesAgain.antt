@@ -18,7 +18,7 @@ use Rattle.mini_model.specs.declared.operator.LogicalOperator.{LogicalOperator}
 use Rattle.mini_model.specs.declared.place.Position.{Position}
 use Rattle.mini_model.specs.declared.place.Position.TheVariants.{Expr}
 use Rattle.mini_model.specs.declared.seat.Seat.{Seat}
-use Rattle.mini_rows.specs.Choices.{AreNullish, CallRow, ChoiceRow, ChosenIndexedRow, ChosenMemberRow, ChosenRow, HeldRow, Key, LighterRow, Named, Numbered, OwnRow, Row13Both, Row21Zero, Row35, Row35Member, Row37, Row37After, Row38, Row38Last, Row39, Row41And, Row41Or, Row42And, Row42Or, Row43And, Row43AndThen, Row43Or, Row43OrThen, Row44, Row45, Row45Indexed, Row45Member, Row46Equal, Row46Unequal, Row49, Row57, Row57Null, Spelled, ZeroRow, argument, asks_object, assign, ended, held, is_grouped, joined, joining, member_on, null_compared}
+use Rattle.mini_rows.specs.Choices.{AreNullish, CallRow, ChoiceRow, ChosenIndexedRow, ChosenMemberRow, ChosenRow, HeldRow, Key, LighterRow, Named, Numbered, OwnRow, Row13Both, Row21Zero, Row35, Row35Member, Row37, Row37After, Row38, Row38Last, Row39, Row41And, Row41Or, Row42And, Row42Or, Row43And, Row43AndThen, Row43Or, Row43OrThen, Row44, Row45, Row45Indexed, Row45Member, Row46Equal, Row46Unequal, Row49, Row57, Row57Null, Spelled, ZeroRow, argument, asks_object, assign, ended, held, is_grouped, joined, joining, member_on, null_compared, Shorter, TestedBranch, SharedBranch, OptionalChain, JoinedCall, Link, ChainEnd, BothSides, ChosenIndexed, ZeroFirst, Rotated, Decided, Combined, NullishIfEqual, NullishIfUnequal, Chosen, LooseNull, LooseNullAfter, ObjectTest, ObjectTestAfter, CombinedMember, ChosenMember, DecidedLast, OrTest, AndTest, AndBoth, OrEither, LastAfterOr, LastAfterAnd, AndThenOr, OrThenAnd, Alike}
 use Rattle.std.proofs.Common.{ap, inl, inr}
 use Rattle.std.specs.Prelude.{Bool, None, Option, Some, false, not, refl, true, ◌≡◌}
 use Rattle.mini_model.specs.declared.shape.Shape.TheVariants as shape
@@ -115,13 +115,13 @@ row49_again ρ n w r = record {
 }
 
 pub held_row_again : (ρ : Renaming) (n w : Tree) → HeldRow n w → HeldRow (again ρ n) (again ρ w)
-held_row_again ρ n w (inl r) = inl (row42_and_again ρ n w r)
-held_row_again ρ n w (inr (inl r)) = inr (inl (row42_or_again ρ n w r))
-held_row_again ρ n w (inr (inr (inl r))) = inr (inr (inl (row43_or_again ρ n w r)))
-held_row_again ρ n w (inr (inr (inr (inl r)))) = inr (inr (inr (inl (row43_and_again ρ n w r))))
-held_row_again ρ n w (inr (inr (inr (inr (inl r))))) = inr (inr (inr (inr (inl (row43_and_then_again ρ n w r)))))
-held_row_again ρ n w (inr (inr (inr (inr (inr (inl r)))))) = inr (inr (inr (inr (inr (inl (row43_or_then_again ρ n w r))))))
-held_row_again ρ n w (inr (inr (inr (inr (inr (inr r)))))) = inr (inr (inr (inr (inr (inr (row49_again ρ n w r))))))
+held_row_again ρ n w (AndBoth r) = AndBoth (row42_and_again ρ n w r)
+held_row_again ρ n w (OrEither r) = OrEither (row42_or_again ρ n w r)
+held_row_again ρ n w (LastAfterOr r) = LastAfterOr (row43_or_again ρ n w r)
+held_row_again ρ n w (LastAfterAnd r) = LastAfterAnd (row43_and_again ρ n w r)
+held_row_again ρ n w (AndThenOr r) = AndThenOr (row43_and_then_again ρ n w r)
+held_row_again ρ n w (OrThenAnd r) = OrThenAnd (row43_or_then_again ρ n w r)
+held_row_again ρ n w (Alike r) = Alike (row49_again ρ n w r)
 
 pub row35_again : (ρ : Renaming) (n w : Tree) → Row35 n w → Row35 (again ρ n) (again ρ w)
 row35_again ρ n w r = record {
@@ -303,19 +303,19 @@ row57_null_again ρ n w r = record {
 }
 
 pub lighter_row_again : (ρ : Renaming) (s : Seat) (n w : Tree) → LighterRow s n w → LighterRow s (again ρ n) (again ρ w)
-lighter_row_again ρ s n w (inl r) = inl (row39_again ρ n w r)
-lighter_row_again ρ s n w (inr (inl r)) = inr (inl (row38_again ρ n w r))
-lighter_row_again ρ s n w (inr (inr (inl r))) = inr (inr (inl (row35_again ρ n w r)))
-lighter_row_again ρ s n w (inr (inr (inr (inl r)))) = inr (inr (inr (inl (row46_equal_again ρ n w r))))
-lighter_row_again ρ s n w (inr (inr (inr (inr (inl r))))) = inr (inr (inr (inr (inl (row46_unequal_again ρ n w r)))))
-lighter_row_again ρ s n w (inr (inr (inr (inr (inr (inl r)))))) = inr (inr (inr (inr (inr (inl (row45_again ρ s n w r))))))
-lighter_row_again ρ s n w (inr (inr (inr (inr (inr (inr (inl r))))))) = inr (inr (inr (inr (inr (inr (inl (row37_again ρ n w r)))))))
-lighter_row_again ρ s n w (inr (inr (inr (inr (inr (inr (inr (inl r)))))))) = inr (inr (inr (inr (inr (inr (inr (inl (row37_after_again ρ n w r))))))))
-lighter_row_again ρ s n w (inr (inr (inr (inr (inr (inr (inr (inr (inl r))))))))) = inr (inr (inr (inr (inr (inr (inr (inr (inl (row57_again ρ n w r)))))))))
-lighter_row_again ρ s n w (inr (inr (inr (inr (inr (inr (inr (inr (inr (inl r)))))))))) = inr (inr (inr (inr (inr (inr (inr (inr (inr (inl (row57_null_again ρ n w r))))))))))
-lighter_row_again ρ s n w (inr (inr (inr (inr (inr (inr (inr (inr (inr (inr (inl r))))))))))) = inr (inr (inr (inr (inr (inr (inr (inr (inr (inr (inl (row35_member_again ρ n w r)))))))))))
-lighter_row_again ρ s n w (inr (inr (inr (inr (inr (inr (inr (inr (inr (inr (inr (inl r)))))))))))) = inr (inr (inr (inr (inr (inr (inr (inr (inr (inr (inr (inl (row45_member_again ρ s n w r))))))))))))
-lighter_row_again ρ s n w (inr (inr (inr (inr (inr (inr (inr (inr (inr (inr (inr (inr r)))))))))))) = inr (inr (inr (inr (inr (inr (inr (inr (inr (inr (inr (inr (row38_last_again ρ s n w r))))))))))))
+lighter_row_again ρ s n w (Rotated r) = Rotated (row39_again ρ n w r)
+lighter_row_again ρ s n w (Decided r) = Decided (row38_again ρ n w r)
+lighter_row_again ρ s n w (Combined r) = Combined (row35_again ρ n w r)
+lighter_row_again ρ s n w (NullishIfEqual r) = NullishIfEqual (row46_equal_again ρ n w r)
+lighter_row_again ρ s n w (NullishIfUnequal r) = NullishIfUnequal (row46_unequal_again ρ n w r)
+lighter_row_again ρ s n w (Chosen r) = Chosen (row45_again ρ s n w r)
+lighter_row_again ρ s n w (LooseNull r) = LooseNull (row37_again ρ n w r)
+lighter_row_again ρ s n w (LooseNullAfter r) = LooseNullAfter (row37_after_again ρ n w r)
+lighter_row_again ρ s n w (ObjectTest r) = ObjectTest (row57_again ρ n w r)
+lighter_row_again ρ s n w (ObjectTestAfter r) = ObjectTestAfter (row57_null_again ρ n w r)
+lighter_row_again ρ s n w (CombinedMember r) = CombinedMember (row35_member_again ρ n w r)
+lighter_row_again ρ s n w (ChosenMember r) = ChosenMember (row45_member_again ρ s n w r)
+lighter_row_again ρ s n w (DecidedLast r) = DecidedLast (row38_last_again ρ s n w r)
 
 pub row41_and_again : (ρ : Renaming) (n w : Tree) → Row41And n w → Row41And (again ρ n) (again ρ w)
 row41_and_again ρ n w r = record {
@@ -334,8 +334,8 @@ row41_or_again ρ n w r = record {
 }
 
 pub own_row_again : (ρ : Renaming) (n w : Tree) → OwnRow n w → OwnRow (again ρ n) (again ρ w)
-own_row_again ρ n w (inl r) = inl (row41_or_again ρ n w r)
-own_row_again ρ n w (inr r) = inr (row41_and_again ρ n w r)
+own_row_again ρ n w (OrTest r) = OrTest (row41_or_again ρ n w r)
+own_row_again ρ n w (AndTest r) = AndTest (row41_and_again ρ n w r)
 
 pub row13_both_again : (ρ : Renaming) (n w : Tree) → Row13Both n w → Row13Both (again ρ n) (again ρ w)
 row13_both_again ρ n w r = record {
@@ -382,14 +382,14 @@ pub row45_indexed_again : (ρ : Renaming) (s : Seat) (t u : Tree) → Row45Index
 row45_indexed_again ρ r = chosen_indexed_row_again ρ true r
 
 pub choice_row_again : (ρ : Renaming) (p : Position) (n w : Tree) → ChoiceRow p n w → ChoiceRow p (again ρ n) (again ρ w)
-choice_row_again ρ (Expr s) n w (inl r) = inl (lighter_row_again ρ s n w r)
-choice_row_again ρ (Expr s) n w (inr (inl r)) = inr (inl (own_row_again ρ n w r))
-choice_row_again ρ (Expr s) n w (inr (inr (inl r))) = inr (inr (inl (held_row_again ρ n w r)))
-choice_row_again ρ (Expr s) n w (inr (inr (inr (inl r)))) = inr (inr (inr (inl (row46_chain_again ρ s n w r))))
-choice_row_again ρ (Expr s) n w (inr (inr (inr (inr (inl r))))) = inr (inr (inr (inr (inl (row44_again ρ n w r)))))
-choice_row_again ρ (Expr s) n w (inr (inr (inr (inr (inr (inl r)))))) = inr (inr (inr (inr (inr (inl (chain_row_again ρ s n w r))))))
-choice_row_again ρ (Expr s) n w (inr (inr (inr (inr (inr (inr (inl r))))))) = inr (inr (inr (inr (inr (inr (inl (end_row_again ρ n w r)))))))
-choice_row_again ρ (Expr s) n w (inr (inr (inr (inr (inr (inr (inr (inl r)))))))) = inr (inr (inr (inr (inr (inr (inr (inl (row13_both_again ρ n w r))))))))
-choice_row_again ρ (Expr s) n w (inr (inr (inr (inr (inr (inr (inr (inr (inl r))))))))) = inr (inr (inr (inr (inr (inr (inr (inr (inl (row45_indexed_again ρ s n w r)))))))))
-choice_row_again ρ (Expr s) n w (inr (inr (inr (inr (inr (inr (inr (inr (inr r))))))))) = inr (inr (inr (inr (inr (inr (inr (inr (inr (row21_zero_again ρ n w r)))))))))
+choice_row_again ρ (Expr s) n w (Shorter r) = Shorter (lighter_row_again ρ s n w r)
+choice_row_again ρ (Expr s) n w (TestedBranch r) = TestedBranch (own_row_again ρ n w r)
+choice_row_again ρ (Expr s) n w (SharedBranch r) = SharedBranch (held_row_again ρ n w r)
+choice_row_again ρ (Expr s) n w (OptionalChain r) = OptionalChain (row46_chain_again ρ s n w r)
+choice_row_again ρ (Expr s) n w (JoinedCall r) = JoinedCall (row44_again ρ n w r)
+choice_row_again ρ (Expr s) n w (Link r) = Link (chain_row_again ρ s n w r)
+choice_row_again ρ (Expr s) n w (ChainEnd r) = ChainEnd (end_row_again ρ n w r)
+choice_row_again ρ (Expr s) n w (BothSides r) = BothSides (row13_both_again ρ n w r)
+choice_row_again ρ (Expr s) n w (ChosenIndexed r) = ChosenIndexed (row45_indexed_again ρ s n w r)
+choice_row_again ρ (Expr s) n w (ZeroFirst r) = ZeroFirst (row21_zero_again ρ n w r)
 choice_row_again ρ p0 n w r = absurd r

@@ -13,7 +13,7 @@ use Rattle.mini_model.specs.declared.seat.Seat.{Seat}
 use Rattle.mini_model.specs.declared.shape.Shape.TheVariants as shape
 use Rattle.mini_model.specs.Paths.{append}
 use Rattle.mini_model.specs.Tree.{Tree, Trees, none, ◌▸◌, leaf, listed, identifier, negation, logical, conditional, null_literal, call}
-use Rattle.mini_rows.specs.Choices.{assign, pair, joined, strictly, loosely, joining, deciding, Key, Named, Spelled, Numbered, member_on, member_of, asks_object, null_compared, held, ended, argument, Row39, Row38, Row35, Row46Equal, Row46Unequal, Row37, Row37After, Row57, Row57Null, Row35Member, Row38Last, CallRow, Row13Both, ZeroRow, LighterRow, OwnRow, HeldRow}
+use Rattle.mini_rows.specs.Choices.{assign, pair, joined, strictly, loosely, joining, deciding, Key, Named, Spelled, Numbered, member_on, member_of, asks_object, null_compared, held, ended, argument, Row39, Row38, Row35, Row46Equal, Row46Unequal, Row37, Row37After, Row57, Row57Null, Row35Member, Row38Last, CallRow, Row13Both, ZeroRow, LighterRow, OwnRow, HeldRow, Rotated, Decided, Combined, NullishIfEqual, NullishIfUnequal, Chosen, LooseNull, LooseNullAfter, ObjectTest, ObjectTestAfter, CombinedMember, ChosenMember, DecidedLast, OrTest, AndTest, AndBoth, OrEither, LastAfterOr, LastAfterAnd, AndThenOr, OrThenAnd, Alike}
 use Rattle.mini_rows.specs.Lists.{sequence}
 use Rattle.mini_rows.specs.Sketches.{AList, Binary, Logical, Conditional, Sequence, Call, StaticMember, ComputedMember, Spread, Assignment, Asked, AsValue, AsValues, AsTarget, AsUpdated, target_asked}
 use Rattle.mini_rows.specs.Spellings.{binary, numeral, assignment}
@@ -177,58 +177,58 @@ module _ (q : Seat) (n w : Tree) where
       subst (Q AsValue) (sym r.written) (a_logical Q l o (ended o r.before (held r.there r.name)) asked (put (held r.there r.name) (held_name Q l r.there r.name (compared_name Q l r.strict (not r.there) r.name name))) last))
 
   pub own_less : OwnRow n w → LessAt (Expr q) n w
-  own_less (inl r) =
+  own_less (OrTest r) =
       made_under q n w Conditional (identifier r.name ▸ identifier r.name ▸ r.b ▸ none) refl r.shape tt (Logical Or) (identifier r.name ▸ r.b ▸ none) refl r.written (λ strict x k Q l y.
       let (a, (b, c)) = conditional_parts Q l (identifier r.name) (identifier r.name) r.b (subst (Q AsValue) r.shape y) in subst (Q AsValue) (sym r.written) (a_logical Q l Or (identifier r.name) r.b a c))
-  own_less (inr r) =
+  own_less (AndTest r) =
       made_under q n w Conditional (identifier r.name ▸ r.b ▸ identifier r.name ▸ none) refl r.shape tt (Logical And) (identifier r.name ▸ r.b ▸ none) refl r.written (λ strict x k Q l y.
       let (a, (b, c)) = conditional_parts Q l (identifier r.name) r.b (identifier r.name) (subst (Q AsValue) r.shape y) in subst (Q AsValue) (sym r.written) (a_logical Q l And (identifier r.name) r.b a b))
 
   pub held_less : HeldRow n w → LessAt (Expr q) n w
-  held_less (inl r) =
+  held_less (AndBoth r) =
       made_under q n w Conditional (r.a ▸ conditional r.b r.c r.d ▸ r.d ▸ none) refl r.shape tt Conditional (logical And r.a r.b ▸ r.c ▸ r.d ▸ none) refl r.written (λ strict x k Q l y.
       let (a, (inner, d)) = conditional_parts Q l r.a (conditional r.b r.c r.d) r.d (subst (Q AsValue) r.shape y) in
       let (b, (c, e)) = conditional_parts Q l r.b r.c r.d inner in
       subst (Q AsValue) (sym r.written) (a_conditional Q l (logical And r.a r.b) r.c r.d (a_logical Q l And r.a r.b a b) c d))
-  held_less (inr (inl r)) =
+  held_less (OrEither r) =
       made_under q n w Conditional (r.a ▸ r.c ▸ conditional r.b r.c r.d ▸ none) refl r.shape tt Conditional (logical Or r.a r.b ▸ r.c ▸ r.d ▸ none) refl r.written (λ strict x k Q l y.
       let (a, (c, inner)) = conditional_parts Q l r.a r.c (conditional r.b r.c r.d) (subst (Q AsValue) r.shape y) in
       let (b, (e, d)) = conditional_parts Q l r.b r.c r.d inner in
       subst (Q AsValue) (sym r.written) (a_conditional Q l (logical Or r.a r.b) r.c r.d (a_logical Q l Or r.a r.b a b) c d))
-  held_less (inr (inr (inl r))) =
+  held_less (LastAfterOr r) =
       made_under q n w Conditional (r.a ▸ logical Or r.b r.c ▸ r.c ▸ none) refl r.shape tt (Logical Or) (logical And r.a r.b ▸ r.c ▸ none) refl r.written (λ strict x k Q l y.
       let (a, (inner, c)) = conditional_parts Q l r.a (logical Or r.b r.c) r.c (subst (Q AsValue) r.shape y) in
       subst (Q AsValue) (sym r.written) (a_logical Q l Or (logical And r.a r.b) r.c (a_logical Q l And r.a r.b a (logical_parts Q l Or r.b r.c inner).0) c))
-  held_less (inr (inr (inr (inl r)))) =
+  held_less (LastAfterAnd r) =
       made_under q n w Conditional (r.a ▸ r.c ▸ logical And r.b r.c ▸ none) refl r.shape tt (Logical And) (logical Or r.a r.b ▸ r.c ▸ none) refl r.written (λ strict x k Q l y.
       let (a, (c, inner)) = conditional_parts Q l r.a r.c (logical And r.b r.c) (subst (Q AsValue) r.shape y) in
       subst (Q AsValue) (sym r.written) (a_logical Q l And (logical Or r.a r.b) r.c (a_logical Q l Or r.a r.b a (logical_parts Q l And r.b r.c inner).0) c))
-  held_less (inr (inr (inr (inr (inl r))))) =
+  held_less (AndThenOr r) =
       made_under q n w Conditional (r.a ▸ pair r.b r.c ▸ r.c ▸ none) refl r.shape tt Sequence (listed (logical And r.a r.b ▸ r.c ▸ none) ▸ none) refl r.written (λ strict x k Q l y.
       let (a, (inner, c)) = conditional_parts Q l r.a (pair r.b r.c) r.c (subst (Q AsValue) r.shape y) in
       subst (Q AsValue) (sym r.written) (a_pair Q l (logical And r.a r.b) r.c (a_logical Q l And r.a r.b a (pair_parts Q l r.b r.c inner).0) c))
-  held_less (inr (inr (inr (inr (inr (inl r)))))) =
+  held_less (OrThenAnd r) =
       made_under q n w Conditional (r.a ▸ r.c ▸ pair r.b r.c ▸ none) refl r.shape tt Sequence (listed (logical Or r.a r.b ▸ r.c ▸ none) ▸ none) refl r.written (λ strict x k Q l y.
       let (a, (c, inner)) = conditional_parts Q l r.a r.c (pair r.b r.c) (subst (Q AsValue) r.shape y) in
       subst (Q AsValue) (sym r.written) (a_pair Q l (logical Or r.a r.b) r.c (a_logical Q l Or r.a r.b a (pair_parts Q l r.b r.c inner).0) c))
-  held_less (inr (inr (inr (inr (inr (inr r)))))) =
+  held_less (Alike r) =
       made_under q n w Conditional (r.a ▸ r.b ▸ r.b ▸ none) refl r.shape tt Sequence (listed (r.a ▸ r.b ▸ none) ▸ none) refl r.written (λ strict x k Q l y.
       let (a, (b, c)) = conditional_parts Q l r.a r.b r.b (subst (Q AsValue) r.shape y) in subst (Q AsValue) (sym r.written) (a_pair Q l r.a r.b a b))
 
   pub lighter_less : LighterRow q n w → LessAt (Expr q) n w
-  lighter_less (inl r) = rotated_less r
-  lighter_less (inr (inl r)) = decided_less r
-  lighter_less (inr (inr (inl r))) = computed_less r
-  lighter_less (inr (inr (inr (inl r)))) = equal_less r
-  lighter_less (inr (inr (inr (inr (inl r))))) = unequal_less r
-  lighter_less (inr (inr (inr (inr (inr (inl r)))))) = chosen_target_less r.operator (identifier r.name) r.a r.b r.c r.shape r.written
-  lighter_less (inr (inr (inr (inr (inr (inr (inl r))))))) = nullish_less r
-  lighter_less (inr (inr (inr (inr (inr (inr (inr (inl r)))))))) = nullish_after_less r
-  lighter_less (inr (inr (inr (inr (inr (inr (inr (inr (inl r))))))))) = object_less r
-  lighter_less (inr (inr (inr (inr (inr (inr (inr (inr (inr (inl r)))))))))) = null_object_less r
-  lighter_less (inr (inr (inr (inr (inr (inr (inr (inr (inr (inr (inl r))))))))))) = computed_member_less r
-  lighter_less (inr (inr (inr (inr (inr (inr (inr (inr (inr (inr (inr (inl r)))))))))))) = chosen_target_less Assign (member_of r.name r.key) r.a r.b r.c r.shape r.written
-  lighter_less (inr (inr (inr (inr (inr (inr (inr (inr (inr (inr (inr (inr r)))))))))))) = decided_last_less r
+  lighter_less (Rotated r) = rotated_less r
+  lighter_less (Decided r) = decided_less r
+  lighter_less (Combined r) = computed_less r
+  lighter_less (NullishIfEqual r) = equal_less r
+  lighter_less (NullishIfUnequal r) = unequal_less r
+  lighter_less (Chosen r) = chosen_target_less r.operator (identifier r.name) r.a r.b r.c r.shape r.written
+  lighter_less (LooseNull r) = nullish_less r
+  lighter_less (LooseNullAfter r) = nullish_after_less r
+  lighter_less (ObjectTest r) = object_less r
+  lighter_less (ObjectTestAfter r) = null_object_less r
+  lighter_less (CombinedMember r) = computed_member_less r
+  lighter_less (ChosenMember r) = chosen_target_less Assign (member_of r.name r.key) r.a r.b r.c r.shape r.written
+  lighter_less (DecidedLast r) = decided_last_less r
 
   pub calls_less : (asked : Bool) → CallRow asked n w → LessAt (Expr q) n w
   calls_less asked r =

@@ -35,7 +35,7 @@ use Rattle.mini_rows.specs.Sketches.{Unary, Binary, Logical, Conditional, Assign
 use Rattle.mini_model.specs.Paths.{append}
 use Rattle.mini_rows.specs.Lists.{sequence}
 use Rattle.mini_rows.specs.Spellings.{IsUndefined, void_zero, assignment}
-use Rattle.mini_rows.specs.Choices.{assign, deciding, strictly, loosely, joining, AreNullish, Row37, Row37After, asks_object, null_compared, held, ended, Row57, Row57Null, Key, Named, Spelled, Numbered, member_on, member_of, Row39, Row38, Row35, Row35Member, Row38Last, ChoiceRow, ChoiceContracts, ChoicesLawful, ChoicesLoose, Row46Equal, Row46Unequal, Row41Or, Row41And, Row42And, Row42Or, Row43Or, Row43And, Row43AndThen, Row43OrThen, Row49, Row13Both, LighterRow, OwnRow, HeldRow, ChosenRow, ChosenMemberRow}
+use Rattle.mini_rows.specs.Choices.{assign, deciding, strictly, loosely, joining, AreNullish, Row37, Row37After, asks_object, null_compared, held, ended, Row57, Row57Null, Key, Named, Spelled, Numbered, member_on, member_of, Row39, Row38, Row35, Row35Member, Row38Last, ChoiceRow, ChoiceContracts, ChoicesLawful, ChoicesLoose, Row46Equal, Row46Unequal, Row41Or, Row41And, Row42And, Row42Or, Row43Or, Row43And, Row43AndThen, Row43OrThen, Row49, Row13Both, LighterRow, OwnRow, HeldRow, ChosenRow, ChosenMemberRow, Shorter, TestedBranch, SharedBranch, OptionalChain, JoinedCall, Link, ChainEnd, BothSides, ChosenIndexed, ZeroFirst, Rotated, Decided, Combined, NullishIfEqual, NullishIfUnequal, Chosen, LooseNull, LooseNullAfter, ObjectTest, ObjectTestAfter, CombinedMember, ChosenMember, DecidedLast, OrTest, AndTest, AndBoth, OrEither, LastAfterOr, LastAfterAnd, AndThenOr, OrThenAnd, Alike}
 use Rattle.mini_rows.proofs.ChainLinkLawful.{chains_kept}
 use Rattle.mini_rows.proofs.ChainEndKept.{end_kept}
 use Rattle.mini_rows.proofs.ArrangedExpressions.{expressions_arranged, expressions_arranged_freely, CodeKept, code_arranged}
@@ -342,44 +342,44 @@ null_type_kept q n w r = by r.there r.strict r.before r.shape r.written
     by false false (Some b) f g = expressions_arranged_freely null_dropped (record { trees = identifier r.name ▸ asks_object false r.name ▸ null_literal ▸ b ▸ none; lists = [] }) (tt, tt, (null_vanishes, tt)) (operands Or (ended_by Or true (compared_with (comparison false true) (part 2))) (part 1)) (operands Or (ended_by Or true (held_part false)) (part 1)) refl q n w f g
 
 lighter_kept : (q : Seat) (n w : Tree) → LighterRow q n w → KeptAt (Expr q) n w
-lighter_kept q n w (inl r) = rotated_kept q n w r
-lighter_kept q n w (inr (inl r)) = deciding_kept q n w r
-lighter_kept q n w (inr (inr (inl r))) = computing_kept q n w r
-lighter_kept q n w (inr (inr (inr (inl r)))) = equal_kept q n w r
-lighter_kept q n w (inr (inr (inr (inr (inl r))))) = unequal_kept q n w r
-lighter_kept q n w (inr (inr (inr (inr (inr (inl r)))))) = chosen_kept true q n w r
-lighter_kept q n w (inr (inr (inr (inr (inr (inr (inl r))))))) = nullish_kept q n w r
-lighter_kept q n w (inr (inr (inr (inr (inr (inr (inr (inl r)))))))) = nullish_after_kept q n w r
-lighter_kept q n w (inr (inr (inr (inr (inr (inr (inr (inr (inl r))))))))) = type_kept q n w r
-lighter_kept q n w (inr (inr (inr (inr (inr (inr (inr (inr (inr (inl r)))))))))) = null_type_kept q n w r
-lighter_kept q n w (inr (inr (inr (inr (inr (inr (inr (inr (inr (inr (inl r))))))))))) = computing_member_kept q n w r
-lighter_kept q n w (inr (inr (inr (inr (inr (inr (inr (inr (inr (inr (inr (inl r)))))))))))) = chosen_member_kept true q n w r
-lighter_kept q n w (inr (inr (inr (inr (inr (inr (inr (inr (inr (inr (inr (inr r)))))))))))) = last_kept q n w r
+lighter_kept q n w (Rotated r) = rotated_kept q n w r
+lighter_kept q n w (Decided r) = deciding_kept q n w r
+lighter_kept q n w (Combined r) = computing_kept q n w r
+lighter_kept q n w (NullishIfEqual r) = equal_kept q n w r
+lighter_kept q n w (NullishIfUnequal r) = unequal_kept q n w r
+lighter_kept q n w (Chosen r) = chosen_kept true q n w r
+lighter_kept q n w (LooseNull r) = nullish_kept q n w r
+lighter_kept q n w (LooseNullAfter r) = nullish_after_kept q n w r
+lighter_kept q n w (ObjectTest r) = type_kept q n w r
+lighter_kept q n w (ObjectTestAfter r) = null_type_kept q n w r
+lighter_kept q n w (CombinedMember r) = computing_member_kept q n w r
+lighter_kept q n w (ChosenMember r) = chosen_member_kept true q n w r
+lighter_kept q n w (DecidedLast r) = last_kept q n w r
 
 own_kept : (q : Seat) (n w : Tree) → OwnRow n w → KeptAt (Expr q) n w
-own_kept q n w (inl r) = own_or_kept q n w r
-own_kept q n w (inr r) = own_and_kept q n w r
+own_kept q n w (OrTest r) = own_or_kept q n w r
+own_kept q n w (AndTest r) = own_and_kept q n w r
 
 held_kept : (q : Seat) (n w : Tree) → HeldRow n w → KeptAt (Expr q) n w
-held_kept q n w (inl r) = choice_and_kept q n w r
-held_kept q n w (inr (inl r)) = choice_or_kept q n w r
-held_kept q n w (inr (inr (inl r))) = or_kept q n w r
-held_kept q n w (inr (inr (inr (inl r)))) = and_kept q n w r
-held_kept q n w (inr (inr (inr (inr (inl r))))) = and_then_kept q n w r
-held_kept q n w (inr (inr (inr (inr (inr (inl r)))))) = or_then_kept q n w r
-held_kept q n w (inr (inr (inr (inr (inr (inr r)))))) = both_kept q n w r
+held_kept q n w (AndBoth r) = choice_and_kept q n w r
+held_kept q n w (OrEither r) = choice_or_kept q n w r
+held_kept q n w (LastAfterOr r) = or_kept q n w r
+held_kept q n w (LastAfterAnd r) = and_kept q n w r
+held_kept q n w (AndThenOr r) = and_then_kept q n w r
+held_kept q n w (OrThenAnd r) = or_then_kept q n w r
+held_kept q n w (Alike r) = both_kept q n w r
 
 expression_kept : (q : Seat) (n w : Tree) → ChoiceRow (Expr q) n w → KeptLoosely (Expr q) n w
-expression_kept q n w (inl r) = kept_loosely (Expr q) n w (lighter_kept q n w r)
-expression_kept q n w (inr (inl r)) = kept_loosely (Expr q) n w (own_kept q n w r)
-expression_kept q n w (inr (inr (inl r))) = kept_loosely (Expr q) n w (held_kept q n w r)
-expression_kept q n w (inr (inr (inr (inl r)))) = kept_loosely (Expr q) n w (chain_row_kept q n w r (undefined_vanishes r.missing r.undefined))
-expression_kept q n w (inr (inr (inr (inr (inl r))))) = kept_loosely (Expr q) n w (calls_kept true q n w r)
-expression_kept q n w (inr (inr (inr (inr (inr (inl r)))))) = kept_loosely (Expr q) n w (chains_kept q n w r)
-expression_kept q n w (inr (inr (inr (inr (inr (inr (inl r))))))) = end_kept q n w r
-expression_kept q n w (inr (inr (inr (inr (inr (inr (inr (inl r)))))))) = kept_loosely (Expr q) n w (both_sides_kept q n w r)
-expression_kept q n w (inr (inr (inr (inr (inr (inr (inr (inr (inl r))))))))) = kept_loosely (Expr q) n w (indexed_kept true q n w r)
-expression_kept q n w (inr (inr (inr (inr (inr (inr (inr (inr (inr r))))))))) = kept_loosely (Expr q) n w (zero_row_kept q n w r)
+expression_kept q n w (Shorter r) = kept_loosely (Expr q) n w (lighter_kept q n w r)
+expression_kept q n w (TestedBranch r) = kept_loosely (Expr q) n w (own_kept q n w r)
+expression_kept q n w (SharedBranch r) = kept_loosely (Expr q) n w (held_kept q n w r)
+expression_kept q n w (OptionalChain r) = kept_loosely (Expr q) n w (chain_row_kept q n w r (undefined_vanishes r.missing r.undefined))
+expression_kept q n w (JoinedCall r) = kept_loosely (Expr q) n w (calls_kept true q n w r)
+expression_kept q n w (Link r) = kept_loosely (Expr q) n w (chains_kept q n w r)
+expression_kept q n w (ChainEnd r) = end_kept q n w r
+expression_kept q n w (BothSides r) = kept_loosely (Expr q) n w (both_sides_kept q n w r)
+expression_kept q n w (ChosenIndexed r) = kept_loosely (Expr q) n w (indexed_kept true q n w r)
+expression_kept q n w (ZeroFirst r) = kept_loosely (Expr q) n w (zero_row_kept q n w r)
 
 kept : (p : Position) (n w : Tree) → ChoiceRow p n w → KeptLoosely p n w
 kept (Expr q) n w r = expression_kept q n w r

@@ -32,7 +32,7 @@ use Rattle.mini_laws.specs.Targets.{assigns}
 use Rattle.mini_laws.proofs.Runs.{either_cong, either_assoc, either_eta, either_ok, either_stop, either_out, runs}
 use Rattle.mini_terms.proofs.Opened.{negation_opened}
 use Rattle.mini_rows.specs.Spellings.{binary, text, assignment}
-use Rattle.mini_rows.specs.Choices.{assign, pair, joined, strictly, loosely, joining, AreNullish, Row37, Row37After, deciding, computing, may_choose, Row45, Row35, Row46Equal, Row46Unequal, asks_object, null_compared, held, ended, Row57, Row57Null, LighterRow, OwnRow, HeldRow, ChoiceRow, ChoiceContracts, ChosenRow}
+use Rattle.mini_rows.specs.Choices.{assign, pair, joined, strictly, loosely, joining, AreNullish, Row37, Row37After, deciding, computing, may_choose, Row45, Row35, Row46Equal, Row46Unequal, asks_object, null_compared, held, ended, Row57, Row57Null, LighterRow, OwnRow, HeldRow, ChoiceRow, ChoiceContracts, ChosenRow, Shorter, TestedBranch, SharedBranch, OptionalChain, JoinedCall, Link, ChainEnd, BothSides, ChosenIndexed, ZeroFirst, Rotated, Decided, Combined, NullishIfEqual, NullishIfUnequal, Chosen, LooseNull, LooseNullAfter, ObjectTest, ObjectTestAfter, CombinedMember, ChosenMember, DecidedLast, OrTest, AndTest, AndBoth, OrEither, LastAfterOr, LastAfterAnd, AndThenOr, OrThenAnd, Alike}
 use Rattle.mini_rows.proofs.ChainLinkMeaning.{chains_same, chains_read}
 use Rattle.mini_rows.proofs.BothSides.{both_sides_same}
 use Rattle.mini_rows.proofs.ChainEnds.{end_same, end_read}
@@ -604,57 +604,57 @@ null_type_same n w r =
 -- all
 
 lighter_same : (s : Seat) (n w : Tree) → LighterRow s n w → SameTree n w
-lighter_same s n w (inl r) = same_by n w _ _ r.shape r.written (rotated_same r.operator r.a r.b r.last r.others)
-lighter_same s n w (inr (inl r)) = same_by n w _ _ r.shape r.written (deciding_same r.operator r.name r.b)
-lighter_same s n w (inr (inr (inl r))) = computing_same n w r
-lighter_same s n w (inr (inr (inr (inl r)))) = equal_same n w r
-lighter_same s n w (inr (inr (inr (inr (inl r))))) = unequal_same n w r
-lighter_same s n w (inr (inr (inr (inr (inr (inr (inl r))))))) = nullish_same n w r
-lighter_same s n w (inr (inr (inr (inr (inr (inr (inr (inl r)))))))) = nullish_after_same n w r
-lighter_same s n w (inr (inr (inr (inr (inr (inr (inr (inr (inl r))))))))) = type_same n w r
-lighter_same s n w (inr (inr (inr (inr (inr (inr (inr (inr (inr (inl r)))))))))) = null_type_same n w r
-lighter_same s n w (inr (inr (inr (inr (inr (inr (inr (inr (inr (inr (inl r))))))))))) = member_same n w r
-lighter_same s n w (inr (inr (inr (inr (inr (inr (inr (inr (inr (inr (inr (inl r)))))))))))) = member_chosen_same s n w r
-lighter_same s n w (inr (inr (inr (inr (inr (inr (inr (inr (inr (inr (inr (inr r)))))))))))) = last_same s n w r
-lighter_same s n w (inr (inr (inr (inr (inr (inl r)))))) = chosen_same s n w r
+lighter_same s n w (Rotated r) = same_by n w _ _ r.shape r.written (rotated_same r.operator r.a r.b r.last r.others)
+lighter_same s n w (Decided r) = same_by n w _ _ r.shape r.written (deciding_same r.operator r.name r.b)
+lighter_same s n w (Combined r) = computing_same n w r
+lighter_same s n w (NullishIfEqual r) = equal_same n w r
+lighter_same s n w (NullishIfUnequal r) = unequal_same n w r
+lighter_same s n w (LooseNull r) = nullish_same n w r
+lighter_same s n w (LooseNullAfter r) = nullish_after_same n w r
+lighter_same s n w (ObjectTest r) = type_same n w r
+lighter_same s n w (ObjectTestAfter r) = null_type_same n w r
+lighter_same s n w (CombinedMember r) = member_same n w r
+lighter_same s n w (ChosenMember r) = member_chosen_same s n w r
+lighter_same s n w (DecidedLast r) = last_same s n w r
+lighter_same s n w (Chosen r) = chosen_same s n w r
 
 own_same : (n w : Tree) → OwnRow n w → SameTree n w
-own_same n w (inl r) = same_by n w _ _ r.shape r.written (by_value _ _ (conditional_tells (identifier r.name) (identifier r.name) r.b) (logical_tells Or (identifier r.name) r.b) refl (own_or_value r.name r.b))
-own_same n w (inr r) = same_by n w _ _ r.shape r.written (by_value _ _ (conditional_tells (identifier r.name) r.b (identifier r.name)) (logical_tells And (identifier r.name) r.b) refl (own_and_value r.name r.b))
+own_same n w (OrTest r) = same_by n w _ _ r.shape r.written (by_value _ _ (conditional_tells (identifier r.name) (identifier r.name) r.b) (logical_tells Or (identifier r.name) r.b) refl (own_or_value r.name r.b))
+own_same n w (AndTest r) = same_by n w _ _ r.shape r.written (by_value _ _ (conditional_tells (identifier r.name) r.b (identifier r.name)) (logical_tells And (identifier r.name) r.b) refl (own_and_value r.name r.b))
 
 held_same : (n w : Tree) → HeldRow n w → SameTree n w
-held_same n w (inl r) = same_by n w _ _ r.shape r.written (choice_and_same r.a r.b r.c r.d)
-held_same n w (inr (inl r)) = same_by n w _ _ r.shape r.written (choice_or_same r.a r.b r.c r.d)
-held_same n w (inr (inr (inl r))) = same_by n w _ _ r.shape r.written (or_same r.a r.b r.c)
-held_same n w (inr (inr (inr (inl r)))) = same_by n w _ _ r.shape r.written (and_same r.a r.b r.c)
-held_same n w (inr (inr (inr (inr (inl r))))) = same_by n w _ _ r.shape r.written (and_then_same r.a r.b r.c)
-held_same n w (inr (inr (inr (inr (inr (inl r)))))) = same_by n w _ _ r.shape r.written (or_then_same r.a r.b r.c)
-held_same n w (inr (inr (inr (inr (inr (inr r)))))) = same_by n w _ _ r.shape r.written (both_same r.a r.b)
+held_same n w (AndBoth r) = same_by n w _ _ r.shape r.written (choice_and_same r.a r.b r.c r.d)
+held_same n w (OrEither r) = same_by n w _ _ r.shape r.written (choice_or_same r.a r.b r.c r.d)
+held_same n w (LastAfterOr r) = same_by n w _ _ r.shape r.written (or_same r.a r.b r.c)
+held_same n w (LastAfterAnd r) = same_by n w _ _ r.shape r.written (and_same r.a r.b r.c)
+held_same n w (AndThenOr r) = same_by n w _ _ r.shape r.written (and_then_same r.a r.b r.c)
+held_same n w (OrThenAnd r) = same_by n w _ _ r.shape r.written (or_then_same r.a r.b r.c)
+held_same n w (Alike r) = same_by n w _ _ r.shape r.written (both_same r.a r.b)
 
 means_same : (p : Position) (n w : Tree) → ChoiceRow p n w → SameAt p n w
-means_same (Expr s) n w (inl r) = tree_same s n w (lighter_same s n w r)
-means_same (Expr s) n w (inr (inl r)) = tree_same s n w (own_same n w r)
-means_same (Expr s) n w (inr (inr (inl r))) = tree_same s n w (held_same n w r)
-means_same (Expr s) n w (inr (inr (inr (inl r)))) = chain_row_same s n w r
-means_same (Expr s) n w (inr (inr (inr (inr (inl r))))) = tree_same s n w (calls_same n w r)
-means_same (Expr s) n w (inr (inr (inr (inr (inr (inl r)))))) = chains_same s n w r
-means_same (Expr s) n w (inr (inr (inr (inr (inr (inr (inl r))))))) = end_same s n w r
-means_same (Expr s) n w (inr (inr (inr (inr (inr (inr (inr (inl r)))))))) = tree_same s n w (both_sides_same n w r)
-means_same (Expr s) n w (inr (inr (inr (inr (inr (inr (inr (inr (inl r))))))))) = tree_same s n w (indexed_same s n w r)
-means_same (Expr s) n w (inr (inr (inr (inr (inr (inr (inr (inr (inr r))))))))) = zero_row_same s n w r
+means_same (Expr s) n w (Shorter r) = tree_same s n w (lighter_same s n w r)
+means_same (Expr s) n w (TestedBranch r) = tree_same s n w (own_same n w r)
+means_same (Expr s) n w (SharedBranch r) = tree_same s n w (held_same n w r)
+means_same (Expr s) n w (OptionalChain r) = chain_row_same s n w r
+means_same (Expr s) n w (JoinedCall r) = tree_same s n w (calls_same n w r)
+means_same (Expr s) n w (Link r) = chains_same s n w r
+means_same (Expr s) n w (ChainEnd r) = end_same s n w r
+means_same (Expr s) n w (BothSides r) = tree_same s n w (both_sides_same n w r)
+means_same (Expr s) n w (ChosenIndexed r) = tree_same s n w (indexed_same s n w r)
+means_same (Expr s) n w (ZeroFirst r) = zero_row_same s n w r
 means_same p n w r = absurd r
 
 reads : (p : Position) (n w : Tree) → ChoiceRow p n w → summary n ≡ summary w
-reads (Expr s) n w (inl r) = (lighter_same s n w r).read
-reads (Expr s) n w (inr (inl r)) = (own_same n w r).read
-reads (Expr s) n w (inr (inr (inl r))) = (held_same n w r).read
-reads (Expr s) n w (inr (inr (inr (inl r)))) = chain_row_read s n w r
-reads (Expr s) n w (inr (inr (inr (inr (inl r))))) = (calls_same n w r).read
-reads (Expr s) n w (inr (inr (inr (inr (inr (inl r)))))) = chains_read s n w r
-reads (Expr s) n w (inr (inr (inr (inr (inr (inr (inl r))))))) = end_read s n w r
-reads (Expr s) n w (inr (inr (inr (inr (inr (inr (inr (inl r)))))))) = (both_sides_same n w r).read
-reads (Expr s) n w (inr (inr (inr (inr (inr (inr (inr (inr (inl r))))))))) = (indexed_same s n w r).read
-reads (Expr s) n w (inr (inr (inr (inr (inr (inr (inr (inr (inr r))))))))) = zero_row_read s n w r
+reads (Expr s) n w (Shorter r) = (lighter_same s n w r).read
+reads (Expr s) n w (TestedBranch r) = (own_same n w r).read
+reads (Expr s) n w (SharedBranch r) = (held_same n w r).read
+reads (Expr s) n w (OptionalChain r) = chain_row_read s n w r
+reads (Expr s) n w (JoinedCall r) = (calls_same n w r).read
+reads (Expr s) n w (Link r) = chains_read s n w r
+reads (Expr s) n w (ChainEnd r) = end_read s n w r
+reads (Expr s) n w (BothSides r) = (both_sides_same n w r).read
+reads (Expr s) n w (ChosenIndexed r) = (indexed_same s n w r).read
+reads (Expr s) n w (ZeroFirst r) = zero_row_read s n w r
 reads p n w r = absurd r
 
 pub choices_same : MeansSame ChoiceContracts

@@ -21,7 +21,7 @@ use Rattle.mini_model.specs.Paths.{append}
 use Rattle.mini_rows.specs.Lists.{sequence}
 use Rattle.mini_node.specs.Kinds.{computed_member}
 use Rattle.mini_rows.specs.Spellings.{binary, assignment}
-use Rattle.mini_rows.specs.Choices.{Key, Named, Spelled, Numbered, member_on, member_of, assign, joined, strictly, loosely, joining, asks_object, null_compared, held, ended, deciding, ChoiceRow, pair, argument, CallRow, Row13Both, LighterRow, OwnRow, HeldRow, ChosenRow, ChosenMemberRow, ChosenIndexedRow}
+use Rattle.mini_rows.specs.Choices.{Key, Named, Spelled, Numbered, member_on, member_of, assign, joined, strictly, loosely, joining, asks_object, null_compared, held, ended, deciding, ChoiceRow, pair, argument, CallRow, Row13Both, LighterRow, OwnRow, HeldRow, ChosenRow, ChosenMemberRow, ChosenIndexedRow, Shorter, TestedBranch, SharedBranch, OptionalChain, JoinedCall, Link, ChainEnd, BothSides, ChosenIndexed, ZeroFirst, Rotated, Decided, Combined, NullishIfEqual, NullishIfUnequal, Chosen, LooseNull, LooseNullAfter, ObjectTest, ObjectTestAfter, CombinedMember, ChosenMember, DecidedLast, OrTest, AndTest, AndBoth, OrEither, LastAfterOr, LastAfterAnd, AndThenOr, OrThenAnd, Alike}
 use Rattle.mini_rows.proofs.ChainLinkLawful.{chains_fit, chains_asked, chains_slot}
 use Rattle.mini_rows.proofs.ChainEnds.{end_fits, end_asked, end_slot}
 use Rattle.mini_rows.proofs.ChainLawful.{chain_row_fits, chain_row_asked, chain_row_slot}
@@ -172,27 +172,27 @@ module _ (strict : Bool) where
         subst Here (sym r.written) (expression_taken strict s (assignment Assign member (conditional r.a r.b r.c)) here (member_assignment_fits Assign (identifier r.name) r.key (conditional r.a r.b r.c) target (three_fit strict r.a r.b r.c test b (of_member_assignment (identifier r.name) r.key r.c second).1)))
 
     lighter_fits : (q : Seat) (n w : Tree) → LighterRow q n w → Here n → Here w
-    lighter_fits q n w (inl r) e =
+    lighter_fits q n w (Rotated r) e =
         let right : Tree = joined r.operator r.b (r.last ▸ r.others) in
         let (here, fit) = choice_taken strict s (a_logical r.operator) (r.a ▸ right ▸ none) refl (subst Here r.shape e) in
         let (first, rest) = of_two r.a right fit in
         subst Here (sym r.written) (expression_taken strict s (joined r.operator (logical r.operator r.a r.b) (r.last ▸ r.others)) here (joined_fits r.operator r.a r.b (r.last ▸ r.others) first rest))
-    lighter_fits q n w (inr (inl r)) e =
+    lighter_fits q n w (Decided r) e =
         let (here, fit) = choice_taken strict s (a_logical r.operator) (identifier r.name ▸ assign r.name r.b ▸ none) refl (subst Here r.shape e) in
         let (first, rest) = of_two (identifier r.name) (assign r.name r.b) fit in
         subst Here (sym r.written) (expression_taken strict s (assignment (deciding r.operator) (identifier r.name) r.b) here (assignment_fits (deciding r.operator) r.name r.b first (of_assignment Assign r.name r.b rest).1))
-    lighter_fits q n w (inr (inr (inl r))) e =
+    lighter_fits q n w (Combined r) e =
         let (here, fit) = choice_taken strict s (an_assignment Assign) (identifier r.name ▸ binary r.operator (identifier r.name) r.b ▸ none) refl (subst Here r.shape e) in
         let (first, rest) = of_assignment Assign r.name (binary r.operator (identifier r.name) r.b) fit in
         subst Here (sym r.written) (expression_taken strict s (assignment r.combined (identifier r.name) r.b) here (assignment_fits r.combined r.name r.b first (of_two (identifier r.name) r.b rest).1))
-    lighter_fits q n w (inr (inr (inr (inr (inr (inl r)))))) e = chosen_fits true q n w r e
-    lighter_fits q n w (inr (inr (inr (inl r)))) e =
+    lighter_fits q n w (Chosen r) e = chosen_fits true q n w r e
+    lighter_fits q n w (NullishIfEqual r) e =
         let (here, (test, branch, last)) = of_conditional strict s (binary binary_operator.Equality (identifier r.name) null_literal) r.b (identifier r.name) (subst Here r.shape e) in
         subst Here (sym r.written) (expression_taken strict s (logical Coalesce (identifier r.name) r.b) here (two_fit strict (identifier r.name) r.b last branch))
-    lighter_fits q n w (inr (inr (inr (inr (inl r))))) e =
+    lighter_fits q n w (NullishIfUnequal r) e =
         let (here, (test, last, branch)) = of_conditional strict s (binary binary_operator.Inequality (identifier r.name) null_literal) (identifier r.name) r.b (subst Here r.shape e) in
         subst Here (sym r.written) (expression_taken strict s (logical Coalesce (identifier r.name) r.b) here (two_fit strict (identifier r.name) r.b last branch))
-    lighter_fits q n w (inr (inr (inr (inr (inr (inr (inl r))))))) e =
+    lighter_fits q n w (LooseNull r) e =
         let x : Tree = identifier r.name in
         let one : Tree = binary (strictly r.equal) x r.first in
         let other : Tree = binary (strictly r.equal) x r.second in
@@ -200,7 +200,7 @@ module _ (strict : Bool) where
         let (first, rest) = of_two one other fit in
         let (name, null) = of_two x r.first first in
         subst Here (sym r.written) (expression_taken strict s (binary (loosely r.equal) x null_literal) here (two_fit strict x null_literal name refl))
-    lighter_fits q n w (inr (inr (inr (inr (inr (inr (inr (inl r)))))))) e =
+    lighter_fits q n w (LooseNullAfter r) e =
         let x : Tree = identifier r.name in
         let one : Tree = binary (strictly r.equal) x r.first in
         let other : Tree = binary (strictly r.equal) x r.second in
@@ -210,27 +210,27 @@ module _ (strict : Bool) where
         let (before, first) = of_two r.before one both in
         let (name, null) = of_two x r.first first in
         subst Here (sym r.written) (expression_taken strict s (logical (joining r.equal) r.before (binary (loosely r.equal) x null_literal)) here (two_fit strict r.before (binary (loosely r.equal) x null_literal) before (two_fit strict x null_literal name refl)))
-    lighter_fits q n w (inr (inr (inr (inr (inr (inr (inr (inr (inl r))))))))) e =
+    lighter_fits q n w (ObjectTest r) e =
         let o = joining (not r.there) in
         let left = ended o r.before (asks_object r.there r.name) in
         let right = null_compared r.strict (not r.there) r.name in
         let (here, fit) = choice_taken strict s (a_logical o) (left ▸ right ▸ none) refl (subst Here r.shape e) in
         let (first, second) = of_two left right fit in
         subst Here (sym r.written) (expression_taken strict s (logical o left (held r.there r.name)) here (two_fit strict left (held r.there r.name) first (held_fits_there r.there r.name (name_there r.strict (not r.there) r.name second))))
-    lighter_fits q n w (inr (inr (inr (inr (inr (inr (inr (inr (inr (inl r)))))))))) e =
+    lighter_fits q n w (ObjectTestAfter r) e =
         let o = joining (not r.there) in
         let test = null_compared r.strict (not r.there) r.name in
         let right = asks_object r.there r.name in
         let (here, fit) = choice_taken strict s (a_logical o) (ended o r.before test ▸ right ▸ none) refl (subst Here r.shape e) in
         let (first, second) = of_two (ended o r.before test) right fit in
         subst Here (sym r.written) (expression_taken strict s (logical o (ended o r.before (held r.there r.name)) right) here (two_fit strict (ended o r.before (held r.there r.name)) right (ended_fits o r.before test (held r.there r.name) (λ f. held_fits_there r.there r.name (name_there r.strict (not r.there) r.name f)) first) second))
-    lighter_fits q n w (inr (inr (inr (inr (inr (inr (inr (inr (inr (inr (inr (inr r)))))))))))) e =
+    lighter_fits q n w (DecidedLast r) e =
         let parts : Tree = sequence (r.first ▸ append r.others (assign r.name r.b ▸ none)) in
         let (here, fit) = choice_taken strict s (a_logical r.operator) (identifier r.name ▸ parts ▸ none) refl (subst Here r.shape e) in
         let (name, rest) = of_two (identifier r.name) parts fit in
         subst Here (sym r.written) (expression_taken strict s (assignment (deciding r.operator) (identifier r.name) (sequence (r.first ▸ append r.others (r.b ▸ none)))) here (assignment_fits (deciding r.operator) r.name (sequence (r.first ▸ append r.others (r.b ▸ none))) name (last_fits strict r.first r.others (assign r.name r.b) rest r.b (λ f. (of_assignment Assign r.name r.b f).1))))
-    lighter_fits q n w (inr (inr (inr (inr (inr (inr (inr (inr (inr (inr (inr (inl r)))))))))))) e = chosen_member_fits true q n w r e
-    lighter_fits q n w (inr (inr (inr (inr (inr (inr (inr (inr (inr (inr (inl r))))))))))) e =
+    lighter_fits q n w (ChosenMember r) e = chosen_member_fits true q n w r e
+    lighter_fits q n w (CombinedMember r) e =
         let member : Tree = member_of r.name r.key in
         let (here, fit) = choice_taken strict s (an_assignment Assign) (member ▸ binary r.operator member r.b ▸ none) refl (subst Here r.shape e) in
         let (first, rest) = of_member_assignment (identifier r.name) r.key (binary r.operator member r.b) fit in
@@ -249,23 +249,23 @@ module _ (strict : Bool) where
         expression_taken strict s w here (f x y z)
 
     own_fits : (n w : Tree) → OwnRow n w → Here n → Here w
-    own_fits n w (inl r) = for_choice n w _ _ _ r.shape (λ x y z. subst Fits (sym r.written) (two_fit strict (identifier r.name) r.b x z))
-    own_fits n w (inr r) = for_choice n w _ _ _ r.shape (λ x y z. subst Fits (sym r.written) (two_fit strict (identifier r.name) r.b x y))
+    own_fits n w (OrTest r) = for_choice n w _ _ _ r.shape (λ x y z. subst Fits (sym r.written) (two_fit strict (identifier r.name) r.b x z))
+    own_fits n w (AndTest r) = for_choice n w _ _ _ r.shape (λ x y z. subst Fits (sym r.written) (two_fit strict (identifier r.name) r.b x y))
 
     held_fits : (n w : Tree) → HeldRow n w → Here n → Here w
-    held_fits n w (inl r) =
+    held_fits n w (AndBoth r) =
         for_choice n w _ _ _ r.shape (λ x y z. let (b, c, d) = of_three r.b r.c r.d y in subst Fits (sym r.written) (three_fit strict (logical And r.a r.b) r.c r.d (two_fit strict r.a r.b x b) c z))
-    held_fits n w (inr (inl r)) =
+    held_fits n w (OrEither r) =
         for_choice n w _ _ _ r.shape (λ x y z. let (b, c, d) = of_three r.b r.c r.d z in subst Fits (sym r.written) (three_fit strict (logical Or r.a r.b) r.c r.d (two_fit strict r.a r.b x b) y d))
-    held_fits n w (inr (inr (inl r))) =
+    held_fits n w (LastAfterOr r) =
         for_choice n w _ _ _ r.shape (λ x y z. let (b, c) = of_two r.b r.c y in subst Fits (sym r.written) (two_fit strict (logical And r.a r.b) r.c (two_fit strict r.a r.b x b) z))
-    held_fits n w (inr (inr (inr (inl r)))) =
+    held_fits n w (LastAfterAnd r) =
         for_choice n w _ _ _ r.shape (λ x y z. let (b, c) = of_two r.b r.c z in subst Fits (sym r.written) (two_fit strict (logical Or r.a r.b) r.c (two_fit strict r.a r.b x b) y))
-    held_fits n w (inr (inr (inr (inr (inl r))))) =
+    held_fits n w (AndThenOr r) =
         for_choice n w _ _ _ r.shape (λ x y z. let (b, c) = of_pair r.b r.c y in subst Fits (sym r.written) (pair_fits (logical And r.a r.b) r.c (two_fit strict r.a r.b x b) z))
-    held_fits n w (inr (inr (inr (inr (inr (inl r)))))) =
+    held_fits n w (OrThenAnd r) =
         for_choice n w _ _ _ r.shape (λ x y z. let (b, c) = of_pair r.b r.c z in subst Fits (sym r.written) (pair_fits (logical Or r.a r.b) r.c (two_fit strict r.a r.b x b) y))
-    held_fits n w (inr (inr (inr (inr (inr (inr r)))))) = for_choice n w _ _ _ r.shape (λ x y z. subst Fits (sym r.written) (pair_fits r.a r.b x y))
+    held_fits n w (Alike r) = for_choice n w _ _ _ r.shape (λ x y z. subst Fits (sym r.written) (pair_fits r.a r.b x y))
 
     pub called_fits : {asked : Bool} (n w : Tree) → CallRow asked n w → Here n → Here w
     called_fits n w r = for_choice n w _ _ _ r.shape (λ x y z. subst Fits (sym r.written) (calls_fit strict r.callee r.is_spread r.a r.p r.q r.others r.first r.second x y z))
@@ -287,19 +287,19 @@ pub chosen_member_formed : (asked : Bool) (q : Seat) (n w : Tree) → ChosenMemb
 chosen_member_formed asked q n w r = record { first = a_conditional; second = an_assignment Assign; parts = r.a ▸ assignment Assign (member_of r.name r.key) r.b ▸ assignment Assign (member_of r.name r.key) r.c ▸ none; others = member_of r.name r.key ▸ conditional r.a r.b r.c ▸ none; read = r.shape; made = r.written; optional = λ x. absurd (cc x) }
 
 row_formed : (q : Seat) (n w : Tree) → LighterRow q n w → Formed n w
-row_formed q n w (inl r) = record { first = a_logical r.operator; second = a_logical r.operator; parts = r.a ▸ joined r.operator r.b (r.last ▸ r.others) ▸ none; others = joined r.operator (logical r.operator r.a r.b) r.others ▸ r.last ▸ none; read = r.shape; made = r.written; optional = λ x. absurd (cc x) }
-row_formed q n w (inr (inl r)) = record { first = a_logical r.operator; second = an_assignment (deciding r.operator); parts = identifier r.name ▸ assign r.name r.b ▸ none; others = identifier r.name ▸ r.b ▸ none; read = r.shape; made = r.written; optional = λ x. absurd (cc x) }
-row_formed q n w (inr (inr (inl r))) = record { first = an_assignment Assign; second = an_assignment r.combined; parts = identifier r.name ▸ binary r.operator (identifier r.name) r.b ▸ none; others = identifier r.name ▸ r.b ▸ none; read = r.shape; made = r.written; optional = λ x. absurd (cc x) }
-row_formed q n w (inr (inr (inr (inr (inr (inl r)))))) = chosen_row_formed true q n w r
-row_formed q n w (inr (inr (inr (inl r)))) = record { first = a_conditional; second = a_logical Coalesce; parts = binary binary_operator.Equality (identifier r.name) null_literal ▸ r.b ▸ identifier r.name ▸ none; others = identifier r.name ▸ r.b ▸ none; read = r.shape; made = r.written; optional = λ x. absurd (cc x) }
-row_formed q n w (inr (inr (inr (inr (inl r))))) = record { first = a_conditional; second = a_logical Coalesce; parts = binary binary_operator.Inequality (identifier r.name) null_literal ▸ identifier r.name ▸ r.b ▸ none; others = identifier r.name ▸ r.b ▸ none; read = r.shape; made = r.written; optional = λ x. absurd (cc x) }
-row_formed q n w (inr (inr (inr (inr (inr (inr (inl r))))))) = record { first = a_logical (joining r.equal); second = a_binary (loosely r.equal); parts = binary (strictly r.equal) (identifier r.name) r.first ▸ binary (strictly r.equal) (identifier r.name) r.second ▸ none; others = identifier r.name ▸ null_literal ▸ none; read = r.shape; made = r.written; optional = λ x. absurd (cc x) }
-row_formed q n w (inr (inr (inr (inr (inr (inr (inr (inl r)))))))) = record { first = a_logical (joining r.equal); second = a_logical (joining r.equal); parts = logical (joining r.equal) r.before (binary (strictly r.equal) (identifier r.name) r.first) ▸ binary (strictly r.equal) (identifier r.name) r.second ▸ none; others = r.before ▸ binary (loosely r.equal) (identifier r.name) null_literal ▸ none; read = r.shape; made = r.written; optional = λ x. absurd (cc x) }
-row_formed q n w (inr (inr (inr (inr (inr (inr (inr (inr (inl r))))))))) = record { first = a_logical (joining (not r.there)); second = a_logical (joining (not r.there)); parts = ended (joining (not r.there)) r.before (asks_object r.there r.name) ▸ null_compared r.strict (not r.there) r.name ▸ none; others = ended (joining (not r.there)) r.before (asks_object r.there r.name) ▸ held r.there r.name ▸ none; read = r.shape; made = r.written; optional = λ x. absurd (cc x) }
-row_formed q n w (inr (inr (inr (inr (inr (inr (inr (inr (inr (inr (inr (inr r)))))))))))) = record { first = a_logical r.operator; second = an_assignment (deciding r.operator); parts = identifier r.name ▸ sequence (r.first ▸ append r.others (assign r.name r.b ▸ none)) ▸ none; others = identifier r.name ▸ sequence (r.first ▸ append r.others (r.b ▸ none)) ▸ none; read = r.shape; made = r.written; optional = λ x. absurd (cc x) }
-row_formed q n w (inr (inr (inr (inr (inr (inr (inr (inr (inr (inr (inr (inl r)))))))))))) = chosen_member_formed true q n w r
-row_formed q n w (inr (inr (inr (inr (inr (inr (inr (inr (inr (inr (inl r))))))))))) = record { first = an_assignment Assign; second = an_assignment r.combined; parts = member_of r.name r.key ▸ binary r.operator (member_of r.name r.key) r.b ▸ none; others = member_of r.name r.key ▸ r.b ▸ none; read = r.shape; made = r.written; optional = λ x. absurd (cc x) }
-row_formed q n w (inr (inr (inr (inr (inr (inr (inr (inr (inr (inl r)))))))))) = record { first = a_logical (joining (not r.there)); second = a_logical (joining (not r.there)); parts = ended (joining (not r.there)) r.before (null_compared r.strict (not r.there) r.name) ▸ asks_object r.there r.name ▸ none; others = ended (joining (not r.there)) r.before (held r.there r.name) ▸ asks_object r.there r.name ▸ none; read = r.shape; made = r.written; optional = λ x. absurd (cc x) }
+row_formed q n w (Rotated r) = record { first = a_logical r.operator; second = a_logical r.operator; parts = r.a ▸ joined r.operator r.b (r.last ▸ r.others) ▸ none; others = joined r.operator (logical r.operator r.a r.b) r.others ▸ r.last ▸ none; read = r.shape; made = r.written; optional = λ x. absurd (cc x) }
+row_formed q n w (Decided r) = record { first = a_logical r.operator; second = an_assignment (deciding r.operator); parts = identifier r.name ▸ assign r.name r.b ▸ none; others = identifier r.name ▸ r.b ▸ none; read = r.shape; made = r.written; optional = λ x. absurd (cc x) }
+row_formed q n w (Combined r) = record { first = an_assignment Assign; second = an_assignment r.combined; parts = identifier r.name ▸ binary r.operator (identifier r.name) r.b ▸ none; others = identifier r.name ▸ r.b ▸ none; read = r.shape; made = r.written; optional = λ x. absurd (cc x) }
+row_formed q n w (Chosen r) = chosen_row_formed true q n w r
+row_formed q n w (NullishIfEqual r) = record { first = a_conditional; second = a_logical Coalesce; parts = binary binary_operator.Equality (identifier r.name) null_literal ▸ r.b ▸ identifier r.name ▸ none; others = identifier r.name ▸ r.b ▸ none; read = r.shape; made = r.written; optional = λ x. absurd (cc x) }
+row_formed q n w (NullishIfUnequal r) = record { first = a_conditional; second = a_logical Coalesce; parts = binary binary_operator.Inequality (identifier r.name) null_literal ▸ identifier r.name ▸ r.b ▸ none; others = identifier r.name ▸ r.b ▸ none; read = r.shape; made = r.written; optional = λ x. absurd (cc x) }
+row_formed q n w (LooseNull r) = record { first = a_logical (joining r.equal); second = a_binary (loosely r.equal); parts = binary (strictly r.equal) (identifier r.name) r.first ▸ binary (strictly r.equal) (identifier r.name) r.second ▸ none; others = identifier r.name ▸ null_literal ▸ none; read = r.shape; made = r.written; optional = λ x. absurd (cc x) }
+row_formed q n w (LooseNullAfter r) = record { first = a_logical (joining r.equal); second = a_logical (joining r.equal); parts = logical (joining r.equal) r.before (binary (strictly r.equal) (identifier r.name) r.first) ▸ binary (strictly r.equal) (identifier r.name) r.second ▸ none; others = r.before ▸ binary (loosely r.equal) (identifier r.name) null_literal ▸ none; read = r.shape; made = r.written; optional = λ x. absurd (cc x) }
+row_formed q n w (ObjectTest r) = record { first = a_logical (joining (not r.there)); second = a_logical (joining (not r.there)); parts = ended (joining (not r.there)) r.before (asks_object r.there r.name) ▸ null_compared r.strict (not r.there) r.name ▸ none; others = ended (joining (not r.there)) r.before (asks_object r.there r.name) ▸ held r.there r.name ▸ none; read = r.shape; made = r.written; optional = λ x. absurd (cc x) }
+row_formed q n w (DecidedLast r) = record { first = a_logical r.operator; second = an_assignment (deciding r.operator); parts = identifier r.name ▸ sequence (r.first ▸ append r.others (assign r.name r.b ▸ none)) ▸ none; others = identifier r.name ▸ sequence (r.first ▸ append r.others (r.b ▸ none)) ▸ none; read = r.shape; made = r.written; optional = λ x. absurd (cc x) }
+row_formed q n w (ChosenMember r) = chosen_member_formed true q n w r
+row_formed q n w (CombinedMember r) = record { first = an_assignment Assign; second = an_assignment r.combined; parts = member_of r.name r.key ▸ binary r.operator (member_of r.name r.key) r.b ▸ none; others = member_of r.name r.key ▸ r.b ▸ none; read = r.shape; made = r.written; optional = λ x. absurd (cc x) }
+row_formed q n w (ObjectTestAfter r) = record { first = a_logical (joining (not r.there)); second = a_logical (joining (not r.there)); parts = ended (joining (not r.there)) r.before (null_compared r.strict (not r.there) r.name) ▸ asks_object r.there r.name ▸ none; others = ended (joining (not r.there)) r.before (held r.there r.name) ▸ asks_object r.there r.name ▸ none; read = r.shape; made = r.written; optional = λ x. absurd (cc x) }
 
 -- of a logical expression that becomes a sequence it asks nothing that the sequence hasn't
 both_sides_asked : (p : Position) (n w : Tree) → Row13Both n w → AskedAlike p n w
@@ -337,17 +337,17 @@ pub chosen_formed : (n w : Tree) → Choosing n w → Formed n n
 chosen_formed n w r = record { first = a_conditional; second = a_conditional; parts = r.a ▸ r.b ▸ r.c ▸ none; others = r.a ▸ r.b ▸ r.c ▸ none; read = r.read; made = r.read; optional = λ e. e }
 
 own_choosing : (n w : Tree) → OwnRow n w → Choosing n w
-own_choosing n w (inl r) = record { a = identifier r.name; b = identifier r.name; c = r.b; read = r.shape; number = ap is_not_positive_number r.written }
-own_choosing n w (inr r) = record { a = identifier r.name; b = r.b; c = identifier r.name; read = r.shape; number = ap is_not_positive_number r.written }
+own_choosing n w (OrTest r) = record { a = identifier r.name; b = identifier r.name; c = r.b; read = r.shape; number = ap is_not_positive_number r.written }
+own_choosing n w (AndTest r) = record { a = identifier r.name; b = r.b; c = identifier r.name; read = r.shape; number = ap is_not_positive_number r.written }
 
 held_choosing : (n w : Tree) → HeldRow n w → Choosing n w
-held_choosing n w (inl r) = record { a = r.a; b = conditional r.b r.c r.d; c = r.d; read = r.shape; number = ap is_not_positive_number r.written }
-held_choosing n w (inr (inl r)) = record { a = r.a; b = r.c; c = conditional r.b r.c r.d; read = r.shape; number = ap is_not_positive_number r.written }
-held_choosing n w (inr (inr (inl r))) = record { a = r.a; b = logical Or r.b r.c; c = r.c; read = r.shape; number = ap is_not_positive_number r.written }
-held_choosing n w (inr (inr (inr (inl r)))) = record { a = r.a; b = r.c; c = logical And r.b r.c; read = r.shape; number = ap is_not_positive_number r.written }
-held_choosing n w (inr (inr (inr (inr (inl r))))) = record { a = r.a; b = pair r.b r.c; c = r.c; read = r.shape; number = ap is_not_positive_number r.written }
-held_choosing n w (inr (inr (inr (inr (inr (inl r)))))) = record { a = r.a; b = r.c; c = pair r.b r.c; read = r.shape; number = ap is_not_positive_number r.written }
-held_choosing n w (inr (inr (inr (inr (inr (inr r)))))) = record { a = r.a; b = r.b; c = r.b; read = r.shape; number = ap is_not_positive_number r.written }
+held_choosing n w (AndBoth r) = record { a = r.a; b = conditional r.b r.c r.d; c = r.d; read = r.shape; number = ap is_not_positive_number r.written }
+held_choosing n w (OrEither r) = record { a = r.a; b = r.c; c = conditional r.b r.c r.d; read = r.shape; number = ap is_not_positive_number r.written }
+held_choosing n w (LastAfterOr r) = record { a = r.a; b = logical Or r.b r.c; c = r.c; read = r.shape; number = ap is_not_positive_number r.written }
+held_choosing n w (LastAfterAnd r) = record { a = r.a; b = r.c; c = logical And r.b r.c; read = r.shape; number = ap is_not_positive_number r.written }
+held_choosing n w (AndThenOr r) = record { a = r.a; b = pair r.b r.c; c = r.c; read = r.shape; number = ap is_not_positive_number r.written }
+held_choosing n w (OrThenAnd r) = record { a = r.a; b = r.c; c = pair r.b r.c; read = r.shape; number = ap is_not_positive_number r.written }
+held_choosing n w (Alike r) = record { a = r.a; b = r.b; c = r.b; read = r.shape; number = ap is_not_positive_number r.written }
 
 pub called_choosing : {asked : Bool} (n w : Tree) → CallRow asked n w → Choosing n w
 called_choosing n w r = record { a = r.a; b = call false r.callee (argument r.is_spread r.p ▸ r.others); c = call false r.callee (argument r.is_spread r.q ▸ r.others); read = r.shape; number = ap is_not_positive_number r.written }
@@ -355,40 +355,40 @@ called_choosing n w r = record { a = r.a; b = call false r.callee (argument r.is
 -- ---- wherever rows are made
 
 pub row_fits : (p : Position) (n w : Tree) → ChoiceRow p n w → (strict : Bool) (s : Slot) → fits strict s n ≡ true → fits strict s w ≡ true
-row_fits (Expr q) n w (inl r) strict s e = lighter_fits strict s q n w r e
-row_fits (Expr q) n w (inr (inl r)) strict s e = own_fits strict s n w r e
-row_fits (Expr q) n w (inr (inr (inl r))) strict s e = held_fits strict s n w r e
-row_fits (Expr q) n w (inr (inr (inr (inl r)))) strict s e = chain_row_fits q n w r strict s e
-row_fits (Expr q) n w (inr (inr (inr (inr (inl r))))) strict s e = called_fits strict s n w r e
-row_fits (Expr q) n w (inr (inr (inr (inr (inr (inl r)))))) strict s e = chains_fit q n w r strict s e
-row_fits (Expr q) n w (inr (inr (inr (inr (inr (inr (inl r))))))) strict s e = end_fits q n w r strict s e
-row_fits (Expr q) n w (inr (inr (inr (inr (inr (inr (inr (inl r)))))))) strict s e = both_sides_fit strict s n w r e
-row_fits (Expr q) n w (inr (inr (inr (inr (inr (inr (inr (inr (inl r))))))))) strict s e = chosen_indexed_fits strict s true q n w r e
-row_fits (Expr q) n w (inr (inr (inr (inr (inr (inr (inr (inr (inr r))))))))) strict s e = zero_row_fits q n w r strict s e
+row_fits (Expr q) n w (Shorter r) strict s e = lighter_fits strict s q n w r e
+row_fits (Expr q) n w (TestedBranch r) strict s e = own_fits strict s n w r e
+row_fits (Expr q) n w (SharedBranch r) strict s e = held_fits strict s n w r e
+row_fits (Expr q) n w (OptionalChain r) strict s e = chain_row_fits q n w r strict s e
+row_fits (Expr q) n w (JoinedCall r) strict s e = called_fits strict s n w r e
+row_fits (Expr q) n w (Link r) strict s e = chains_fit q n w r strict s e
+row_fits (Expr q) n w (ChainEnd r) strict s e = end_fits q n w r strict s e
+row_fits (Expr q) n w (BothSides r) strict s e = both_sides_fit strict s n w r e
+row_fits (Expr q) n w (ChosenIndexed r) strict s e = chosen_indexed_fits strict s true q n w r e
+row_fits (Expr q) n w (ZeroFirst r) strict s e = zero_row_fits q n w r strict s e
 row_fits p n w r strict s e = absurd r
 
 pub row_asked : (p : Position) (n w : Tree) → ChoiceRow p n w → AskedAlike p n w
-row_asked (Expr q) n w (inl r) = formed_asked (Expr q) n w (row_formed q n w r)
-row_asked (Expr q) n w (inr (inl r)) = choosing_asked (Expr q) n w (own_choosing n w r)
-row_asked (Expr q) n w (inr (inr (inl r))) = choosing_asked (Expr q) n w (held_choosing n w r)
-row_asked (Expr q) n w (inr (inr (inr (inl r)))) = chain_row_asked q n w r
-row_asked (Expr q) n w (inr (inr (inr (inr (inl r))))) = choosing_asked (Expr q) n w (called_choosing n w r)
-row_asked (Expr q) n w (inr (inr (inr (inr (inr (inl r)))))) = chains_asked q n w r
-row_asked (Expr q) n w (inr (inr (inr (inr (inr (inr (inl r))))))) = end_asked q n w r
-row_asked (Expr q) n w (inr (inr (inr (inr (inr (inr (inr (inl r)))))))) = both_sides_asked (Expr q) n w r
-row_asked (Expr q) n w (inr (inr (inr (inr (inr (inr (inr (inr (inl r))))))))) = formed_asked (Expr q) n w (chosen_indexed_formed true q n w r)
-row_asked (Expr q) n w (inr (inr (inr (inr (inr (inr (inr (inr (inr r))))))))) = zero_row_asked q n w r
+row_asked (Expr q) n w (Shorter r) = formed_asked (Expr q) n w (row_formed q n w r)
+row_asked (Expr q) n w (TestedBranch r) = choosing_asked (Expr q) n w (own_choosing n w r)
+row_asked (Expr q) n w (SharedBranch r) = choosing_asked (Expr q) n w (held_choosing n w r)
+row_asked (Expr q) n w (OptionalChain r) = chain_row_asked q n w r
+row_asked (Expr q) n w (JoinedCall r) = choosing_asked (Expr q) n w (called_choosing n w r)
+row_asked (Expr q) n w (Link r) = chains_asked q n w r
+row_asked (Expr q) n w (ChainEnd r) = end_asked q n w r
+row_asked (Expr q) n w (BothSides r) = both_sides_asked (Expr q) n w r
+row_asked (Expr q) n w (ChosenIndexed r) = formed_asked (Expr q) n w (chosen_indexed_formed true q n w r)
+row_asked (Expr q) n w (ZeroFirst r) = zero_row_asked q n w r
 row_asked p n w r = absurd r
 
 pub row_slot : (p : Position) (n w : Tree) → ChoiceRow p n w → (strict : Bool) (s : Slot) → fits strict s n ≡ true → is_body_slot p s ≡ true
-row_slot (Expr q) n w (inl r) = formed_slot (Expr q) n w (row_formed q n w r)
-row_slot (Expr q) n w (inr (inl r)) = formed_slot (Expr q) n n (chosen_formed n w (own_choosing n w r))
-row_slot (Expr q) n w (inr (inr (inl r))) = formed_slot (Expr q) n n (chosen_formed n w (held_choosing n w r))
-row_slot (Expr q) n w (inr (inr (inr (inl r)))) = chain_row_slot q n w r
-row_slot (Expr q) n w (inr (inr (inr (inr (inl r))))) = formed_slot (Expr q) n n (chosen_formed n w (called_choosing n w r))
-row_slot (Expr q) n w (inr (inr (inr (inr (inr (inl r)))))) = chains_slot q n w r
-row_slot (Expr q) n w (inr (inr (inr (inr (inr (inr (inl r))))))) = end_slot q n w r
-row_slot (Expr q) n w (inr (inr (inr (inr (inr (inr (inr (inl r)))))))) = formed_slot (Expr q) n n (both_sides_formed n w r)
-row_slot (Expr q) n w (inr (inr (inr (inr (inr (inr (inr (inr (inl r))))))))) = formed_slot (Expr q) n w (chosen_indexed_formed true q n w r)
-row_slot (Expr q) n w (inr (inr (inr (inr (inr (inr (inr (inr (inr r))))))))) = zero_row_slot q n w r
+row_slot (Expr q) n w (Shorter r) = formed_slot (Expr q) n w (row_formed q n w r)
+row_slot (Expr q) n w (TestedBranch r) = formed_slot (Expr q) n n (chosen_formed n w (own_choosing n w r))
+row_slot (Expr q) n w (SharedBranch r) = formed_slot (Expr q) n n (chosen_formed n w (held_choosing n w r))
+row_slot (Expr q) n w (OptionalChain r) = chain_row_slot q n w r
+row_slot (Expr q) n w (JoinedCall r) = formed_slot (Expr q) n n (chosen_formed n w (called_choosing n w r))
+row_slot (Expr q) n w (Link r) = chains_slot q n w r
+row_slot (Expr q) n w (ChainEnd r) = end_slot q n w r
+row_slot (Expr q) n w (BothSides r) = formed_slot (Expr q) n n (both_sides_formed n w r)
+row_slot (Expr q) n w (ChosenIndexed r) = formed_slot (Expr q) n w (chosen_indexed_formed true q n w r)
+row_slot (Expr q) n w (ZeroFirst r) = zero_row_slot q n w r
 row_slot p n w r = absurd r

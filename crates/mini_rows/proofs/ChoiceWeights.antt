@@ -20,7 +20,7 @@ use Rattle.mini_model.specs.Weight.{Outline, outline, outlines, weight, place_we
 use Rattle.mini_laws.specs.Weights.{Lightens}
 use Rattle.mini_laws.proofs.Seats.{placed, placed_node}
 use Rattle.mini_rows.specs.Spellings.{binary, assignment}
-use Rattle.mini_rows.specs.Choices.{Key, Named, Spelled, Numbered, member_on, keeps_parentheses, asks_object, null_compared, held, ended, assign, is_same_operator, is_grouped, joined, strictly, loosely, joining, AreNullish, deciding, computing, LighterRow, OwnRow, HeldRow, ChoiceRow, ChoiceContracts, ChoicesLighter}
+use Rattle.mini_rows.specs.Choices.{Key, Named, Spelled, Numbered, member_on, keeps_parentheses, asks_object, null_compared, held, ended, assign, is_same_operator, is_grouped, joined, strictly, loosely, joining, AreNullish, deciding, computing, LighterRow, OwnRow, HeldRow, ChoiceRow, ChoiceContracts, ChoicesLighter, Shorter, TestedBranch, SharedBranch, OptionalChain, JoinedCall, Link, ChainEnd, BothSides, ChosenIndexed, ZeroFirst, Rotated, Decided, Combined, NullishIfEqual, NullishIfUnequal, Chosen, LooseNull, LooseNullAfter, ObjectTest, ObjectTestAfter, CombinedMember, ChosenMember, DecidedLast, OrTest, AndTest, AndBoth, OrEither, LastAfterOr, LastAfterAnd, AndThenOr, OrThenAnd, Alike}
 use Rattle.mini_rows.specs.Chains.{spine, chain, if_nullish}
 use Rattle.mini_terms.specs.Exact.{kept_by_value}
 use Rattle.mini_rows.proofs.ChainGuards.{kept_outline}
@@ -383,48 +383,48 @@ null_type_falls s false false (Some b) x = omega arith
 -- all
 
 pub lighter : ChoicesLighter
-lighter s n w (inl r) = falls_by (Expr s) n w _ _ r.shape r.written (joined_falls r.operator s r.a r.b r.last r.others r.ungrouped)
-lighter s n w (inr (inl r)) = falls_by (Expr s) n w _ _ r.shape r.written (deciding_falls r.operator s r.name r.b)
-lighter s n w (inr (inr (inl r))) = falls_by (Expr s) n w _ _ r.shape r.written (computing_falls r.operator r.combined r.computes s r.name r.b)
-lighter s n w (inr (inr (inr (inl r)))) = falls_by (Expr s) n w _ _ r.shape r.written (equal_falls s r.name r.b)
-lighter s n w (inr (inr (inr (inr (inl r))))) = falls_by (Expr s) n w _ _ r.shape r.written (unequal_falls s r.name r.b)
-lighter s n w (inr (inr (inr (inr (inr (inr (inl r))))))) = falls_by (Expr s) n w _ _ r.shape r.written (compared_falls s r.equal r.name r.first r.second r.nullish)
-lighter s n w (inr (inr (inr (inr (inr (inr (inr (inl r)))))))) = falls_by (Expr s) n w _ _ r.shape r.written (compared_after_falls s r.equal r.before r.name r.first r.second r.nullish)
-lighter s n w (inr (inr (inr (inr (inr (inr (inr (inr (inl r))))))))) = falls_by (Expr s) n w _ _ r.shape r.written (type_falls s r.there r.strict r.before r.name)
-lighter s n w (inr (inr (inr (inr (inr (inr (inr (inr (inr (inl r)))))))))) = falls_by (Expr s) n w _ _ r.shape r.written (null_type_falls s r.there r.strict r.before r.name)
-lighter s n w (inr (inr (inr (inr (inr (inr (inr (inr (inr (inr (inr (inr r)))))))))))) = falls_by (Expr s) n w _ _ r.shape r.written (last_falls r.operator s (identifier r.name) r.first r.others r.b r.seated (name_heavy_there r.name))
-lighter s n w (inr (inr (inr (inr (inr (inr (inr (inr (inr (inr (inr (inl r)))))))))))) = falls_by (Expr s) n w _ _ r.shape r.written (chosen_member_falls s r.seated r.a (identifier r.name) r.key r.b r.c)
-lighter s n w (inr (inr (inr (inr (inr (inr (inr (inr (inr (inr (inl r))))))))))) = falls_by (Expr s) n w _ _ r.shape r.written (computing_member_falls r.operator r.combined r.computes s (identifier r.name) r.key r.b)
-lighter s n w (inr (inr (inr (inr (inr (inl r)))))) = falls_by (Expr s) n w _ _ r.shape r.written (chosen_falls s r.seated r.operator r.a r.name r.b r.c)
+lighter s n w (Rotated r) = falls_by (Expr s) n w _ _ r.shape r.written (joined_falls r.operator s r.a r.b r.last r.others r.ungrouped)
+lighter s n w (Decided r) = falls_by (Expr s) n w _ _ r.shape r.written (deciding_falls r.operator s r.name r.b)
+lighter s n w (Combined r) = falls_by (Expr s) n w _ _ r.shape r.written (computing_falls r.operator r.combined r.computes s r.name r.b)
+lighter s n w (NullishIfEqual r) = falls_by (Expr s) n w _ _ r.shape r.written (equal_falls s r.name r.b)
+lighter s n w (NullishIfUnequal r) = falls_by (Expr s) n w _ _ r.shape r.written (unequal_falls s r.name r.b)
+lighter s n w (LooseNull r) = falls_by (Expr s) n w _ _ r.shape r.written (compared_falls s r.equal r.name r.first r.second r.nullish)
+lighter s n w (LooseNullAfter r) = falls_by (Expr s) n w _ _ r.shape r.written (compared_after_falls s r.equal r.before r.name r.first r.second r.nullish)
+lighter s n w (ObjectTest r) = falls_by (Expr s) n w _ _ r.shape r.written (type_falls s r.there r.strict r.before r.name)
+lighter s n w (ObjectTestAfter r) = falls_by (Expr s) n w _ _ r.shape r.written (null_type_falls s r.there r.strict r.before r.name)
+lighter s n w (DecidedLast r) = falls_by (Expr s) n w _ _ r.shape r.written (last_falls r.operator s (identifier r.name) r.first r.others r.b r.seated (name_heavy_there r.name))
+lighter s n w (ChosenMember r) = falls_by (Expr s) n w _ _ r.shape r.written (chosen_member_falls s r.seated r.a (identifier r.name) r.key r.b r.c)
+lighter s n w (CombinedMember r) = falls_by (Expr s) n w _ _ r.shape r.written (computing_member_falls r.operator r.combined r.computes s (identifier r.name) r.key r.b)
+lighter s n w (Chosen r) = falls_by (Expr s) n w _ _ r.shape r.written (chosen_falls s r.seated r.operator r.a r.name r.b r.c)
 
 -- of none of these nodes a parent's weight reads more than that it is there
 lighter_outline : (s : Seat) (n w : Tree) → LighterRow s n w → outline n ≡ outline w
-lighter_outline s n w (inl r) = ap outline r.shape ∙ sym (ap outline r.written)
-lighter_outline s n w (inr (inl r)) = ap outline r.shape ∙ sym (ap outline r.written)
-lighter_outline s n w (inr (inr (inl r))) = ap outline r.shape ∙ sym (ap outline r.written)
-lighter_outline s n w (inr (inr (inr (inl r)))) = ap outline r.shape ∙ sym (ap outline r.written)
-lighter_outline s n w (inr (inr (inr (inr (inl r))))) = ap outline r.shape ∙ sym (ap outline r.written)
-lighter_outline s n w (inr (inr (inr (inr (inr (inr (inl r))))))) = ap outline r.shape ∙ sym (ap outline r.written)
-lighter_outline s n w (inr (inr (inr (inr (inr (inr (inr (inl r)))))))) = ap outline r.shape ∙ sym (ap outline r.written)
-lighter_outline s n w (inr (inr (inr (inr (inr (inr (inr (inr (inl r))))))))) = ap outline r.shape ∙ sym (ap outline r.written)
-lighter_outline s n w (inr (inr (inr (inr (inr (inr (inr (inr (inr (inl r)))))))))) = ap outline r.shape ∙ sym (ap outline r.written)
-lighter_outline s n w (inr (inr (inr (inr (inr (inr (inr (inr (inr (inr (inl r))))))))))) = ap outline r.shape ∙ sym (ap outline r.written)
-lighter_outline s n w (inr (inr (inr (inr (inr (inr (inr (inr (inr (inr (inr (inl r)))))))))))) = ap outline r.shape ∙ sym (ap outline r.written)
-lighter_outline s n w (inr (inr (inr (inr (inr (inr (inr (inr (inr (inr (inr (inr r)))))))))))) = ap outline r.shape ∙ sym (ap outline r.written)
-lighter_outline s n w (inr (inr (inr (inr (inr (inl r)))))) = ap outline r.shape ∙ sym (ap outline r.written)
+lighter_outline s n w (Rotated r) = ap outline r.shape ∙ sym (ap outline r.written)
+lighter_outline s n w (Decided r) = ap outline r.shape ∙ sym (ap outline r.written)
+lighter_outline s n w (Combined r) = ap outline r.shape ∙ sym (ap outline r.written)
+lighter_outline s n w (NullishIfEqual r) = ap outline r.shape ∙ sym (ap outline r.written)
+lighter_outline s n w (NullishIfUnequal r) = ap outline r.shape ∙ sym (ap outline r.written)
+lighter_outline s n w (LooseNull r) = ap outline r.shape ∙ sym (ap outline r.written)
+lighter_outline s n w (LooseNullAfter r) = ap outline r.shape ∙ sym (ap outline r.written)
+lighter_outline s n w (ObjectTest r) = ap outline r.shape ∙ sym (ap outline r.written)
+lighter_outline s n w (ObjectTestAfter r) = ap outline r.shape ∙ sym (ap outline r.written)
+lighter_outline s n w (CombinedMember r) = ap outline r.shape ∙ sym (ap outline r.written)
+lighter_outline s n w (ChosenMember r) = ap outline r.shape ∙ sym (ap outline r.written)
+lighter_outline s n w (DecidedLast r) = ap outline r.shape ∙ sym (ap outline r.written)
+lighter_outline s n w (Chosen r) = ap outline r.shape ∙ sym (ap outline r.written)
 
 own_outline : (n w : Tree) → OwnRow n w → outline n ≡ outline w
-own_outline n w (inl r) = ap outline r.shape ∙ sym (ap outline r.written)
-own_outline n w (inr r) = ap outline r.shape ∙ sym (ap outline r.written)
+own_outline n w (OrTest r) = ap outline r.shape ∙ sym (ap outline r.written)
+own_outline n w (AndTest r) = ap outline r.shape ∙ sym (ap outline r.written)
 
 held_outline : (n w : Tree) → HeldRow n w → outline n ≡ outline w
-held_outline n w (inl r) = ap outline r.shape ∙ sym (ap outline r.written)
-held_outline n w (inr (inl r)) = ap outline r.shape ∙ sym (ap outline r.written)
-held_outline n w (inr (inr (inl r))) = ap outline r.shape ∙ sym (ap outline r.written)
-held_outline n w (inr (inr (inr (inl r)))) = ap outline r.shape ∙ sym (ap outline r.written)
-held_outline n w (inr (inr (inr (inr (inl r))))) = ap outline r.shape ∙ sym (ap outline r.written)
-held_outline n w (inr (inr (inr (inr (inr (inl r)))))) = ap outline r.shape ∙ sym (ap outline r.written)
-held_outline n w (inr (inr (inr (inr (inr (inr r)))))) = ap outline r.shape ∙ sym (ap outline r.written)
+held_outline n w (AndBoth r) = ap outline r.shape ∙ sym (ap outline r.written)
+held_outline n w (OrEither r) = ap outline r.shape ∙ sym (ap outline r.written)
+held_outline n w (LastAfterOr r) = ap outline r.shape ∙ sym (ap outline r.written)
+held_outline n w (LastAfterAnd r) = ap outline r.shape ∙ sym (ap outline r.written)
+held_outline n w (AndThenOr r) = ap outline r.shape ∙ sym (ap outline r.written)
+held_outline n w (OrThenAnd r) = ap outline r.shape ∙ sym (ap outline r.written)
+held_outline n w (Alike r) = ap outline r.shape ∙ sym (ap outline r.written)
 
 -- of the conditional, and of the chain, also behind a `0`
 chain_outline : (s : Seat) (equal : Bool) (x : Name) (a t u n w : Tree) → n ≡ if_nullish equal x a t → w ≡ kept_by_value s.guard (chain u) → outline n ≡ outline w
@@ -432,16 +432,16 @@ chain_outline s true x a t u n w e f = ap outline e ∙ kept_outline s.guard u �
 chain_outline s false x a t u n w e f = ap outline e ∙ kept_outline s.guard u ∙ sym (ap outline f)
 
 outline_by_row : (p : Position) (n w : Tree) → ChoiceRow p n w → outline n ≡ outline w
-outline_by_row (Expr s) n w (inl r) = lighter_outline s n w r
-outline_by_row (Expr s) n w (inr (inl r)) = own_outline n w r
-outline_by_row (Expr s) n w (inr (inr (inl r))) = held_outline n w r
-outline_by_row (Expr s) n w (inr (inr (inr (inr (inl r))))) = ap outline r.shape ∙ sym (ap outline r.written)
-outline_by_row (Expr s) n w (inr (inr (inr (inr (inr (inl r)))))) = chains_outline s n w r
-outline_by_row (Expr s) n w (inr (inr (inr (inr (inr (inr (inl r))))))) = end_outline s n w r
-outline_by_row (Expr s) n w (inr (inr (inr (inr (inr (inr (inr (inl r)))))))) = ap outline r.shape ∙ sym (ap outline r.written)
-outline_by_row (Expr s) n w (inr (inr (inr (inr (inr (inr (inr (inr (inl r))))))))) = ap outline r.shape ∙ sym (ap outline r.written)
-outline_by_row (Expr s) n w (inr (inr (inr (inr (inr (inr (inr (inr (inr r))))))))) = ap outline r.shape ∙ sym (ap outline r.written)
-outline_by_row (Expr s) n w (inr (inr (inr (inl r)))) = chain_outline s r.equal r.name r.missing (spine false (identifier r.name) r.last r.others) (spine true (identifier r.name) r.last r.others) n w r.shape r.written
+outline_by_row (Expr s) n w (Shorter r) = lighter_outline s n w r
+outline_by_row (Expr s) n w (TestedBranch r) = own_outline n w r
+outline_by_row (Expr s) n w (SharedBranch r) = held_outline n w r
+outline_by_row (Expr s) n w (JoinedCall r) = ap outline r.shape ∙ sym (ap outline r.written)
+outline_by_row (Expr s) n w (Link r) = chains_outline s n w r
+outline_by_row (Expr s) n w (ChainEnd r) = end_outline s n w r
+outline_by_row (Expr s) n w (BothSides r) = ap outline r.shape ∙ sym (ap outline r.written)
+outline_by_row (Expr s) n w (ChosenIndexed r) = ap outline r.shape ∙ sym (ap outline r.written)
+outline_by_row (Expr s) n w (ZeroFirst r) = ap outline r.shape ∙ sym (ap outline r.written)
+outline_by_row (Expr s) n w (OptionalChain r) = chain_outline s r.equal r.name r.missing (spine false (identifier r.name) r.last r.others) (spine true (identifier r.name) r.last r.others) n w r.shape r.written
 outline_by_row p n w r = absurd r
 
 pub lightens : Lightens ChoiceContracts

@@ -461,20 +461,52 @@ abbrev pub Row21Zero : Tree → Tree → Type 0
 Row21Zero = ZeroRow true
 
 -- rows of what is lighter in every seat
-abbrev pub LighterRow : Seat → Tree → Tree → Type 0
-LighterRow s n w = Row39 n w ⊎ (Row38 n w ⊎ (Row35 n w ⊎ (Row46Equal n w ⊎ (Row46Unequal n w ⊎ (Row45 s n w ⊎ (Row37 n w ⊎ (Row37After n w ⊎ (Row57 n w ⊎ (Row57Null n w ⊎ (Row35Member n w ⊎ (Row45Member s n w ⊎ Row38Last s n w)))))))))))
+pub data LighterRow (s : Seat) (n w : Tree) : Type 0 where
+  Rotated : Row39 n w → LighterRow s n w
+  Decided : Row38 n w → LighterRow s n w
+  Combined : Row35 n w → LighterRow s n w
+  NullishIfEqual : Row46Equal n w → LighterRow s n w
+  NullishIfUnequal : Row46Unequal n w → LighterRow s n w
+  Chosen : Row45 s n w → LighterRow s n w
+  LooseNull : Row37 n w → LighterRow s n w
+  LooseNullAfter : Row37After n w → LighterRow s n w
+  ObjectTest : Row57 n w → LighterRow s n w
+  ObjectTestAfter : Row57Null n w → LighterRow s n w
+  CombinedMember : Row35Member n w → LighterRow s n w
+  ChosenMember : Row45Member s n w → LighterRow s n w
+  DecidedLast : Row38Last s n w → LighterRow s n w
 
 -- of what may be heavier for its parentheses
-abbrev pub OwnRow : Tree → Tree → Type 0
-OwnRow n w = Row41Or n w ⊎ Row41And n w
+pub data OwnRow (n w : Tree) : Type 0 where
+  OrTest : Row41Or n w → OwnRow n w
+  AndTest : Row41And n w → OwnRow n w
 
 -- and of a branch that stands in two places
-abbrev pub HeldRow : Tree → Tree → Type 0
-HeldRow n w = Row42And n w ⊎ (Row42Or n w ⊎ (Row43Or n w ⊎ (Row43And n w ⊎ (Row43AndThen n w ⊎ (Row43OrThen n w ⊎ Row49 n w)))))
+pub data HeldRow (n w : Tree) : Type 0 where
+  AndBoth : Row42And n w → HeldRow n w
+  OrEither : Row42Or n w → HeldRow n w
+  LastAfterOr : Row43Or n w → HeldRow n w
+  LastAfterAnd : Row43And n w → HeldRow n w
+  AndThenOr : Row43AndThen n w → HeldRow n w
+  OrThenAnd : Row43OrThen n w → HeldRow n w
+  Alike : Row49 n w → HeldRow n w
 
--- a row of choices reads n as w at this place
+-- a row of choices reads n as w in this seat
+pub data Choice (s : Seat) (n w : Tree) : Type 0 where
+  Shorter : LighterRow s n w → Choice s n w
+  TestedBranch : OwnRow n w → Choice s n w
+  SharedBranch : HeldRow n w → Choice s n w
+  OptionalChain : Row46Chain s n w → Choice s n w
+  JoinedCall : Row44 n w → Choice s n w
+  Link : ChainRow s n w → Choice s n w
+  ChainEnd : EndRow n w → Choice s n w
+  BothSides : Row13Both n w → Choice s n w
+  ChosenIndexed : Row45Indexed s n w → Choice s n w
+  ZeroFirst : Row21Zero n w → Choice s n w
+
+-- at this place
 abbrev pub ChoiceRow : Position → Tree → Tree → Type 0
-ChoiceRow (Expr s) n w = LighterRow s n w ⊎ (OwnRow n w ⊎ (HeldRow n w ⊎ (Row46Chain s n w ⊎ (Row44 n w ⊎ (ChainRow s n w ⊎ (EndRow n w ⊎ (Row13Both n w ⊎ (Row45Indexed s n w ⊎ Row21Zero n w))))))))
+ChoiceRow (Expr s) n w = Choice s n w
 ChoiceRow _ n w = ⊥
 
 -- what it writes, where it weighs less
