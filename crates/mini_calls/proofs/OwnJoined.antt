@@ -11,7 +11,7 @@ use Rattle.mini_model.specs.Weight.{weight}
 use Rattle.mini_node.specs.Kinds.{is_conditional}
 use Rattle.mini_laws.specs.Value.{VariableSet}
 use Rattle.mini_rows.specs.Chains.{if_nullish, spine}
-use Rattle.mini_rows.specs.Choices.{assign, HeldRow}
+use Rattle.mini_rows.specs.Choices.{assign, HeldRow, AndBoth, OrEither, LastAfterOr, LastAfterAnd, AndThenOr, OrThenAnd, Alike}
 use Rattle.mini_rows.specs.Lists.{resolved}
 use Rattle.mini_rows.specs.Writes.{if_null}
 use Rattle.mini_rows.proofs.ChainLawful.{chain_row_lighter}
@@ -106,13 +106,13 @@ turned_rest n e w r = go (turn.has_negated_test n) (turn.equal_operator n) refl 
 -- ---- each such row reads a conditional
 
 held_chooses : (n w : Tree) → HeldRow n w → is_conditional n ≡ true
-held_chooses n w (inl r) = ap is_conditional r.shape
-held_chooses n w (inr (inl r)) = ap is_conditional r.shape
-held_chooses n w (inr (inr (inl r))) = ap is_conditional r.shape
-held_chooses n w (inr (inr (inr (inl r)))) = ap is_conditional r.shape
-held_chooses n w (inr (inr (inr (inr (inl r))))) = ap is_conditional r.shape
-held_chooses n w (inr (inr (inr (inr (inr (inl r)))))) = ap is_conditional r.shape
-held_chooses n w (inr (inr (inr (inr (inr (inr r)))))) = ap is_conditional r.shape
+held_chooses n w (AndBoth r) = ap is_conditional r.shape
+held_chooses n w (OrEither r) = ap is_conditional r.shape
+held_chooses n w (LastAfterOr r) = ap is_conditional r.shape
+held_chooses n w (LastAfterAnd r) = ap is_conditional r.shape
+held_chooses n w (AndThenOr r) = ap is_conditional r.shape
+held_chooses n w (OrThenAnd r) = ap is_conditional r.shape
+held_chooses n w (Alike r) = ap is_conditional r.shape
 
 shared_chooses : (s : Seat) (n w : Tree) → SharedRow s n w → is_conditional n ≡ true
 shared_chooses s n w (inl (inl r)) = ap is_conditional r.shape

@@ -12,7 +12,7 @@ use Rattle.mini_node.specs.Children.{part}
 use Rattle.mini_node.specs.Kinds.{logical_operator}
 use Rattle.mini_node.specs.Made.{logical_is}
 use Rattle.mini_terms.specs.Folds.{goes_on}
-use Rattle.mini_rows.specs.Choices.{pair, Row13Both, ChoiceContracts}
+use Rattle.mini_rows.specs.Choices.{pair, Row13Both, ChoiceContracts, BothSides}
 use Rattle.mini_choices.specs.MinimizeConditionalBranches.{is_lighter}
 use Rattle.mini_choices.specs.EvaluateBothSides as both
 use Rattle.mini_choices.proofs.Trials.{both_true, Falls, tries, lighter_test}
@@ -33,7 +33,7 @@ both_falls s n w = tries (Falls (λ s n w. Row13Both n w) s n) w (both.evaluates
         (known_row n known, omega (arith, ltb-true _ _ less))
 
 pub both_row : (s : Seat) (n w : Tree) → both.written s n ≡ Some w → ChoiceContracts (Expr s) n w
-both_row s n w e = let (r, less) = both_falls s n w e in record { row = inr (inr (inr (inr (inr (inr (inr (inl r))))))); lighter = less }
+both_row s n w e = let (r, less) = both_falls s n w e in record { row = BothSides r; lighter = less }
 
 there : (b : Bool) (t : Tree) → b ≡ true → is_some (if b then Some t else None) ≡ true
 there true t e = refl

@@ -14,7 +14,7 @@ use Rattle.mini_rows.specs.Chains.{is_calm, Link, a_member, a_computed, a_call, 
 use Rattle.mini_rows.specs.ChainLinks.{Marked, marked, links_over, are_calm_over, ChainRow}
 use Rattle.mini_rows.specs.ChainEnds.{is_nothing, key_of, keys_over, enclose, Row10, Row10Then, EndRow}
 use Rattle.mini_rows.proofs.ChainLinkLawful.{chains_fall}
-use Rattle.mini_rows.specs.Choices.{pair, ChoiceRow, ChoiceContracts}
+use Rattle.mini_rows.specs.Choices.{pair, ChoiceRow, ChoiceContracts, ChainEnd, ChainLink}
 use Rattle.mini_rows.specs.Lists.{encloses}
 use Rattle.mini_rows.specs.Spellings.{void_zero}
 use Rattle.mini_choices.specs.MinimizeConditionalBranches.{is_lighter}
@@ -242,8 +242,8 @@ pub folded_row : (s : Seat) (n w : Tree) → written s n ≡ Some w → ChoiceCo
 folded_row s n w e = let (r, less) = folded_falls s n w e in record { row = of r; lighter = less }
   where
     of : FoldedRow s n w → ChoiceRow (Expr s) n w
-    of (inl r) = inr (inr (inr (inr (inr (inr (inl r))))))
-    of (inr r) = inr (inr (inr (inr (inr (inl r)))))
+    of (inl r) = ChainEnd r
+    of (inr r) = ChainLink r
 
 -- ---- and what a row reads is written
 

@@ -24,7 +24,7 @@ use Rattle.mini_node.specs.Made.{assignment_is, logical_is, binary_is, condition
 use Rattle.mini_node.proofs.Equality.{tree_same, tree_itself}
 use Rattle.mini_terms.specs.Exact.{kept_by_value}
 use Rattle.mini_rows.specs.Lists.{sequence}
-use Rattle.mini_rows.specs.Choices.{argument, assign, is_grouped, joined, strictly, joining, asks_object, null_compared, ended, deciding, may_choose, Row39, Row38, Row35, Row35Member, Row45, Row45Member, Key, member_of, Row46Equal, Row46Unequal, Row13Both, Row21Zero, Row41Or, Row41And, LighterRow, OwnRow, ChoiceRow, ChoiceContracts, ChosenRow, ChosenMemberRow}
+use Rattle.mini_rows.specs.Choices.{argument, assign, is_grouped, joined, strictly, joining, asks_object, null_compared, ended, deciding, may_choose, Row39, Row38, Row35, Row35Member, Row45, Row45Member, Key, member_of, Row46Equal, Row46Unequal, Row13Both, Row21Zero, Row41Or, Row41And, LighterRow, OwnRow, ChoiceRow, ChoiceContracts, ChosenRow, ChosenMemberRow, Shorter, TestedBranch, SharedBranch, OptionalChain, JoinedCall, ChainLink, ChainEnd, BothSides, ChosenIndexed, ZeroFirst, Rotated, Decided, Combined, NullishIfEqual, NullishIfUnequal, Chosen, LooseNull, LooseNullAfter, ObjectTest, ObjectTestAfter, CombinedMember, ChosenMember, DecidedLast, OrTest, AndTest}
 use Rattle.mini_rows.proofs.ChoiceCalls.{calls_lighter}
 use Rattle.mini_rows.proofs.ChoiceIndexed.{indexed_lighter}
 use Rattle.mini_rows.proofs.ChoiceWeights as choice_weights
@@ -265,7 +265,7 @@ own_or_row s n k =
       shape = conditional_is n chooses ∙ (λ i. conditional (one.first i) (one.second i) (part n 2));
       written = ap (λ t. logical Or t (part n 2)) one.first;
     } in
-    (inr (inl (inl row)), omega (arith, ltb-true _ _ less))
+    (inr (inl (OrTest row)), omega (arith, ltb-true _ _ less))
 
 own_and_row : (s : Seat) (n : Tree) → branches.is_own_alternate s n ≡ true → Falls SharedRow s n (logical And (part n 0) (part n 1))
 own_and_row s n k =
@@ -278,31 +278,31 @@ own_and_row s n k =
       shape = conditional_is n chooses ∙ (λ i. conditional (one.first i) (part n 1) (one.second i));
       written = ap (λ t. logical And t (part n 1)) one.first;
     } in
-    (inr (inl (inr row)), omega (arith, ltb-true _ _ less))
+    (inr (inl (AndTest row)), omega (arith, ltb-true _ _ less))
 
 -- ---- a conditional
 
 -- one that is lighter in every seat
 sure : (s : Seat) (n w : Tree) → LighterRow s n w → ChoiceContracts (Expr s) n w
-sure s n w r = record { row = inl r; lighter = choice_weights.lighter s n w r }
+sure s n w r = record { row = Shorter r; lighter = choice_weights.lighter s n w r }
 
 -- where it is one of these
 of_shared : (s : Seat) (n w : Tree) → SharedRow s n w → ChoiceRow (Expr s) n w
-of_shared s n w (inl (inl r)) = inl (inr (inr (inr (inl r))))
-of_shared s n w (inl (inr r)) = inl (inr (inr (inr (inr (inl r)))))
-of_shared s n w (inr (inl r)) = inr (inl r)
-of_shared s n w (inr (inr (inl (inl r)))) = inl (inr (inr (inr (inr (inr (inl r))))))
-of_shared s n w (inr (inr (inl (inr (inl r))))) = inl (inr (inr (inr (inr (inr (inr (inr (inr (inr (inr (inr (inl r))))))))))))
-of_shared s n w (inr (inr (inl (inr (inr r))))) = inr (inr (inr (inr (inr (inr (inr (inr (inl r))))))))
-of_shared s n w (inr (inr (inr r))) = inr (inr (inr (inr (inl r))))
+of_shared s n w (inl (inl r)) = Shorter (NullishIfEqual r)
+of_shared s n w (inl (inr r)) = Shorter (NullishIfUnequal r)
+of_shared s n w (inr (inl r)) = TestedBranch r
+of_shared s n w (inr (inr (inl (inl r)))) = Shorter (Chosen r)
+of_shared s n w (inr (inr (inl (inr (inl r))))) = Shorter (ChosenMember r)
+of_shared s n w (inr (inr (inl (inr (inr r))))) = ChosenIndexed r
+of_shared s n w (inr (inr (inr r))) = JoinedCall r
 
 module _ (s : Seat) (n w : Tree) where
   -- one that is lighter in every seat, as all are but those of `OwnRow`
   surely : (u : Tree) → Row46Equal n u ⊎ (Row46Unequal n u ⊎ (Row45 s n u ⊎ Row45Member s n u)) → Falls SharedRow s n u
-  surely u (inl r) = (inl (inl r), choice_weights.lighter s n u (inr (inr (inr (inl r)))))
-  surely u (inr (inl r)) = (inl (inr r), choice_weights.lighter s n u (inr (inr (inr (inr (inl r))))))
-  surely u (inr (inr (inl r))) = (inr (inr (inl (inl r))), choice_weights.lighter s n u (inr (inr (inr (inr (inr (inl r)))))))
-  surely u (inr (inr (inr r))) = (inr (inr (inl (inr (inl r)))), choice_weights.lighter s n u (inr (inr (inr (inr (inr (inr (inr (inr (inr (inr (inr (inl r)))))))))))))
+  surely u (inl r) = (inl (inl r), choice_weights.lighter s n u (NullishIfEqual r))
+  surely u (inr (inl r)) = (inl (inr r), choice_weights.lighter s n u (NullishIfUnequal r))
+  surely u (inr (inr (inl r))) = (inr (inr (inl (inl r))), choice_weights.lighter s n u (Chosen r))
+  surely u (inr (inr (inr r))) = (inr (inr (inl (inr (inl r)))), choice_weights.lighter s n u (ChosenMember r))
 
   pub branch_falls : branches.written s n ≡ Some w → Falls SharedRow s n w
   branch_falls =
@@ -385,22 +385,22 @@ row_of : (s : Seat) (n w : Tree) → written s n ≡ Some w → ChoiceContracts 
 row_of s (node (shape.LogicalExpression o) xs m ts) w e = side_row (either_some (both.written s (node (shape.LogicalExpression o) xs m ts)) (first_of (decide_last.written s (node (shape.LogicalExpression o) xs m ts)) (operands_written (node (shape.LogicalExpression o) xs m ts))) w e)
   where
     comparisons_row : (nullish.written (node (shape.LogicalExpression o) xs m ts) ≡ Some w) ⊎ (object_test.written (node (shape.LogicalExpression o) xs m ts) ≡ Some w) → LighterRow s (node (shape.LogicalExpression o) xs m ts) w
-    comparisons_row (inl e) = comparison_row (LighterRow s) (λ n w r. inr (inr (inr (inr (inr (inr (inl r))))))) (λ n w r. inr (inr (inr (inr (inr (inr (inr (inl r)))))))) _ w e
-    comparisons_row (inr e) = object_row (LighterRow s) (λ n w r. inr (inr (inr (inr (inr (inr (inr (inr (inl r))))))))) (λ n w r. inr (inr (inr (inr (inr (inr (inr (inr (inr (inl r)))))))))) _ w e
+    comparisons_row (inl e) = comparison_row (LighterRow s) (λ n w r. LooseNull r) (λ n w r. LooseNullAfter r) _ w e
+    comparisons_row (inr e) = object_row (LighterRow s) (λ n w r. ObjectTest r) (λ n w r. ObjectTestAfter r) _ w e
 
     others_row : (decide.written (node (shape.LogicalExpression o) xs m ts) ≡ Some w) ⊎ (first_of (nullish.written (node (shape.LogicalExpression o) xs m ts)) (object_test.written (node (shape.LogicalExpression o) xs m ts)) ≡ Some w) → LighterRow s (node (shape.LogicalExpression o) xs m ts) w
-    others_row (inl e) = inr (inl (decided_row _ w e))
+    others_row (inl e) = Decided (decided_row _ w e)
     others_row (inr e) = comparisons_row (either_some (nullish.written (node (shape.LogicalExpression o) xs m ts)) (object_test.written (node (shape.LogicalExpression o) xs m ts)) w e)
 
     logical_row : (rotate.written (node (shape.LogicalExpression o) xs m ts) ≡ Some w) ⊎ (first_of (decide.written (node (shape.LogicalExpression o) xs m ts)) (first_of (nullish.written (node (shape.LogicalExpression o) xs m ts)) (object_test.written (node (shape.LogicalExpression o) xs m ts))) ≡ Some w) → LighterRow s (node (shape.LogicalExpression o) xs m ts) w
-    logical_row (inl e) = inl (rotated_row _ w e)
+    logical_row (inl e) = Rotated (rotated_row _ w e)
     logical_row (inr e) = others_row (either_some (decide.written (node (shape.LogicalExpression o) xs m ts)) (first_of (nullish.written (node (shape.LogicalExpression o) xs m ts)) (object_test.written (node (shape.LogicalExpression o) xs m ts))) w e)
 
     operands_row : operands_written (node (shape.LogicalExpression o) xs m ts) ≡ Some w → LighterRow s (node (shape.LogicalExpression o) xs m ts) w
     operands_row e = logical_row (either_some (rotate.written (node (shape.LogicalExpression o) xs m ts)) (first_of (decide.written (node (shape.LogicalExpression o) xs m ts)) (first_of (nullish.written (node (shape.LogicalExpression o) xs m ts)) (object_test.written (node (shape.LogicalExpression o) xs m ts)))) w e)
 
     last_or_row : (decide_last.written s (node (shape.LogicalExpression o) xs m ts) ≡ Some w) ⊎ (operands_written (node (shape.LogicalExpression o) xs m ts) ≡ Some w) → LighterRow s (node (shape.LogicalExpression o) xs m ts) w
-    last_or_row (inl e) = inr (inr (inr (inr (inr (inr (inr (inr (inr (inr (inr (inr (last_row s _ w e))))))))))))
+    last_or_row (inl e) = DecidedLast (last_row s _ w e)
     last_or_row (inr e) = operands_row e
 
     side_row : (both.written s (node (shape.LogicalExpression o) xs m ts) ≡ Some w) ⊎ (first_of (decide_last.written s (node (shape.LogicalExpression o) xs m ts)) (operands_written (node (shape.LogicalExpression o) xs m ts)) ≡ Some w) → ChoiceContracts (Expr s) (node (shape.LogicalExpression o) xs m ts) w
@@ -409,8 +409,8 @@ row_of s (node (shape.LogicalExpression o) xs m ts) w e = side_row (either_some 
 row_of s (node (shape.AssignmentExpression o) xs m ts) w e = assigned_row (combined_row _ w e)
   where
     assigned_row : Row35 (node (shape.AssignmentExpression o) xs m ts) w ⊎ Row35Member (node (shape.AssignmentExpression o) xs m ts) w → ChoiceContracts (Expr s) (node (shape.AssignmentExpression o) xs m ts) w
-    assigned_row (inl r) = sure s _ w (inr (inr (inl r)))
-    assigned_row (inr r) = sure s _ w (inr (inr (inr (inr (inr (inr (inr (inr (inr (inr (inl r)))))))))))
+    assigned_row (inl r) = sure s _ w (Combined r)
+    assigned_row (inr r) = sure s _ w (CombinedMember r)
 row_of s (node shape.ConditionalExpression xs m ts) w e = any_row (either_some (chains.written s (node shape.ConditionalExpression xs m ts)) (first_of (held.written s (node shape.ConditionalExpression xs m ts)) (branches.written s (node shape.ConditionalExpression xs m ts))) w e)
   where
     conditional_row : (held.written s (node shape.ConditionalExpression xs m ts) ≡ Some w) ⊎ (branches.written s (node shape.ConditionalExpression xs m ts) ≡ Some w) → ChoiceContracts (Expr s) (node shape.ConditionalExpression xs m ts) w
@@ -477,44 +477,44 @@ zero_there : (s : Seat) (n w : Tree) → Row21Zero n w → is_some (behind.writt
 zero_there s n w r h = ap (λ t. is_some (written s t)) r.shape ∙ sym (ap (λ t. is_some (behind.written s t)) r.shape) ∙ h
 
 sure_passes : (s : Seat) (n w : Tree) → LighterRow s n w → is_some (written s n) ≡ true
-sure_passes s n w (inl r) =
+sure_passes s n w (Rotated r) =
     let t : Tree = logical r.operator r.a (joined r.operator r.b (r.last ▸ r.others)) in
     ap (λ t. is_some (written s t)) r.shape ∙ in_operands s t (first_there (rotate.written t) (first_of (decide.written t) (first_of (nullish.written t) (object_test.written t))) (rotated_passes r.operator r.a r.b r.last r.others r.ungrouped))
-sure_passes s n w (inr (inl r)) =
+sure_passes s n w (Decided r) =
     let t : Tree = logical r.operator (identifier r.name) (assign r.name r.b) in
     ap (λ t. is_some (written s t)) r.shape ∙ in_operands s t (first_there (decide.written t) (first_of (nullish.written t) (object_test.written t)) (ap is_some (decided_passes r.operator r.name r.b)))
-sure_passes s n w (inr (inr (inl r))) = ap (λ t. is_some (written s t)) r.shape ∙ ap is_some (combined_passes r.operator r.combined r.computes r.name r.b)
-sure_passes s n w (inr (inr (inr (inl r)))) = ap (λ t. is_some (written s t)) r.shape ∙ in_branches s (conditional (binary Equality (identifier r.name) null_literal) r.b (identifier r.name)) (by_equal s (conditional (binary Equality (identifier r.name) null_literal) r.b (identifier r.name)) (declared_passes r.name r.declared))
-sure_passes s n w (inr (inr (inr (inr (inl r))))) = ap (λ t. is_some (written s t)) r.shape ∙ in_branches s (conditional (binary Inequality (identifier r.name) null_literal) (identifier r.name) r.b) (by_unequal s (conditional (binary Inequality (identifier r.name) null_literal) (identifier r.name) r.b) (declared_passes r.name r.declared))
-sure_passes s n w (inr (inr (inr (inr (inr (inl r)))))) = ap (λ t. is_some (written s t)) r.shape ∙ in_branches s (conditional r.a (assignment r.operator (identifier r.name) r.b) (assignment r.operator (identifier r.name) r.c)) (by_assignment s (conditional r.a (assignment r.operator (identifier r.name) r.b) (assignment r.operator (identifier r.name) r.c)) (chosen_passes true s r.seated r.operator r.a r.name r.b r.c r.chosen))
-sure_passes s n w (inr (inr (inr (inr (inr (inr (inl r))))))) =
+sure_passes s n w (Combined r) = ap (λ t. is_some (written s t)) r.shape ∙ ap is_some (combined_passes r.operator r.combined r.computes r.name r.b)
+sure_passes s n w (NullishIfEqual r) = ap (λ t. is_some (written s t)) r.shape ∙ in_branches s (conditional (binary Equality (identifier r.name) null_literal) r.b (identifier r.name)) (by_equal s (conditional (binary Equality (identifier r.name) null_literal) r.b (identifier r.name)) (declared_passes r.name r.declared))
+sure_passes s n w (NullishIfUnequal r) = ap (λ t. is_some (written s t)) r.shape ∙ in_branches s (conditional (binary Inequality (identifier r.name) null_literal) (identifier r.name) r.b) (by_unequal s (conditional (binary Inequality (identifier r.name) null_literal) (identifier r.name) r.b) (declared_passes r.name r.declared))
+sure_passes s n w (Chosen r) = ap (λ t. is_some (written s t)) r.shape ∙ in_branches s (conditional r.a (assignment r.operator (identifier r.name) r.b) (assignment r.operator (identifier r.name) r.c)) (by_assignment s (conditional r.a (assignment r.operator (identifier r.name) r.b) (assignment r.operator (identifier r.name) r.c)) (chosen_passes true s r.seated r.operator r.a r.name r.b r.c r.chosen))
+sure_passes s n w (LooseNull r) =
     let t : Tree = logical (joining r.equal) (binary (strictly r.equal) (identifier r.name) r.first) (binary (strictly r.equal) (identifier r.name) r.second) in
     ap (λ t. is_some (written s t)) r.shape ∙ in_operands s t (by_nullish t (alone_passes r.equal r.name r.first r.second r.nullish))
-sure_passes s n w (inr (inr (inr (inr (inr (inr (inr (inl r)))))))) =
+sure_passes s n w (LooseNullAfter r) =
     let t : Tree = logical (joining r.equal) (logical (joining r.equal) r.before (binary (strictly r.equal) (identifier r.name) r.first)) (binary (strictly r.equal) (identifier r.name) r.second) in
     ap (λ t. is_some (written s t)) r.shape ∙ in_operands s t (by_nullish t (after_passes r.equal r.before r.name r.first r.second r.nullish))
-sure_passes s n w (inr (inr (inr (inr (inr (inr (inr (inr (inl r))))))))) =
+sure_passes s n w (ObjectTest r) =
     let t : Tree = logical (joining (not r.there)) (ended (joining (not r.there)) r.before (asks_object r.there r.name)) (null_compared r.strict (not r.there) r.name) in
     ap (λ t. is_some (written s t)) r.shape ∙ in_operands s t (by_object t (object_passes r.there r.strict r.before r.name r.declared))
-sure_passes s n w (inr (inr (inr (inr (inr (inr (inr (inr (inr (inr (inr (inr r)))))))))))) =
+sure_passes s n w (DecidedLast r) =
     let t : Tree = logical r.operator (identifier r.name) (sequence (r.first ▸ append r.others (assign r.name r.b ▸ none))) in
     ap (λ t. is_some (written s t)) r.shape ∙ second_there (both.written s t) (first_of (decide_last.written s t) (operands_written t)) (first_there (decide_last.written s t) (operands_written t) (last_passes s r.operator r.name r.first r.others r.b r.seated))
-sure_passes s n w (inr (inr (inr (inr (inr (inr (inr (inr (inr (inr (inr (inl r)))))))))))) =
+sure_passes s n w (ChosenMember r) =
     let t : Tree = conditional r.a (assignment Assign (member_of r.name r.key) r.b) (assignment Assign (member_of r.name r.key) r.c) in
     ap (λ t. is_some (written s t)) r.shape ∙ in_branches s t (by_assignment s t (chosen_member_passes true s r.seated r.a r.name r.key r.b r.c r.declared r.effect_free))
-sure_passes s n w (inr (inr (inr (inr (inr (inr (inr (inr (inr (inr (inl r))))))))))) = ap (λ t. is_some (written s t)) r.shape ∙ ap is_some (combined_member_passes r.operator r.combined r.computes r.name r.declared r.key r.b)
-sure_passes s n w (inr (inr (inr (inr (inr (inr (inr (inr (inr (inl r)))))))))) =
+sure_passes s n w (CombinedMember r) = ap (λ t. is_some (written s t)) r.shape ∙ ap is_some (combined_member_passes r.operator r.combined r.computes r.name r.declared r.key r.b)
+sure_passes s n w (ObjectTestAfter r) =
     let t : Tree = logical (joining (not r.there)) (ended (joining (not r.there)) r.before (null_compared r.strict (not r.there) r.name)) (asks_object r.there r.name) in
     ap (λ t. is_some (written s t)) r.shape ∙ in_operands s t (by_object t (before_passes r.there r.strict r.before r.name r.declared))
 
 own_passes : (s : Seat) (n w : Tree) → OwnRow n w → weight (Expr s) n < 2 ^ 64 → weight (Expr s) w < weight (Expr s) n → is_some (written s n) ≡ true
-own_passes s n w (inl r) small less =
+own_passes s n w (OrTest r) small less =
     let t : Tree = conditional (identifier r.name) (identifier r.name) r.b in
     let u : Tree = logical Or (identifier r.name) r.b in
     let same = ap (weight (Expr s)) r.shape in
     let made = ap (weight (Expr s)) r.written in
     ap (λ t. is_some (written s t)) r.shape ∙ in_branches s t (by_consequent s t (both_true (same_tree (identifier r.name) (identifier r.name)) (branches.is_lighter s u t) (tree_itself (identifier r.name)) (lighter_test s u t (omega (arith, small, same)) (omega (arith, less, same, made)))))
-own_passes s n w (inr r) small less =
+own_passes s n w (AndTest r) small less =
     let t : Tree = conditional (identifier r.name) r.b (identifier r.name) in
     let u : Tree = logical And (identifier r.name) r.b in
     let same = ap (weight (Expr s)) r.shape in
@@ -522,19 +522,19 @@ own_passes s n w (inr r) small less =
     ap (λ t. is_some (written s t)) r.shape ∙ in_branches s t (by_alternate s t (both_true (same_tree (identifier r.name) (identifier r.name)) (branches.is_lighter s u t) (tree_itself (identifier r.name)) (lighter_test s u t (omega (arith, small, same)) (omega (arith, less, same, made)))))
 
 passes : (s : Seat) (n w : Tree) → ChoiceRow (Expr s) n w → weight (Expr s) n < 2 ^ 64 → weight (Expr s) w < weight (Expr s) n → is_some (written s n) ≡ true
-passes s n w (inl r) small less = sure_passes s n w r
-passes s n w (inr (inl r)) small less = own_passes s n w r small less
-passes s n w (inr (inr (inl r))) small less = held_there s n (held_passes s n w small less r)
-passes s n w (inr (inr (inr (inl r)))) small less = chain_there s n (chain_passes s n w r)
-passes s n w (inr (inr (inr (inr (inr (inl r)))))) small less = folded_there s n (folded_passes s n w r)
-passes s n w (inr (inr (inr (inr (inr (inr (inl r))))))) small less = folded_there s n (end_passes s n w r small less)
-passes s n w (inr (inr (inr (inr (inr (inr (inr (inl r)))))))) small less = both_there s n w r (both_passes s n w r small less)
-passes s n w (inr (inr (inr (inr (inr (inr (inr (inr (inr r))))))))) small less = zero_there s n w r (zero_passes s n w r small less)
-passes s n w (inr (inr (inr (inr (inr (inr (inr (inr (inl r))))))))) small less =
+passes s n w (Shorter r) small less = sure_passes s n w r
+passes s n w (TestedBranch r) small less = own_passes s n w r small less
+passes s n w (SharedBranch r) small less = held_there s n (held_passes s n w small less r)
+passes s n w (OptionalChain r) small less = chain_there s n (chain_passes s n w r)
+passes s n w (ChainLink r) small less = folded_there s n (folded_passes s n w r)
+passes s n w (ChainEnd r) small less = folded_there s n (end_passes s n w r small less)
+passes s n w (BothSides r) small less = both_there s n w r (both_passes s n w r small less)
+passes s n w (ZeroFirst r) small less = zero_there s n w r (zero_passes s n w r small less)
+passes s n w (ChosenIndexed r) small less =
     let t : Tree = computed_member (identifier r.name) r.key in
     let u : Tree = conditional r.a (assignment Assign t r.b) (assignment Assign t r.c) in
     ap (λ t. is_some (written s t)) r.shape ∙ in_branches s u (by_indexed s u (indexed_passes true s n w r))
-passes s n w (inr (inr (inr (inr (inl r))))) small less =
+passes s n w (JoinedCall r) small less =
     let t : Tree = conditional r.a (call false r.callee (argument r.is_spread r.p ▸ r.others)) (call false r.callee (argument r.is_spread r.q ▸ r.others)) in
     ap (λ t. is_some (written s t)) r.shape ∙ in_branches s t (by_called s t (called_passes true n w r))
 

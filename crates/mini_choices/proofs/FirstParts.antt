@@ -10,7 +10,7 @@ use Rattle.mini_model.specs.Weight.{weight}
 use Rattle.mini_terms.specs.Exact.{by_value}
 use Rattle.mini_terms.specs.Folds.{is_effect_free}
 use Rattle.mini_terms.specs.Parts.{leaves_nothing}
-use Rattle.mini_rows.specs.Choices.{pair, Row21Zero, ChoiceContracts}
+use Rattle.mini_rows.specs.Choices.{pair, Row21Zero, ChoiceContracts, ZeroFirst}
 use Rattle.mini_choices.specs.MinimizeConditionalBranches.{is_lighter}
 use Rattle.mini_choices.specs.MinimizeFirstPart as behind
 use Rattle.mini_choices.specs.MinimizeHeldBranches.{is_pair, item}
@@ -32,7 +32,7 @@ zero_falls s n w = tries (Falls (λ s n w. Row21Zero n w) s n) w (behind.is_shor
         (idle_row n idle, omega (arith, ltb-true _ _ less))
 
 pub zero_row : (s : Seat) (n w : Tree) → behind.written s n ≡ Some w → ChoiceContracts (Expr s) n w
-zero_row s n w e = let (r, less) = zero_falls s n w e in record { row = inr (inr (inr (inr (inr (inr (inr (inr (inr r)))))))); lighter = less }
+zero_row s n w e = let (r, less) = zero_falls s n w e in record { row = ZeroFirst r; lighter = less }
 
 pub zero_passes : (s : Seat) (n w : Tree) → Row21Zero n w → weight (Expr s) n < 2 ^ 64 → weight (Expr s) w < weight (Expr s) n → is_some (behind.written s n) ≡ true
 zero_passes s n w r small less =

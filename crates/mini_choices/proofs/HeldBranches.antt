@@ -14,7 +14,7 @@ use Rattle.mini_node.specs.Equal.{same_tree}
 use Rattle.mini_node.specs.Kinds.{sequence, is_logical, is_conditional, is_sequence}
 use Rattle.mini_node.specs.Made.{and_is, or_is, conditional_is, sequence_is}
 use Rattle.mini_node.proofs.Equality.{tree_same, tree_itself}
-use Rattle.mini_rows.specs.Choices.{pair, HeldRow, ChoiceContracts}
+use Rattle.mini_rows.specs.Choices.{pair, HeldRow, ChoiceContracts, SharedBranch, AndBoth, OrEither, LastAfterOr, LastAfterAnd, AndThenOr, OrThenAnd, Alike}
 use Rattle.mini_rows.specs.Nesting.{may_join}
 use Rattle.mini_choices.specs.MinimizeConditionalBranches.{is_lighter}
 use Rattle.mini_choices.specs.MinimizeHeldBranches as held
@@ -61,43 +61,43 @@ module _ (s : Seat) (n : Tree) (chooses : is_conditional n ≡ true) where
       let (chosen, shallow) = and_parts (held.chooses (part n 1) 2 (part n 2) && is_lighter s (held.consequent_chosen n) n) (may_join (part n 0) (part (part n 1) 0)) h in
       let (reads, less) = and_parts (held.chooses (part n 1) 2 (part n 2)) (is_lighter s (held.consequent_chosen n) n) chosen in
       let (kind, same) = and_parts (is_conditional (part n 1)) (same_tree (part (part n 1) 2) (part n 2)) reads in
-      weighed (held.consequent_chosen n) (inl (record { a = part n 0; b = part (part n 1) 0; c = part (part n 1) 1; d = part n 2; shallow = shallow; shape = consequent_is (conditional (part (part n 1) 0) (part (part n 1) 1) (part n 2)) (conditional_is (part n 1) kind ∙ ap (conditional (part (part n 1) 0) (part (part n 1) 1)) (tree_same (part (part n 1) 2) (part n 2) same)); written = refl })) less
+      weighed (held.consequent_chosen n) (AndBoth (record { a = part n 0; b = part (part n 1) 0; c = part (part n 1) 1; d = part n 2; shallow = shallow; shape = consequent_is (conditional (part (part n 1) 0) (part (part n 1) 1) (part n 2)) (conditional_is (part n 1) kind ∙ ap (conditional (part (part n 1) 0) (part (part n 1) 1)) (tree_same (part (part n 1) 2) (part n 2) same)); written = refl })) less
 
   alternate_chosen_row : held.is_alternate_chosen s n ≡ true → Contracts (held.alternate_chosen n)
   alternate_chosen_row h =
       let (chosen, shallow) = and_parts (held.chooses (part n 2) 1 (part n 1) && is_lighter s (held.alternate_chosen n) n) (may_join (part n 0) (part (part n 2) 0)) h in
       let (reads, less) = and_parts (held.chooses (part n 2) 1 (part n 1)) (is_lighter s (held.alternate_chosen n) n) chosen in
       let (kind, same) = and_parts (is_conditional (part n 2)) (same_tree (part (part n 2) 1) (part n 1)) reads in
-      weighed (held.alternate_chosen n) (inr (inl (record { a = part n 0; b = part (part n 2) 0; c = part n 1; d = part (part n 2) 2; shallow = shallow; shape = alternate_is (conditional (part (part n 2) 0) (part n 1) (part (part n 2) 2)) (conditional_is (part n 2) kind ∙ ap (λ t. conditional (part (part n 2) 0) t (part (part n 2) 2)) (tree_same (part (part n 2) 1) (part n 1) same)); written = refl }))) less
+      weighed (held.alternate_chosen n) (OrEither (record { a = part n 0; b = part (part n 2) 0; c = part n 1; d = part (part n 2) 2; shallow = shallow; shape = alternate_is (conditional (part (part n 2) 0) (part n 1) (part (part n 2) 2)) (conditional_is (part n 2) kind ∙ ap (λ t. conditional (part (part n 2) 0) t (part (part n 2) 2)) (tree_same (part (part n 2) 1) (part n 1) same)); written = refl })) less
 
   consequent_decided_row : held.is_consequent_decided s n ≡ true → Contracts (held.consequent_decided n)
   consequent_decided_row h =
       let (reads, less) = and_parts (held.decides Or (part n 1) (part n 2)) (is_lighter s (held.consequent_decided n) n) h in
       let (kind, same) = and_parts (is_logical Or (part n 1)) (same_tree (part (part n 1) 1) (part n 2)) reads in
-      weighed (held.consequent_decided n) (inr (inr (inl (record { a = part n 0; b = part (part n 1) 0; c = part n 2; shape = consequent_is (logical Or (part (part n 1) 0) (part n 2)) (or_is (part n 1) kind ∙ ap (logical Or (part (part n 1) 0)) (tree_same (part (part n 1) 1) (part n 2) same)); written = refl })))) less
+      weighed (held.consequent_decided n) (LastAfterOr (record { a = part n 0; b = part (part n 1) 0; c = part n 2; shape = consequent_is (logical Or (part (part n 1) 0) (part n 2)) (or_is (part n 1) kind ∙ ap (logical Or (part (part n 1) 0)) (tree_same (part (part n 1) 1) (part n 2) same)); written = refl })) less
 
   alternate_decided_row : held.is_alternate_decided s n ≡ true → Contracts (held.alternate_decided n)
   alternate_decided_row h =
       let (reads, less) = and_parts (held.decides And (part n 2) (part n 1)) (is_lighter s (held.alternate_decided n) n) h in
       let (kind, same) = and_parts (is_logical And (part n 2)) (same_tree (part (part n 2) 1) (part n 1)) reads in
-      weighed (held.alternate_decided n) (inr (inr (inr (inl (record { a = part n 0; b = part (part n 2) 0; c = part n 1; shape = alternate_is (logical And (part (part n 2) 0) (part n 1)) (and_is (part n 2) kind ∙ ap (logical And (part (part n 2) 0)) (tree_same (part (part n 2) 1) (part n 1) same)); written = refl }))))) less
+      weighed (held.alternate_decided n) (LastAfterAnd (record { a = part n 0; b = part (part n 2) 0; c = part n 1; shape = alternate_is (logical And (part (part n 2) 0) (part n 1)) (and_is (part n 2) kind ∙ ap (logical And (part (part n 2) 0)) (tree_same (part (part n 2) 1) (part n 1) same)); written = refl })) less
 
   consequent_followed_row : held.is_consequent_followed s n ≡ true → Contracts (held.consequent_followed n)
   consequent_followed_row h =
       let (reads, less) = and_parts (held.follows (part n 1) (part n 2)) (is_lighter s (held.consequent_followed n) n) h in
       let (kind, same) = and_parts (held.is_pair (part n 1)) (same_tree (item (part n 1) 1) (part n 2)) reads in
-      weighed (held.consequent_followed n) (inr (inr (inr (inr (inl (record { a = part n 0; b = item (part n 1) 0; c = part n 2; shape = consequent_is (pair (item (part n 1) 0) (part n 2)) (pair_is (part n 1) kind ∙ ap (pair (item (part n 1) 0)) (tree_same (item (part n 1) 1) (part n 2) same)); written = refl })))))) less
+      weighed (held.consequent_followed n) (AndThenOr (record { a = part n 0; b = item (part n 1) 0; c = part n 2; shape = consequent_is (pair (item (part n 1) 0) (part n 2)) (pair_is (part n 1) kind ∙ ap (pair (item (part n 1) 0)) (tree_same (item (part n 1) 1) (part n 2) same)); written = refl })) less
 
   alternate_followed_row : held.is_alternate_followed s n ≡ true → Contracts (held.alternate_followed n)
   alternate_followed_row h =
       let (reads, less) = and_parts (held.follows (part n 2) (part n 1)) (is_lighter s (held.alternate_followed n) n) h in
       let (kind, same) = and_parts (held.is_pair (part n 2)) (same_tree (item (part n 2) 1) (part n 1)) reads in
-      weighed (held.alternate_followed n) (inr (inr (inr (inr (inr (inl (record { a = part n 0; b = item (part n 2) 0; c = part n 1; shape = alternate_is (pair (item (part n 2) 0) (part n 1)) (pair_is (part n 2) kind ∙ ap (pair (item (part n 2) 0)) (tree_same (item (part n 2) 1) (part n 1) same)); written = refl }))))))) less
+      weighed (held.alternate_followed n) (OrThenAnd (record { a = part n 0; b = item (part n 2) 0; c = part n 1; shape = alternate_is (pair (item (part n 2) 0) (part n 1)) (pair_is (part n 2) kind ∙ ap (pair (item (part n 2) 0)) (tree_same (item (part n 2) 1) (part n 1) same)); written = refl })) less
 
   both_alike_row : held.are_both_alike s n ≡ true → Contracts (held.both_followed n)
   both_alike_row h =
       let (same, less) = and_parts (same_tree (part n 1) (part n 2)) (is_lighter s (held.both_followed n) n) h in
-      weighed (held.both_followed n) (inr (inr (inr (inr (inr (inr (record { a = part n 0; b = part n 1; shape = alternate_is (part n 1) (sym (tree_same (part n 1) (part n 2) same)); written = refl }))))))) less
+      weighed (held.both_followed n) (Alike (record { a = part n 0; b = part n 1; shape = alternate_is (part n 1) (sym (tree_same (part n 1) (part n 2) same)); written = refl })) less
 
   chosen_row : (w : Tree) → held.chosen_written s n ≡ Some w → Contracts w
   chosen_row w =
@@ -117,7 +117,7 @@ held_falls s n w e = go (is_conditional n) refl e
     go false h e = absurd (cc e)
 
 pub held_row : (s : Seat) (n w : Tree) → held.written s n ≡ Some w → ChoiceContracts (Expr s) n w
-held_row s n w e = let (r, less) = held_falls s n w e in record { row = inr (inr (inl r)); lighter = less }
+held_row s n w e = let (r, less) = held_falls s n w e in record { row = SharedBranch r; lighter = less }
 
 -- ---- where a row makes it lighter, something is written
 
@@ -167,24 +167,24 @@ module _ (s : Seat) (n w : Tree) (small : weight (Expr s) n < 2 ^ 64) (less : we
       both_true (same_tree d d) (is_lighter s u t) (tree_itself d) (lighter_test s u t (omega (arith, small, same)) (omega (arith, less, same, made)))
 
   pub held_passes : HeldRow n w → is_some (held.written s n) ≡ true
-  held_passes (inl r) =
+  held_passes (AndBoth r) =
       let t : Tree = conditional r.a (conditional r.b r.c r.d) r.d in
       ap (λ t. is_some (held.written s t)) r.shape ∙ by_consequent_chosen s t (both_true (same_tree r.d r.d && is_lighter s (held.consequent_chosen t) t) (may_join r.a r.b) (held_passes_as t (held.consequent_chosen t) r.d r.shape r.written) r.shallow)
-  held_passes (inr (inl r)) =
+  held_passes (OrEither r) =
       let t : Tree = conditional r.a r.c (conditional r.b r.c r.d) in
       ap (λ t. is_some (held.written s t)) r.shape ∙ by_alternate_chosen s t (both_true (same_tree r.c r.c && is_lighter s (held.alternate_chosen t) t) (may_join r.a r.b) (held_passes_as t (held.alternate_chosen t) r.c r.shape r.written) r.shallow)
-  held_passes (inr (inr (inl r))) =
+  held_passes (LastAfterOr r) =
       let t : Tree = conditional r.a (logical Or r.b r.c) r.c in
       ap (λ t. is_some (held.written s t)) r.shape ∙ by_consequent_decided s t (held_passes_as t (held.consequent_decided t) r.c r.shape r.written)
-  held_passes (inr (inr (inr (inl r)))) =
+  held_passes (LastAfterAnd r) =
       let t : Tree = conditional r.a r.c (logical And r.b r.c) in
       ap (λ t. is_some (held.written s t)) r.shape ∙ by_alternate_decided s t (held_passes_as t (held.alternate_decided t) r.c r.shape r.written)
-  held_passes (inr (inr (inr (inr (inl r))))) =
+  held_passes (AndThenOr r) =
       let t : Tree = conditional r.a (pair r.b r.c) r.c in
       ap (λ t. is_some (held.written s t)) r.shape ∙ by_consequent_followed s t (held_passes_as t (held.consequent_followed t) r.c r.shape r.written)
-  held_passes (inr (inr (inr (inr (inr (inl r)))))) =
+  held_passes (OrThenAnd r) =
       let t : Tree = conditional r.a r.c (pair r.b r.c) in
       ap (λ t. is_some (held.written s t)) r.shape ∙ by_alternate_followed s t (held_passes_as t (held.alternate_followed t) r.c r.shape r.written)
-  held_passes (inr (inr (inr (inr (inr (inr r)))))) =
+  held_passes (Alike r) =
       let t : Tree = conditional r.a r.b r.b in
       ap (λ t. is_some (held.written s t)) r.shape ∙ by_both_alike s t (held_passes_as t (held.both_followed t) r.b r.shape r.written)

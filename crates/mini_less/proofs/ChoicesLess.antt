@@ -5,7 +5,7 @@ use Rattle.mini_model.specs.declared.place.Position.{Position}
 use Rattle.mini_model.specs.declared.place.Position.TheVariants.{Expr}
 use Rattle.mini_model.specs.Tree.{Tree, identifier}
 use Rattle.mini_node.specs.Kinds.{computed_member}
-use Rattle.mini_rows.specs.Choices.{ChoiceRow, ChoiceContracts, Shorter, TestedBranch, SharedBranch, OptionalChain, JoinedCall, Link, ChainEnd, BothSides, ChosenIndexed, ZeroFirst}
+use Rattle.mini_rows.specs.Choices.{ChoiceRow, ChoiceContracts, Shorter, TestedBranch, SharedBranch, OptionalChain, JoinedCall, ChainLink, ChainEnd, BothSides, ChosenIndexed, ZeroFirst}
 use Rattle.mini_less.specs.Families.{LessAt, ChoicesReadLess}
 use Rattle.mini_less.proofs.ChainsLess.{chain_less, chains_less, ends_less}
 use Rattle.mini_less.proofs.ConditionalsLess.{lighter_less, own_less, held_less, calls_less, both_less, chosen_target_less, zero_less}
@@ -17,7 +17,7 @@ row_less (Expr q) n w (TestedBranch r) = own_less q n w r
 row_less (Expr q) n w (SharedBranch r) = held_less q n w r
 row_less (Expr q) n w (OptionalChain r) = chain_less q n w r
 row_less (Expr q) n w (JoinedCall r) = calls_less q n w true r
-row_less (Expr q) n w (Link r) = chains_less q n w r
+row_less (Expr q) n w (ChainLink r) = chains_less q n w r
 row_less (Expr q) n w (ChainEnd r) = ends_less q n w r
 row_less (Expr q) n w (BothSides r) = both_less q n w r
 row_less (Expr q) n w (ChosenIndexed r) = chosen_target_less q n w Assign (computed_member (identifier r.name) r.key) r.a r.b r.c r.shape r.written

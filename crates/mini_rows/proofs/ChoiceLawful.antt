@@ -35,7 +35,7 @@ use Rattle.mini_rows.specs.Sketches.{Unary, Binary, Logical, Conditional, Assign
 use Rattle.mini_model.specs.Paths.{append}
 use Rattle.mini_rows.specs.Lists.{sequence}
 use Rattle.mini_rows.specs.Spellings.{IsUndefined, void_zero, assignment}
-use Rattle.mini_rows.specs.Choices.{assign, deciding, strictly, loosely, joining, AreNullish, Row37, Row37After, asks_object, null_compared, held, ended, Row57, Row57Null, Key, Named, Spelled, Numbered, member_on, member_of, Row39, Row38, Row35, Row35Member, Row38Last, ChoiceRow, ChoiceContracts, ChoicesLawful, ChoicesLoose, Row46Equal, Row46Unequal, Row41Or, Row41And, Row42And, Row42Or, Row43Or, Row43And, Row43AndThen, Row43OrThen, Row49, Row13Both, LighterRow, OwnRow, HeldRow, ChosenRow, ChosenMemberRow, Shorter, TestedBranch, SharedBranch, OptionalChain, JoinedCall, Link, ChainEnd, BothSides, ChosenIndexed, ZeroFirst, Rotated, Decided, Combined, NullishIfEqual, NullishIfUnequal, Chosen, LooseNull, LooseNullAfter, ObjectTest, ObjectTestAfter, CombinedMember, ChosenMember, DecidedLast, OrTest, AndTest, AndBoth, OrEither, LastAfterOr, LastAfterAnd, AndThenOr, OrThenAnd, Alike}
+use Rattle.mini_rows.specs.Choices.{assign, deciding, strictly, loosely, joining, AreNullish, Row37, Row37After, asks_object, null_compared, held, ended, Row57, Row57Null, Key, Named, Spelled, Numbered, member_on, member_of, Row39, Row38, Row35, Row35Member, Row38Last, ChoiceRow, ChoiceContracts, ChoicesLawful, ChoicesLoose, Row46Equal, Row46Unequal, Row41Or, Row41And, Row42And, Row42Or, Row43Or, Row43And, Row43AndThen, Row43OrThen, Row49, Row13Both, LighterRow, OwnRow, HeldRow, ChosenRow, ChosenMemberRow, Shorter, TestedBranch, SharedBranch, OptionalChain, JoinedCall, ChainLink, ChainEnd, BothSides, ChosenIndexed, ZeroFirst, Rotated, Decided, Combined, NullishIfEqual, NullishIfUnequal, Chosen, LooseNull, LooseNullAfter, ObjectTest, ObjectTestAfter, CombinedMember, ChosenMember, DecidedLast, OrTest, AndTest, AndBoth, OrEither, LastAfterOr, LastAfterAnd, AndThenOr, OrThenAnd, Alike}
 use Rattle.mini_rows.proofs.ChainLinkLawful.{chains_kept}
 use Rattle.mini_rows.proofs.ChainEndKept.{end_kept}
 use Rattle.mini_rows.proofs.ArrangedExpressions.{expressions_arranged, expressions_arranged_freely, CodeKept, code_arranged}
@@ -375,7 +375,7 @@ expression_kept q n w (TestedBranch r) = kept_loosely (Expr q) n w (own_kept q n
 expression_kept q n w (SharedBranch r) = kept_loosely (Expr q) n w (held_kept q n w r)
 expression_kept q n w (OptionalChain r) = kept_loosely (Expr q) n w (chain_row_kept q n w r (undefined_vanishes r.missing r.undefined))
 expression_kept q n w (JoinedCall r) = kept_loosely (Expr q) n w (calls_kept true q n w r)
-expression_kept q n w (Link r) = kept_loosely (Expr q) n w (chains_kept q n w r)
+expression_kept q n w (ChainLink r) = kept_loosely (Expr q) n w (chains_kept q n w r)
 expression_kept q n w (ChainEnd r) = end_kept q n w r
 expression_kept q n w (BothSides r) = kept_loosely (Expr q) n w (both_sides_kept q n w r)
 expression_kept q n w (ChosenIndexed r) = kept_loosely (Expr q) n w (indexed_kept true q n w r)

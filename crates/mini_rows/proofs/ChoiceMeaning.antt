@@ -32,7 +32,7 @@ use Rattle.mini_laws.specs.Targets.{assigns}
 use Rattle.mini_laws.proofs.Runs.{either_cong, either_assoc, either_eta, either_ok, either_stop, either_out, runs}
 use Rattle.mini_terms.proofs.Opened.{negation_opened}
 use Rattle.mini_rows.specs.Spellings.{binary, text, assignment}
-use Rattle.mini_rows.specs.Choices.{assign, pair, joined, strictly, loosely, joining, AreNullish, Row37, Row37After, deciding, computing, may_choose, Row45, Row35, Row46Equal, Row46Unequal, asks_object, null_compared, held, ended, Row57, Row57Null, LighterRow, OwnRow, HeldRow, ChoiceRow, ChoiceContracts, ChosenRow, Shorter, TestedBranch, SharedBranch, OptionalChain, JoinedCall, Link, ChainEnd, BothSides, ChosenIndexed, ZeroFirst, Rotated, Decided, Combined, NullishIfEqual, NullishIfUnequal, Chosen, LooseNull, LooseNullAfter, ObjectTest, ObjectTestAfter, CombinedMember, ChosenMember, DecidedLast, OrTest, AndTest, AndBoth, OrEither, LastAfterOr, LastAfterAnd, AndThenOr, OrThenAnd, Alike}
+use Rattle.mini_rows.specs.Choices.{assign, pair, joined, strictly, loosely, joining, AreNullish, Row37, Row37After, deciding, computing, may_choose, Row45, Row35, Row46Equal, Row46Unequal, asks_object, null_compared, held, ended, Row57, Row57Null, LighterRow, OwnRow, HeldRow, ChoiceRow, ChoiceContracts, ChosenRow, Shorter, TestedBranch, SharedBranch, OptionalChain, JoinedCall, ChainLink, ChainEnd, BothSides, ChosenIndexed, ZeroFirst, Rotated, Decided, Combined, NullishIfEqual, NullishIfUnequal, Chosen, LooseNull, LooseNullAfter, ObjectTest, ObjectTestAfter, CombinedMember, ChosenMember, DecidedLast, OrTest, AndTest, AndBoth, OrEither, LastAfterOr, LastAfterAnd, AndThenOr, OrThenAnd, Alike}
 use Rattle.mini_rows.proofs.ChainLinkMeaning.{chains_same, chains_read}
 use Rattle.mini_rows.proofs.BothSides.{both_sides_same}
 use Rattle.mini_rows.proofs.ChainEnds.{end_same, end_read}
@@ -637,7 +637,7 @@ means_same (Expr s) n w (TestedBranch r) = tree_same s n w (own_same n w r)
 means_same (Expr s) n w (SharedBranch r) = tree_same s n w (held_same n w r)
 means_same (Expr s) n w (OptionalChain r) = chain_row_same s n w r
 means_same (Expr s) n w (JoinedCall r) = tree_same s n w (calls_same n w r)
-means_same (Expr s) n w (Link r) = chains_same s n w r
+means_same (Expr s) n w (ChainLink r) = chains_same s n w r
 means_same (Expr s) n w (ChainEnd r) = end_same s n w r
 means_same (Expr s) n w (BothSides r) = tree_same s n w (both_sides_same n w r)
 means_same (Expr s) n w (ChosenIndexed r) = tree_same s n w (indexed_same s n w r)
@@ -650,7 +650,7 @@ reads (Expr s) n w (TestedBranch r) = (own_same n w r).read
 reads (Expr s) n w (SharedBranch r) = (held_same n w r).read
 reads (Expr s) n w (OptionalChain r) = chain_row_read s n w r
 reads (Expr s) n w (JoinedCall r) = (calls_same n w r).read
-reads (Expr s) n w (Link r) = chains_read s n w r
+reads (Expr s) n w (ChainLink r) = chains_read s n w r
 reads (Expr s) n w (ChainEnd r) = end_read s n w r
 reads (Expr s) n w (BothSides r) = (both_sides_same n w r).read
 reads (Expr s) n w (ChosenIndexed r) = (indexed_same s n w r).read

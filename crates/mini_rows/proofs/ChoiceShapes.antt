@@ -21,7 +21,7 @@ use Rattle.mini_model.specs.Paths.{append}
 use Rattle.mini_rows.specs.Lists.{sequence}
 use Rattle.mini_node.specs.Kinds.{computed_member}
 use Rattle.mini_rows.specs.Spellings.{binary, assignment}
-use Rattle.mini_rows.specs.Choices.{Key, Named, Spelled, Numbered, member_on, member_of, assign, joined, strictly, loosely, joining, asks_object, null_compared, held, ended, deciding, ChoiceRow, pair, argument, CallRow, Row13Both, LighterRow, OwnRow, HeldRow, ChosenRow, ChosenMemberRow, ChosenIndexedRow, Shorter, TestedBranch, SharedBranch, OptionalChain, JoinedCall, Link, ChainEnd, BothSides, ChosenIndexed, ZeroFirst, Rotated, Decided, Combined, NullishIfEqual, NullishIfUnequal, Chosen, LooseNull, LooseNullAfter, ObjectTest, ObjectTestAfter, CombinedMember, ChosenMember, DecidedLast, OrTest, AndTest, AndBoth, OrEither, LastAfterOr, LastAfterAnd, AndThenOr, OrThenAnd, Alike}
+use Rattle.mini_rows.specs.Choices.{Key, Named, Spelled, Numbered, member_on, member_of, assign, joined, strictly, loosely, joining, asks_object, null_compared, held, ended, deciding, ChoiceRow, pair, argument, CallRow, Row13Both, LighterRow, OwnRow, HeldRow, ChosenRow, ChosenMemberRow, ChosenIndexedRow, Shorter, TestedBranch, SharedBranch, OptionalChain, JoinedCall, ChainLink, ChainEnd, BothSides, ChosenIndexed, ZeroFirst, Rotated, Decided, Combined, NullishIfEqual, NullishIfUnequal, Chosen, LooseNull, LooseNullAfter, ObjectTest, ObjectTestAfter, CombinedMember, ChosenMember, DecidedLast, OrTest, AndTest, AndBoth, OrEither, LastAfterOr, LastAfterAnd, AndThenOr, OrThenAnd, Alike}
 use Rattle.mini_rows.proofs.ChainLinkLawful.{chains_fit, chains_asked, chains_slot}
 use Rattle.mini_rows.proofs.ChainEnds.{end_fits, end_asked, end_slot}
 use Rattle.mini_rows.proofs.ChainLawful.{chain_row_fits, chain_row_asked, chain_row_slot}
@@ -360,7 +360,7 @@ row_fits (Expr q) n w (TestedBranch r) strict s e = own_fits strict s n w r e
 row_fits (Expr q) n w (SharedBranch r) strict s e = held_fits strict s n w r e
 row_fits (Expr q) n w (OptionalChain r) strict s e = chain_row_fits q n w r strict s e
 row_fits (Expr q) n w (JoinedCall r) strict s e = called_fits strict s n w r e
-row_fits (Expr q) n w (Link r) strict s e = chains_fit q n w r strict s e
+row_fits (Expr q) n w (ChainLink r) strict s e = chains_fit q n w r strict s e
 row_fits (Expr q) n w (ChainEnd r) strict s e = end_fits q n w r strict s e
 row_fits (Expr q) n w (BothSides r) strict s e = both_sides_fit strict s n w r e
 row_fits (Expr q) n w (ChosenIndexed r) strict s e = chosen_indexed_fits strict s true q n w r e
@@ -373,7 +373,7 @@ row_asked (Expr q) n w (TestedBranch r) = choosing_asked (Expr q) n w (own_choos
 row_asked (Expr q) n w (SharedBranch r) = choosing_asked (Expr q) n w (held_choosing n w r)
 row_asked (Expr q) n w (OptionalChain r) = chain_row_asked q n w r
 row_asked (Expr q) n w (JoinedCall r) = choosing_asked (Expr q) n w (called_choosing n w r)
-row_asked (Expr q) n w (Link r) = chains_asked q n w r
+row_asked (Expr q) n w (ChainLink r) = chains_asked q n w r
 row_asked (Expr q) n w (ChainEnd r) = end_asked q n w r
 row_asked (Expr q) n w (BothSides r) = both_sides_asked (Expr q) n w r
 row_asked (Expr q) n w (ChosenIndexed r) = formed_asked (Expr q) n w (chosen_indexed_formed true q n w r)
@@ -386,7 +386,7 @@ row_slot (Expr q) n w (TestedBranch r) = formed_slot (Expr q) n n (chosen_formed
 row_slot (Expr q) n w (SharedBranch r) = formed_slot (Expr q) n n (chosen_formed n w (held_choosing n w r))
 row_slot (Expr q) n w (OptionalChain r) = chain_row_slot q n w r
 row_slot (Expr q) n w (JoinedCall r) = formed_slot (Expr q) n n (chosen_formed n w (called_choosing n w r))
-row_slot (Expr q) n w (Link r) = chains_slot q n w r
+row_slot (Expr q) n w (ChainLink r) = chains_slot q n w r
 row_slot (Expr q) n w (ChainEnd r) = end_slot q n w r
 row_slot (Expr q) n w (BothSides r) = formed_slot (Expr q) n n (both_sides_formed n w r)
 row_slot (Expr q) n w (ChosenIndexed r) = formed_slot (Expr q) n w (chosen_indexed_formed true q n w r)

@@ -20,7 +20,7 @@ use Rattle.mini_model.specs.Weight.{Outline, outline, outlines, weight, place_we
 use Rattle.mini_laws.specs.Weights.{Lightens}
 use Rattle.mini_laws.proofs.Seats.{placed, placed_node}
 use Rattle.mini_rows.specs.Spellings.{binary, assignment}
-use Rattle.mini_rows.specs.Choices.{Key, Named, Spelled, Numbered, member_on, keeps_parentheses, asks_object, null_compared, held, ended, assign, is_same_operator, is_grouped, joined, strictly, loosely, joining, AreNullish, deciding, computing, LighterRow, OwnRow, HeldRow, ChoiceRow, ChoiceContracts, ChoicesLighter, Shorter, TestedBranch, SharedBranch, OptionalChain, JoinedCall, Link, ChainEnd, BothSides, ChosenIndexed, ZeroFirst, Rotated, Decided, Combined, NullishIfEqual, NullishIfUnequal, Chosen, LooseNull, LooseNullAfter, ObjectTest, ObjectTestAfter, CombinedMember, ChosenMember, DecidedLast, OrTest, AndTest, AndBoth, OrEither, LastAfterOr, LastAfterAnd, AndThenOr, OrThenAnd, Alike}
+use Rattle.mini_rows.specs.Choices.{Key, Named, Spelled, Numbered, member_on, keeps_parentheses, asks_object, null_compared, held, ended, assign, is_same_operator, is_grouped, joined, strictly, loosely, joining, AreNullish, deciding, computing, LighterRow, OwnRow, HeldRow, ChoiceRow, ChoiceContracts, ChoicesLighter, Shorter, TestedBranch, SharedBranch, OptionalChain, JoinedCall, ChainLink, ChainEnd, BothSides, ChosenIndexed, ZeroFirst, Rotated, Decided, Combined, NullishIfEqual, NullishIfUnequal, Chosen, LooseNull, LooseNullAfter, ObjectTest, ObjectTestAfter, CombinedMember, ChosenMember, DecidedLast, OrTest, AndTest, AndBoth, OrEither, LastAfterOr, LastAfterAnd, AndThenOr, OrThenAnd, Alike}
 use Rattle.mini_rows.specs.Chains.{spine, chain, if_nullish}
 use Rattle.mini_terms.specs.Exact.{kept_by_value}
 use Rattle.mini_rows.proofs.ChainGuards.{kept_outline}
@@ -436,7 +436,7 @@ outline_by_row (Expr s) n w (Shorter r) = lighter_outline s n w r
 outline_by_row (Expr s) n w (TestedBranch r) = own_outline n w r
 outline_by_row (Expr s) n w (SharedBranch r) = held_outline n w r
 outline_by_row (Expr s) n w (JoinedCall r) = ap outline r.shape ∙ sym (ap outline r.written)
-outline_by_row (Expr s) n w (Link r) = chains_outline s n w r
+outline_by_row (Expr s) n w (ChainLink r) = chains_outline s n w r
 outline_by_row (Expr s) n w (ChainEnd r) = end_outline s n w r
 outline_by_row (Expr s) n w (BothSides r) = ap outline r.shape ∙ sym (ap outline r.written)
 outline_by_row (Expr s) n w (ChosenIndexed r) = ap outline r.shape ∙ sym (ap outline r.written)

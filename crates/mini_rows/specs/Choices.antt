@@ -498,7 +498,7 @@ pub data Choice (s : Seat) (n w : Tree) : Type 0 where
   SharedBranch : HeldRow n w → Choice s n w
   OptionalChain : Row46Chain s n w → Choice s n w
   JoinedCall : Row44 n w → Choice s n w
-  Link : ChainRow s n w → Choice s n w
+  ChainLink : ChainRow s n w → Choice s n w
   ChainEnd : EndRow n w → Choice s n w
   BothSides : Row13Both n w → Choice s n w
   ChosenIndexed : Row45Indexed s n w → Choice s n w
