@@ -24,7 +24,7 @@ use Rattle.mini_model.specs.declared.seat.Seat.{Seat}
 use Rattle.mini_node.specs.Children.{names_of}
 use Rattle.mini_rows.specs.Booleans.{digit}
 use Rattle.mini_rows.specs.Choices.{loosely}
-use Rattle.mini_rows.specs.Operands.{OperandRow, Row14, Row27, Row27Asked, Row27Enclosed, Row29, Row30, Row31, Row32, Row4, Row7, beside, is_undefined_name, told_by, zero_told}
+use Rattle.mini_rows.specs.Operands.{OperandRow, Row14, Row27, Row27Asked, Row27Enclosed, Row29, Row30, Row31, Row32, Row4, Row7, beside, is_undefined_name, told_by, zero_told, MiddleOperand, EmptyText, BooleanBesideTruth, TruthBesideValue, JoinedTexts, BitsBesideZero, BitsWithZero, WholeOrZero, ByOperator, ShiftAsked, ShiftEnclosed}
 use Rattle.mini_rows.specs.Spellings.{negated_digit, numeral, text}
 use Rattle.std.proofs.Common.{ap, inl, inr}
 use Rattle.std.specs.Prelude.{Bool, List, [], false, map, refl, true, ◌∷◌, ◌≡◌}
@@ -154,15 +154,15 @@ row7_again ρ s n w r = record {
 }
 
 pub operand_row_again : (ρ : Renaming) (p : Position) (n w : Tree) → OperandRow p n w → OperandRow p (again ρ n) (again ρ w)
-operand_row_again ρ (Expr s) n w (inl r) = inl (row14_again ρ s n w r)
-operand_row_again ρ (Expr s) n w (inr (inl r)) = inr (inl (row7_again ρ s n w r))
-operand_row_again ρ (Expr s) n w (inr (inr (inl r))) = inr (inr (inl (row29_again ρ s n w r)))
-operand_row_again ρ (Expr s) n w (inr (inr (inr (inl r)))) = inr (inr (inr (inl (row30_again ρ n w r))))
-operand_row_again ρ (Expr s) n w (inr (inr (inr (inr (inl r))))) = inr (inr (inr (inr (inl (row4_again ρ n w r)))))
-operand_row_again ρ (Expr s) n w (inr (inr (inr (inr (inr (inl r)))))) = inr (inr (inr (inr (inr (inl (row27_again ρ n w r))))))
-operand_row_again ρ (Expr s) n w (inr (inr (inr (inr (inr (inr (inl r))))))) = inr (inr (inr (inr (inr (inr (inl (row31_again ρ s n w r)))))))
-operand_row_again ρ (Expr s) n w (inr (inr (inr (inr (inr (inr (inr (inl r)))))))) = inr (inr (inr (inr (inr (inr (inr (inl (row32_again ρ n w r))))))))
-operand_row_again ρ (Expr s) n w (inr (inr (inr (inr (inr (inr (inr (inr (inl r))))))))) = inr (inr (inr (inr (inr (inr (inr (inr (inl (operator_row_again ρ s n w r)))))))))
-operand_row_again ρ (Expr s) n w (inr (inr (inr (inr (inr (inr (inr (inr (inr (inl r)))))))))) = inr (inr (inr (inr (inr (inr (inr (inr (inr (inl (row27_asked_again ρ s n w r))))))))))
-operand_row_again ρ (Expr s) n w (inr (inr (inr (inr (inr (inr (inr (inr (inr (inr r)))))))))) = inr (inr (inr (inr (inr (inr (inr (inr (inr (inr (row27_enclosed_again ρ s n w r))))))))))
+operand_row_again ρ (Expr s) n w (MiddleOperand r) = MiddleOperand (row14_again ρ s n w r)
+operand_row_again ρ (Expr s) n w (EmptyText r) = EmptyText (row7_again ρ s n w r)
+operand_row_again ρ (Expr s) n w (BooleanBesideTruth r) = BooleanBesideTruth (row29_again ρ s n w r)
+operand_row_again ρ (Expr s) n w (TruthBesideValue r) = TruthBesideValue (row30_again ρ n w r)
+operand_row_again ρ (Expr s) n w (JoinedTexts r) = JoinedTexts (row4_again ρ n w r)
+operand_row_again ρ (Expr s) n w (BitsBesideZero r) = BitsBesideZero (row27_again ρ n w r)
+operand_row_again ρ (Expr s) n w (BitsWithZero r) = BitsWithZero (row31_again ρ s n w r)
+operand_row_again ρ (Expr s) n w (WholeOrZero r) = WholeOrZero (row32_again ρ n w r)
+operand_row_again ρ (Expr s) n w (ByOperator r) = ByOperator (operator_row_again ρ s n w r)
+operand_row_again ρ (Expr s) n w (ShiftAsked r) = ShiftAsked (row27_asked_again ρ s n w r)
+operand_row_again ρ (Expr s) n w (ShiftEnclosed r) = ShiftEnclosed (row27_enclosed_again ρ s n w r)
 operand_row_again ρ p0 n w r = absurd r

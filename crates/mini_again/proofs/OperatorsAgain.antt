@@ -14,7 +14,7 @@ use Rattle.mini_model.specs.declared.operator.BinaryOperator.{BinaryOperator}
 use Rattle.mini_model.specs.declared.operator.UnaryOperator.TheVariants.{Typeof}
 use Rattle.mini_model.specs.declared.seat.Seat.{Seat}
 use Rattle.mini_rows.specs.Choices.{pair}
-use Rattle.mini_rows.specs.Operators.{OperatorRow, Row16, Row17, Row2, Row56Left, Row56Right, Row8, TypeRow, says_equal, with_number}
+use Rattle.mini_rows.specs.Operators.{OperatorRow, Row16, Row17, Row2, Row56Left, Row56Right, Row8, TypeRow, says_equal, with_number, Deleted, SameTypes, NeverType, LeftPlus, RightPlus, JoinedMasks}
 use Rattle.mini_rows.specs.Spellings.{binary, negated_digit}
 use Rattle.mini_terms.specs.Calculated.{operand_depth}
 use Rattle.mini_terms.specs.Folds.{is_effect_free}
@@ -98,9 +98,9 @@ row8_again ρ n w r = record {
 }
 
 pub operator_row_again : (ρ : Renaming) (s : Seat) (n w : Tree) → OperatorRow s n w → OperatorRow s (again ρ n) (again ρ w)
-operator_row_again ρ s n w (inl r) = inl (row2_again ρ n w r)
-operator_row_again ρ s n w (inr (inl r)) = inr (inl (row16_again ρ n w r))
-operator_row_again ρ s n w (inr (inr (inl r))) = inr (inr (inl (row17_again ρ n w r)))
-operator_row_again ρ s n w (inr (inr (inr (inl r)))) = inr (inr (inr (inl (row56_left_again ρ n w r))))
-operator_row_again ρ s n w (inr (inr (inr (inr (inl r))))) = inr (inr (inr (inr (inl (row56_right_again ρ n w r)))))
-operator_row_again ρ s n w (inr (inr (inr (inr (inr r))))) = inr (inr (inr (inr (inr (row8_again ρ n w r)))))
+operator_row_again ρ s n w (Deleted r) = Deleted (row2_again ρ n w r)
+operator_row_again ρ s n w (SameTypes r) = SameTypes (row16_again ρ n w r)
+operator_row_again ρ s n w (NeverType r) = NeverType (row17_again ρ n w r)
+operator_row_again ρ s n w (LeftPlus r) = LeftPlus (row56_left_again ρ n w r)
+operator_row_again ρ s n w (RightPlus r) = RightPlus (row56_right_again ρ n w r)
+operator_row_again ρ s n w (JoinedMasks r) = JoinedMasks (row8_again ρ n w r)

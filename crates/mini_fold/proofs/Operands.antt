@@ -25,9 +25,9 @@ use Rattle.mini_terms.specs.Parts.{takes_numbers, suits, leaves_nothing, weighs}
 use Rattle.mini_terms.specs.Reading.{is_unguarded, is_plain_part}
 use Rattle.mini_rows.specs.ChainLinks.{is_lone}
 use Rattle.mini_rows.specs.Choices.{loosely}
-use Rattle.mini_rows.specs.Operands.{encloses, beside, told_by, tail_text, is_bits, is_int32, is_shifted, keeps_bits, has_room, zero_told, Row14, Row7, Row4, Row27, Row27Asked, Row27Enclosed, Row31, Row32, OperandRow}
+use Rattle.mini_rows.specs.Operands.{encloses, beside, told_by, tail_text, is_bits, is_int32, is_shifted, keeps_bits, has_room, zero_told, Row14, Row7, Row4, Row27, Row27Asked, Row27Enclosed, Row31, Row32, OperandRow, MiddleOperand, EmptyText, BooleanBesideTruth, TruthBesideValue, JoinedTexts, BitsBesideZero, BitsWithZero, WholeOrZero, ByOperator, ShiftAsked, ShiftEnclosed}
 use Rattle.mini_rows.specs.Booleans.{digit, plus}
-use Rattle.mini_rows.specs.Operators.{is_bitwise, deleted, with_number, Row8, Row16, Row17, Row56Left, Row56Right, OperatorRow}
+use Rattle.mini_rows.specs.Operators.{is_bitwise, deleted, with_number, Row8, Row16, Row17, Row56Left, Row56Right, OperatorRow, Deleted, SameTypes, NeverType, LeftPlus, RightPlus, JoinedMasks}
 use Rattle.mini_rows.specs.Spellings.{negated_digit, numeral, text}
 use Rattle.mini_rows.proofs.OperandWeights.{lighter}
 use Rattle.mini_tree.specs.Rule.{Applied}
@@ -188,8 +188,8 @@ sum_row : (s : Seat) (n w a b : Tree) → n ≡ binary Addition a b → sum_writ
 sum_row s n w a b is e = go (text_written s a b) refl e
   where
     go : (c : Option Tree) → text_written s a b ≡ c → or_else c (joined_written a b) ≡ Some w → OperandRow (Expr s) n w
-    go (Some t) h f = inr (inl (texts_row s n w a b is (h ∙ f)))
-    go None h f = inr (inr (inr (inr (inl (joined_row n w a b is f)))))
+    go (Some t) h f = EmptyText (texts_row s n w a b is (h ∙ f))
+    go None h f = JoinedTexts (joined_row n w a b is f)
 
 -- what is written first, and what is where that is nothing
 module _ (s : Seat) (n : Tree) where
@@ -316,30 +316,30 @@ right_row : (s : Seat) (n : Tree) (equal c : Bool) (a : Tree) → n ≡ binary (
 right_row s n equal c a is = go (is_told s (same_boolean equal c) a) refl
   where
     go : (b : Bool) → is_told s (same_boolean equal c) a ≡ b → Reads s n (if b then told_by (same_boolean equal c) a else binary (loosely equal) a (digit c))
-    go true h = let (known, stays) = and_parts (is_boolean_kind (kind a)) (suits s (told_by (same_boolean equal c) a)) h in inr (inr (inl (record { equal = equal; truth = c; operand = a; known = boolean_kind (kind a) known; stays = stays; shape = is; written = refl })))
-    go false h = inr (inr (inr (inl (record { equal = equal; truth = c; on_right = true; operand = a; shape = is; written = refl }))))
+    go true h = let (known, stays) = and_parts (is_boolean_kind (kind a)) (suits s (told_by (same_boolean equal c) a)) h in BooleanBesideTruth (record { equal = equal; truth = c; operand = a; known = boolean_kind (kind a) known; stays = stays; shape = is; written = refl })
+    go false h = TruthBesideValue (record { equal = equal; truth = c; on_right = true; operand = a; shape = is; written = refl })
 
 others_row : (s : Seat) (n w : Tree) (equal : Bool) (a b : Tree) → n ≡ binary (loosely equal) a b → either_written s equal (truth_in b) a b ≡ Some w → Reads s n w
 others_row s n w equal a b is e = go (truth_in b) (truth_in a) refl refl e
   where
     go : (c d : Option Bool) → truth_in b ≡ c → truth_in a ≡ d → either_written s equal c a b ≡ Some w → Reads s n w
     go (Some c) d h k f = subst (Reads s n) (some_is (right_written s equal c a) w f) (right_row s n equal c a (is ∙ ap (binary (loosely equal) a) (truth_is b c h)))
-    go None (Some d) h k f = inr (inr (inr (inl (record { equal = equal; truth = d; on_right = false; operand = b; shape = is ∙ ap (λ t. binary (loosely equal) t b) (truth_is a d k); written = sym (some_is (binary (loosely equal) (digit d) b) w (sym (ap (λ o. left_written equal o b) k) ∙ f)) }))))
+    go None (Some d) h k f = TruthBesideValue (record { equal = equal; truth = d; on_right = false; operand = b; shape = is ∙ ap (λ t. binary (loosely equal) t b) (truth_is a d k); written = sym (some_is (binary (loosely equal) (digit d) b) w (sym (ap (λ o. left_written equal o b) k) ∙ f)) })
     go None None h k f = nothing (sym (ap (λ o. left_written equal o b) k) ∙ f)
 
 equal_row : (s : Seat) (n w : Tree) (equal : Bool) (a b : Tree) → n ≡ binary (loosely equal) a b → equal_written s equal a b ≡ Some w → Reads s n w
 equal_row s n w equal a b is e = go (tests_bits a b) refl e
   where
     enclosed : (c : Bool) → tests_enclosed s a b ≡ c → (if c then Some (zero_told equal a) else either_written s equal (truth_in b) a b) ≡ Some w → Reads s n w
-    enclosed true h f = inr (inr (inr (inr (inr (inr (inr (inr (inr (inr (subst (Row27Enclosed s n) (some_is (zero_told equal a) w f) (enclosed_row s n equal a b is h)))))))))))
+    enclosed true h f = ShiftEnclosed (subst (Row27Enclosed s n) (some_is (zero_told equal a) w f) (enclosed_row s n equal a b is h))
     enclosed false h f = others_row s n w equal a b is f
 
     shift : (c : Bool) → tests_shift s equal a b ≡ c → (if c then Some a else (if tests_enclosed s a b then Some (zero_told equal a) else either_written s equal (truth_in b) a b)) ≡ Some w → Reads s n w
-    shift true h f = inr (inr (inr (inr (inr (inr (inr (inr (inr (inl (subst (Row27Asked s n) (some_is a w f) (shift_row s n equal a b is h)))))))))))
+    shift true h f = ShiftAsked (subst (Row27Asked s n) (some_is a w f) (shift_row s n equal a b is h))
     shift false h f = enclosed (tests_enclosed s a b) refl f
 
     go : (c : Bool) → tests_bits a b ≡ c → (if c then Some (zero_told equal a) else (if tests_shift s equal a b then Some a else (if tests_enclosed s a b then Some (zero_told equal a) else either_written s equal (truth_in b) a b))) ≡ Some w → Reads s n w
-    go true h f = inr (inr (inr (inr (inr (inl (subst (Row27 n) (some_is (zero_told equal a) w f) (zero_row n equal a b is h)))))))
+    go true h f = BitsBesideZero (subst (Row27 n) (some_is (zero_told equal a) w f) (zero_row n equal a b is h))
     go false h f = shift (tests_shift s equal a b) refl f
 
 right_passes : (s : Seat) (equal c : Bool) (a : Tree) → is_some (written s (binary (loosely equal) a (negated_digit c))) ≡ true
@@ -424,16 +424,16 @@ operands_row : (s : Seat) (n w : Tree) (o : BinaryOperator) → n ≡ binary o (
 operands_row s n w Addition is e = sum_row s n w (part n 0) (part n 1) is e
 operands_row s n w Equality is e = equal_row s n w true (part n 0) (part n 1) is e
 operands_row s n w Inequality is e = equal_row s n w false (part n 0) (part n 1) is e
-operands_row s n w BitwiseOr is e = inr (inr (inr (inr (inr (inr (inr (inl (wholes_row n w (part n 0) (part n 1) is e))))))))
-operands_row s n w BitwiseAnd is e = inr (inr (inr (inr (inr (inr (inl (bits_row s n w BitwiseAnd refl (part n 0) (part n 1) is e)))))))
-operands_row s n w BitwiseXor is e = inr (inr (inr (inr (inr (inr (inl (bits_row s n w BitwiseXor refl (part n 0) (part n 1) is e)))))))
-operands_row s n w ShiftLeft is e = inr (inr (inr (inr (inr (inr (inl (kept_row s n w ShiftLeft true refl (part n 0) (part n 1) is e)))))))
-operands_row s n w ShiftRight is e = inr (inr (inr (inr (inr (inr (inl (kept_row s n w ShiftRight true refl (part n 0) (part n 1) is e)))))))
+operands_row s n w BitwiseOr is e = WholeOrZero (wholes_row n w (part n 0) (part n 1) is e)
+operands_row s n w BitwiseAnd is e = BitsWithZero (bits_row s n w BitwiseAnd refl (part n 0) (part n 1) is e)
+operands_row s n w BitwiseXor is e = BitsWithZero (bits_row s n w BitwiseXor refl (part n 0) (part n 1) is e)
+operands_row s n w ShiftLeft is e = BitsWithZero (kept_row s n w ShiftLeft true refl (part n 0) (part n 1) is e)
+operands_row s n w ShiftRight is e = BitsWithZero (kept_row s n w ShiftRight true refl (part n 0) (part n 1) is e)
 operands_row s n w o is e = nothing e
 
 -- of operators
 of_operator : (s : Seat) (n w : Tree) → OperatorRow s n w → OperandRow (Expr s) n w
-of_operator s n w r = inr (inr (inr (inr (inr (inr (inr (inr (inl r))))))))
+of_operator s n w r = ByOperator r
 
 binary_row : (s : Seat) (n w : Tree) (o : Option BinaryOperator) → binary_operator n ≡ o → binary_written s o n ≡ Some w → OperandRow (Expr s) n w
 binary_row s n w None h e = nothing e
@@ -447,31 +447,31 @@ written_is_row : (s : Seat) (n w : Tree) → written s n ≡ Some w → OperandR
 written_is_row s n w e = go (shape_of n) e
   where
     go : (h : Shape) → written_by h s n ≡ Some w → OperandRow (Expr s) n w
-    go (shape.LogicalExpression o) f = inl (logical_row s n w (logical_operator n) refl f)
+    go (shape.LogicalExpression o) f = MiddleOperand (logical_row s n w (logical_operator n) refl f)
     go (shape.BinaryExpression o) f = binary_row s n w (binary_operator n) refl f
-    go (shape.UnaryExpression o) f = of_operator s n w (inl (delete_row n w (unary_operator n) refl f))
+    go (shape.UnaryExpression o) f = of_operator s n w (Deleted (delete_row n w (unary_operator n) refl f))
     go h f = nothing f
 
-operator_passes : (s : Seat) (n w : Tree) → Row16 n w ⊎ (Row17 n w ⊎ (Row56Left n w ⊎ (Row56Right n w ⊎ Row8 n w))) → is_some (written s n) ≡ true
-operator_passes s n w (inl r) = ap (λ t. is_some (written s t)) r.shape ∙ same_there r.operator r.name r.equality (operands_written s r.operator (binary r.operator (unary Typeof (identifier r.name)) (unary Typeof (identifier r.name))))
-operator_passes s n w (inr (inl r)) = ap (λ t. is_some (written s t)) r.shape ∙ never_there r.operator r.operand r.right r.equality r.known r.effect_free r.dropped (operands_written s r.operator (binary r.operator (unary Typeof r.operand) r.right))
-operator_passes s n w (inr (inr (inl r))) = ap (λ t. is_some (written s t)) r.shape ∙ left_there r.operator r.operand r.right r.number r.numeric r.known (operands_written s r.operator (binary r.operator (plus r.operand) r.right))
-operator_passes s n w (inr (inr (inr (inl r)))) = ap (λ t. is_some (written s t)) r.shape ∙ right_there r.operator r.left r.operand r.numeric r.known (operands_written s r.operator (binary r.operator r.left (plus r.operand)))
-operator_passes s n w (inr (inr (inr (inr r)))) = ap (λ t. is_some (written s t)) r.shape ∙ masks_there r.operator r.on_right r.operand r.first r.second r.joined r.bitwise r.known r.short (operands_written s r.operator (binary r.operator (with_number r.operator r.on_right r.operand r.first) (numeral r.second)))
+operator_passes : (s : Seat) (n w : Tree) → OperatorRow s n w → is_some (written s n) ≡ true
+operator_passes s n w (Deleted r) = ap (λ t. is_some (written s t)) r.shape ∙ there (is_lone r.operand) (deleted r.operand) r.value
+operator_passes s n w (SameTypes r) = ap (λ t. is_some (written s t)) r.shape ∙ same_there r.operator r.name r.equality (operands_written s r.operator (binary r.operator (unary Typeof (identifier r.name)) (unary Typeof (identifier r.name))))
+operator_passes s n w (NeverType r) = ap (λ t. is_some (written s t)) r.shape ∙ never_there r.operator r.operand r.right r.equality r.known r.effect_free r.dropped (operands_written s r.operator (binary r.operator (unary Typeof r.operand) r.right))
+operator_passes s n w (LeftPlus r) = ap (λ t. is_some (written s t)) r.shape ∙ left_there r.operator r.operand r.right r.number r.numeric r.known (operands_written s r.operator (binary r.operator (plus r.operand) r.right))
+operator_passes s n w (RightPlus r) = ap (λ t. is_some (written s t)) r.shape ∙ right_there r.operator r.left r.operand r.numeric r.known (operands_written s r.operator (binary r.operator r.left (plus r.operand)))
+operator_passes s n w (JoinedMasks r) = ap (λ t. is_some (written s t)) r.shape ∙ masks_there r.operator r.on_right r.operand r.first r.second r.joined r.bitwise r.known r.short (operands_written s r.operator (binary r.operator (with_number r.operator r.on_right r.operand r.first) (numeral r.second)))
 
 passes : (s : Seat) (n w : Tree) → OperandRow (Expr s) n w → is_some (written s n) ≡ true
-passes s n w (inl r) = middle_passes s n w r
-passes s n w (inr (inl r)) = text_passes s n w r
-passes s n w (inr (inr (inl r))) = ap (λ t. is_some (written s t)) r.shape ∙ right_passes s r.equal r.truth r.operand
-passes s n w (inr (inr (inr (inl r)))) = ap (λ t. is_some (written s t)) r.shape ∙ beside_passes s r.equal r.truth r.on_right r.operand
-passes s n w (inr (inr (inr (inr (inl r))))) = joined_passes s n w r
-passes s n w (inr (inr (inr (inr (inr (inl r)))))) = ap (λ t. is_some (written s t)) r.shape ∙ zero_passes_as s r.equal r.operand r.known
-passes s n w (inr (inr (inr (inr (inr (inr (inl r))))))) = ap (λ t. is_some (written s t)) r.shape ∙ kept_passes s r.operator r.on_right r.number r.known r.sided r.seated r.operand
-passes s n w (inr (inr (inr (inr (inr (inr (inr (inl r)))))))) = ap (λ t. is_some (written s t)) r.shape ∙ whole_passes s r.on_right r.operand r.known
-passes s n w (inr (inr (inr (inr (inr (inr (inr (inr (inl (inl r)))))))))) = ap (λ t. is_some (written s t)) r.shape ∙ there (is_lone r.operand) (deleted r.operand) r.value
-passes s n w (inr (inr (inr (inr (inr (inr (inr (inr (inl (inr r)))))))))) = operator_passes s n w r
-passes s n w (inr (inr (inr (inr (inr (inr (inr (inr (inr (inl r)))))))))) = ap (λ t. is_some (written s t)) r.shape ∙ shift_passes s r.operand r.known r.asked
-passes s n w (inr (inr (inr (inr (inr (inr (inr (inr (inr (inr r)))))))))) = ap (λ t. is_some (written s t)) r.shape ∙ enclosed_passes s r.equal r.operand r.known r.seated
+passes s n w (MiddleOperand r) = middle_passes s n w r
+passes s n w (EmptyText r) = text_passes s n w r
+passes s n w (BooleanBesideTruth r) = ap (λ t. is_some (written s t)) r.shape ∙ right_passes s r.equal r.truth r.operand
+passes s n w (TruthBesideValue r) = ap (λ t. is_some (written s t)) r.shape ∙ beside_passes s r.equal r.truth r.on_right r.operand
+passes s n w (JoinedTexts r) = joined_passes s n w r
+passes s n w (BitsBesideZero r) = ap (λ t. is_some (written s t)) r.shape ∙ zero_passes_as s r.equal r.operand r.known
+passes s n w (BitsWithZero r) = ap (λ t. is_some (written s t)) r.shape ∙ kept_passes s r.operator r.on_right r.number r.known r.sided r.seated r.operand
+passes s n w (WholeOrZero r) = ap (λ t. is_some (written s t)) r.shape ∙ whole_passes s r.on_right r.operand r.known
+passes s n w (ByOperator r) = operator_passes s n w r
+passes s n w (ShiftAsked r) = ap (λ t. is_some (written s t)) r.shape ∙ shift_passes s r.operand r.known r.asked
+passes s n w (ShiftEnclosed r) = ap (λ t. is_some (written s t)) r.shape ∙ enclosed_passes s r.equal r.operand r.known r.seated
 
 unwritten_rests : (s : Seat) (n : Tree) → written s n ≡ None → Rests (Expr s) n
 unwritten_rests s n e w r = true≢false (sym (passes s n w r) ∙ ap is_some e)

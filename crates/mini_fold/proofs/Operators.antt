@@ -24,7 +24,7 @@ use Rattle.mini_terms.specs.Kind.{is_number, kind}
 use Rattle.mini_terms.specs.Parts.{leaves_nothing}
 use Rattle.mini_rows.specs.ChainLinks.{is_lone}
 use Rattle.mini_rows.specs.Booleans.{plus}
-use Rattle.mini_rows.specs.Operators.{deleted, says_equal, is_no_type, makes_numbers, is_bitwise, with_number, is_short, Row2, Row8, Row16, Row17, Row56Left, Row56Right, OperatorRow}
+use Rattle.mini_rows.specs.Operators.{deleted, says_equal, is_no_type, makes_numbers, is_bitwise, with_number, is_short, Row2, Row8, Row16, Row17, Row56Left, Row56Right, OperatorRow, SameTypes, NeverType, LeftPlus, RightPlus, JoinedMasks}
 use Rattle.mini_rows.specs.Spellings.{binary, negated_digit, numeral}
 use Rattle.mini_held.proofs.NeverEqual.{typeof_is, never_row}
 use Rattle.mini_fold.specs.FoldOperators.{delete_written, is_typeof, are_types_same, is_never_type, told_by, told, is_plus_by, is_plus, is_number_value, drops_left, drops_right, holds_bitwise, number_of, shortened, masked, with_mask, masks_written, mask_written, without_plus, boolean_or, operator_written}
@@ -69,8 +69,8 @@ told_row n o c is e = go (is_equality o) (are_types_same (part n 0) (part n 1)) 
     go false x y h k l f = nothing f
 
 of_told : (s : Seat) (n w : Tree) → Row16 n w ⊎ Row17 n w → OperatorRow s n w
-of_told s n w (inl r) = inr (inl r)
-of_told s n w (inr r) = inr (inr (inl r))
+of_told s n w (inl r) = SameTypes r
+of_told s n w (inr r) = NeverType r
 
 -- ---- 56
 
@@ -112,8 +112,8 @@ module _ (n : Tree) (o : BinaryOperator) (a b : Tree) (is : n ≡ binary o a b) 
       go false false h k f = inr f
 
 of_plus : (s : Seat) (n w : Tree) → Row56Left n w ⊎ Row56Right n w → OperatorRow s n w
-of_plus s n w (inl r) = inr (inr (inr (inl r)))
-of_plus s n w (inr r) = inr (inr (inr (inr (inl r))))
+of_plus s n w (inl r) = LeftPlus r
+of_plus s n w (inr r) = RightPlus r
 
 -- ---- 8
 
@@ -182,7 +182,7 @@ pub operator_or : (s : Seat) (n w : Tree) (o : BinaryOperator) (u : Option Tree)
 operator_or s n w o u is e = go (told o n) refl e
   where
     masks : Row8 n w ⊎ (u ≡ Some w) → OperatorRow s n w ⊎ (u ≡ Some w)
-    masks (inl r) = inl (inr (inr (inr (inr (inr r)))))
+    masks (inl r) = inl (JoinedMasks r)
     masks (inr f) = inr f
 
     last : (Row56Left n w ⊎ Row56Right n w) ⊎ (mask_written o (part n 0) (part n 1) u ≡ Some w) → OperatorRow s n w ⊎ (u ≡ Some w)

@@ -16,8 +16,8 @@ use Rattle.mini_terms.specs.Parts.{leaves_nothing}
 use Rattle.mini_rows.specs.Booleans.{digit, plus}
 use Rattle.mini_rows.specs.Choices.{loosely, pair}
 use Rattle.mini_laws.specs.Operators.{same_boolean}
-use Rattle.mini_rows.specs.Operands.{beside, told_by, is_int32, zero_told, Row14, Row4, OperandRow, OperandContracts}
-use Rattle.mini_rows.specs.Operators.{says_equal, with_number, TypeRow, OperatorRow}
+use Rattle.mini_rows.specs.Operands.{beside, told_by, is_int32, zero_told, Row14, Row4, OperandRow, OperandContracts, MiddleOperand, EmptyText, BooleanBesideTruth, TruthBesideValue, JoinedTexts, BitsBesideZero, BitsWithZero, WholeOrZero, ByOperator, ShiftAsked, ShiftEnclosed}
+use Rattle.mini_rows.specs.Operators.{says_equal, with_number, TypeRow, OperatorRow, Deleted, SameTypes, NeverType, LeftPlus, RightPlus, JoinedMasks}
 use Rattle.mini_rows.specs.Sketches.{Head, shape_by, is_expression_head, Unary, Binary, Logical, Sequence, Asked, AsValue}
 use Rattle.mini_rows.specs.Spellings.{binary, text, numeral, negated_digit}
 use Rattle.mini_rows.proofs.ArrangedValues.{is_value}
@@ -96,31 +96,31 @@ module _ (q : Seat) (n w : Tree) where
   type_less asked r = known_less r.operator (unary Typeof r.operand) r.right (not (says_equal r.operator)) r.shape r.written
 
   pub operator_less : OperatorRow q n w → LessAt (Expr q) n w
-  operator_less (inl r) = deleted_less r.operand (is_effect_free r.operand && leaves_nothing r.operand) r.shape r.written
-  operator_less (inr (inl r)) = known_less r.operator (unary Typeof (identifier r.name)) (unary Typeof (identifier r.name)) (says_equal r.operator) r.shape r.written
-  operator_less (inr (inr (inl r))) = type_less true r
-  operator_less (inr (inr (inr (inl r)))) =
+  operator_less (Deleted r) = deleted_less r.operand (is_effect_free r.operand && leaves_nothing r.operand) r.shape r.written
+  operator_less (SameTypes r) = known_less r.operator (unary Typeof (identifier r.name)) (unary Typeof (identifier r.name)) (says_equal r.operator) r.shape r.written
+  operator_less (NeverType r) = type_less true r
+  operator_less (LeftPlus r) =
       made_under q n w (Binary r.operator) (plus r.operand ▸ r.right ▸ none) refl r.shape tt (Binary r.operator) (r.operand ▸ r.right ▸ none) refl r.written (λ strict x k Q l y.
       let (first, last) = binary_parts Q l r.operator (plus r.operand) r.right (subst (Q AsValue) r.shape y) in
       subst (Q AsValue) (sym r.written) (a_binary Q l r.operator r.operand r.right (unary_part Q l UnaryPlus r.operand first) last))
-  operator_less (inr (inr (inr (inr (inl r))))) =
+  operator_less (RightPlus r) =
       made_under q n w (Binary r.operator) (r.left ▸ plus r.operand ▸ none) refl r.shape tt (Binary r.operator) (r.left ▸ r.operand ▸ none) refl r.written (λ strict x k Q l y.
       let (first, last) = binary_parts Q l r.operator r.left (plus r.operand) (subst (Q AsValue) r.shape y) in
       subst (Q AsValue) (sym r.written) (a_binary Q l r.operator r.left r.operand first (unary_part Q l UnaryPlus r.operand last)))
-  operator_less (inr (inr (inr (inr (inr r))))) = masked_less r.operator r.on_right r.operand r.first r.second r.joined r.shape r.written
+  operator_less (JoinedMasks r) = masked_less r.operator r.on_right r.operand r.first r.second r.joined r.shape r.written
 
   row_here : OperandRow (Expr q) n w → LessAt (Expr q) n w
-  row_here (inl r) = middle_less r
-  row_here (inr (inl r)) = beside_less Addition r.on_right r.operand (text []) r.shape r.written (suited q r.operand w r.written r.stays)
-  row_here (inr (inr (inl r))) = told_less (same_boolean r.equal r.truth) (loosely r.equal) r.operand (negated_digit r.truth) r.shape r.written (suited q (told_by (same_boolean r.equal r.truth) r.operand) w r.written r.stays)
-  row_here (inr (inr (inr (inl r)))) = counted_less (loosely r.equal) r.on_right r.truth r.operand (negated_digit r.truth) r.shape r.written
-  row_here (inr (inr (inr (inr (inl r))))) = added_less r
-  row_here (inr (inr (inr (inr (inr (inl r)))))) = zero_less r.equal (loosely r.equal) r.operand (digit false) r.shape r.written
-  row_here (inr (inr (inr (inr (inr (inr (inl r))))))) = beside_made r.operator r.on_right r.operand (numeral r.number) r.shape (Binary BitwiseOr) (r.operand ▸ digit false ▸ none) refl r.written (λ Q l y. a_binary Q l BitwiseOr r.operand (digit false) y (a_digit Q l false))
-  row_here (inr (inr (inr (inr (inr (inr (inr (inl r)))))))) = beside_less BitwiseOr r.on_right r.operand (digit false) r.shape r.written (λ i. ap is_eval_callee r.written ∙ int32_called r.operand r.known)
-  row_here (inr (inr (inr (inr (inr (inr (inr (inr (inl r))))))))) = operator_less r
-  row_here (inr (inr (inr (inr (inr (inr (inr (inr (inr (inl r)))))))))) = beside_less (loosely false) true r.operand (digit false) r.shape r.written (asked_truth q w r.asked)
-  row_here (inr (inr (inr (inr (inr (inr (inr (inr (inr (inr r)))))))))) = zero_less r.equal (loosely r.equal) r.operand (digit false) r.shape r.written
+  row_here (MiddleOperand r) = middle_less r
+  row_here (EmptyText r) = beside_less Addition r.on_right r.operand (text []) r.shape r.written (suited q r.operand w r.written r.stays)
+  row_here (BooleanBesideTruth r) = told_less (same_boolean r.equal r.truth) (loosely r.equal) r.operand (negated_digit r.truth) r.shape r.written (suited q (told_by (same_boolean r.equal r.truth) r.operand) w r.written r.stays)
+  row_here (TruthBesideValue r) = counted_less (loosely r.equal) r.on_right r.truth r.operand (negated_digit r.truth) r.shape r.written
+  row_here (JoinedTexts r) = added_less r
+  row_here (BitsBesideZero r) = zero_less r.equal (loosely r.equal) r.operand (digit false) r.shape r.written
+  row_here (BitsWithZero r) = beside_made r.operator r.on_right r.operand (numeral r.number) r.shape (Binary BitwiseOr) (r.operand ▸ digit false ▸ none) refl r.written (λ Q l y. a_binary Q l BitwiseOr r.operand (digit false) y (a_digit Q l false))
+  row_here (WholeOrZero r) = beside_less BitwiseOr r.on_right r.operand (digit false) r.shape r.written (λ i. ap is_eval_callee r.written ∙ int32_called r.operand r.known)
+  row_here (ByOperator r) = operator_less r
+  row_here (ShiftAsked r) = beside_less (loosely false) true r.operand (digit false) r.shape r.written (asked_truth q w r.asked)
+  row_here (ShiftEnclosed r) = zero_less r.equal (loosely r.equal) r.operand (digit false) r.shape r.written
 
 row_less : (p : Position) (n w : Tree) → OperandRow p n w → LessAt p n w
 row_less (Expr q) n w r = row_here q n w r

@@ -23,7 +23,7 @@ use Rattle.mini_terms.specs.Parts.{suits}
 use Rattle.mini_rows.specs.Arranged.{KeptAt}
 use Rattle.mini_rows.specs.Booleans.{digit}
 use Rattle.mini_rows.specs.Choices.{loosely}
-use Rattle.mini_rows.specs.Operands.{beside, told_by, zero_told, Row14, OperandRow, OperandContracts}
+use Rattle.mini_rows.specs.Operands.{beside, told_by, zero_told, Row14, OperandRow, OperandContracts, MiddleOperand, EmptyText, BooleanBesideTruth, TruthBesideValue, JoinedTexts, BitsBesideZero, BitsWithZero, WholeOrZero, ByOperator, ShiftAsked, ShiftEnclosed}
 use Rattle.mini_rows.specs.Sketches.{Null, Number, String, Unary, Binary, Logical, Sketch, part, under, end, ◌▹◌}
 use Rattle.mini_rows.specs.Spellings.{binary, negated_digit, numeral, text}
 use Rattle.mini_rows.proofs.ArrangedExpressions.{expressions_arranged, expressions_arranged_freely}
@@ -100,17 +100,17 @@ zero_kept true a q n w e f = expressions_arranged (record { trees = a ▸ none; 
 zero_kept false a q n w e f = expressions_arranged (record { trees = a ▸ none; lists = [] }) (of_two (loosely false) true (a_digit false)) (under (Unary LogicalNot) (under (Unary LogicalNot) (part 0 ▹ end) ▹ end)) refl q n w e f
 
 kept : (p : Position) (n w : Tree) → OperandRow p n w → KeptAt p n w
-kept (Expr q) n w (inl r) = middle_kept q n w r
-kept (Expr q) n w (inr (inl r)) = text_kept r.on_right r.operand q n w r.shape r.written
-kept (Expr q) n w (inr (inr (inl r))) = told_kept r.equal r.truth r.operand q n w r.shape r.written
-kept (Expr q) n w (inr (inr (inr (inl r)))) = counted_kept (loosely r.equal) r.on_right r.truth r.operand q n w r.shape r.written
-kept (Expr q) n w (inr (inr (inr (inr (inl r))))) = joined_kept r.left r.before r.tail r.after (tail_form r.tail r.after r.known) q n w r.shape r.written
-kept (Expr q) n w (inr (inr (inr (inr (inr (inl r)))))) = zero_kept r.equal r.operand q n w r.shape r.written
-kept (Expr q) n w (inr (inr (inr (inr (inr (inr (inl r))))))) = kept_bits_kept r.operator r.on_right r.number r.operand q n w r.shape r.written
-kept (Expr q) n w (inr (inr (inr (inr (inr (inr (inr (inl r)))))))) = whole_kept r.on_right r.operand q n w r.shape r.written
-kept (Expr q) n w (inr (inr (inr (inr (inr (inr (inr (inr (inl r))))))))) = operator_kept q n w r
-kept (Expr q) n w (inr (inr (inr (inr (inr (inr (inr (inr (inr (inr r)))))))))) = zero_kept r.equal r.operand q n w r.shape r.written
-kept (Expr q) n w (inr (inr (inr (inr (inr (inr (inr (inr (inr (inl r)))))))))) = expressions_arranged (record { trees = r.operand ▸ none; lists = [] }) (of_two (loosely false) true (a_digit false)) (part 0) refl q n w r.shape r.written
+kept (Expr q) n w (MiddleOperand r) = middle_kept q n w r
+kept (Expr q) n w (EmptyText r) = text_kept r.on_right r.operand q n w r.shape r.written
+kept (Expr q) n w (BooleanBesideTruth r) = told_kept r.equal r.truth r.operand q n w r.shape r.written
+kept (Expr q) n w (TruthBesideValue r) = counted_kept (loosely r.equal) r.on_right r.truth r.operand q n w r.shape r.written
+kept (Expr q) n w (JoinedTexts r) = joined_kept r.left r.before r.tail r.after (tail_form r.tail r.after r.known) q n w r.shape r.written
+kept (Expr q) n w (BitsBesideZero r) = zero_kept r.equal r.operand q n w r.shape r.written
+kept (Expr q) n w (BitsWithZero r) = kept_bits_kept r.operator r.on_right r.number r.operand q n w r.shape r.written
+kept (Expr q) n w (WholeOrZero r) = whole_kept r.on_right r.operand q n w r.shape r.written
+kept (Expr q) n w (ByOperator r) = operator_kept q n w r
+kept (Expr q) n w (ShiftEnclosed r) = zero_kept r.equal r.operand q n w r.shape r.written
+kept (Expr q) n w (ShiftAsked r) = expressions_arranged (record { trees = r.operand ▸ none; lists = [] }) (of_two (loosely false) true (a_digit false)) (part 0) refl q n w r.shape r.written
 kept p n w r = absurd r
 
 places : (p : Position) (n w : Tree) → OperandRow p n w → is_rewritten_place p ≡ true
@@ -157,37 +157,37 @@ module _ (strict : Bool) (s : Slot) where
 
   -- what is written, where an expression is taken
   stood : (p : Position) (n w : Tree) → OperandRow p n w → fits strict s n ≡ true → TakesExpression s × Fits w
-  stood (Expr q) n w (inl r) e =
+  stood (Expr q) n w (MiddleOperand r) e =
       let (takes, first, last) = operands strict s r.operator (logical r.operator r.left r.middle) r.right (subst (λ t. fits strict s t ≡ true) r.shape e) in
       let (within, left, middle) = operands strict expression r.operator r.left r.middle first in
       (takes, subst Fits (sym r.written) (two_fit strict r.left r.right left last))
-  stood (Expr q) n w (inr (inl r)) e =
+  stood (Expr q) n w (EmptyText r) e =
       let (takes, fit) = beside_at Addition r.on_right r.operand (text []) (subst (λ t. fits strict s t ≡ true) r.shape e) in
       (takes, subst Fits (sym r.written) fit)
-  stood (Expr q) n w (inr (inr (inl r))) e =
+  stood (Expr q) n w (BooleanBesideTruth r) e =
       let (takes, fit) = beside_at (loosely r.equal) true r.operand (negated_digit r.truth) (subst (λ t. fits strict s t ≡ true) r.shape e) in
       (takes, subst Fits (sym r.written) (told_fits (same_boolean r.equal r.truth) r.operand fit))
-  stood (Expr q) n w (inr (inr (inr (inl r)))) e =
+  stood (Expr q) n w (TruthBesideValue r) e =
       let (takes, fit) = beside_at (loosely r.equal) r.on_right r.operand (negated_digit r.truth) (subst (λ t. fits strict s t ≡ true) r.shape e) in
       (takes, subst Fits (sym r.written) (beside_fits (loosely r.equal) r.on_right r.operand (digit r.truth) fit (digit_fits r.truth)))
-  stood (Expr q) n w (inr (inr (inr (inr (inl r))))) e =
+  stood (Expr q) n w (JoinedTexts r) e =
       let (takes, (sum, tail)) = binary_at strict Addition (binary Addition r.left (text r.before)) r.tail s (subst (λ t. fits strict s t ≡ true) r.shape e) in
       let (within, (left, before)) = binary_at strict Addition r.left (text r.before) expression sum in
       (takes, subst Fits (sym r.written) (two_fit strict r.left (text (r.before ++ r.after)) left (text_fits (r.before ++ r.after) (is_paired_joined r.before r.after (text_paired r.before before) (tail_paired r.tail r.after (tail_form r.tail r.after r.known) tail)))))
-  stood (Expr q) n w (inr (inr (inr (inr (inr (inr (inl r))))))) e =
+  stood (Expr q) n w (BitsWithZero r) e =
       let (takes, fit) = beside_at r.operator r.on_right r.operand (numeral r.number) (subst (λ t. fits strict s t ≡ true) r.shape e) in
       (takes, subst Fits (sym r.written) (beside_fits BitwiseOr true r.operand (digit false) fit (digit_fits false)))
-  stood (Expr q) n w (inr (inr (inr (inr (inr (inr (inr (inl r)))))))) e =
+  stood (Expr q) n w (WholeOrZero r) e =
       let (takes, fit) = beside_at BitwiseOr r.on_right r.operand (digit false) (subst (λ t. fits strict s t ≡ true) r.shape e) in
       (takes, subst Fits (sym r.written) fit)
-  stood (Expr q) n w (inr (inr (inr (inr (inr (inl r)))))) e =
+  stood (Expr q) n w (BitsBesideZero r) e =
       let (takes, fit) = beside_at (loosely r.equal) true r.operand (digit false) (subst (λ t. fits strict s t ≡ true) r.shape e) in
       (takes, subst Fits (sym r.written) (zero_fits r.equal r.operand fit))
-  stood (Expr q) n w (inr (inr (inr (inr (inr (inr (inr (inr (inl r))))))))) e = operator_stood strict s q n w r e
-  stood (Expr q) n w (inr (inr (inr (inr (inr (inr (inr (inr (inr (inr r)))))))))) e =
+  stood (Expr q) n w (ByOperator r) e = operator_stood strict s q n w r e
+  stood (Expr q) n w (ShiftEnclosed r) e =
       let (takes, fit) = beside_at (loosely r.equal) true r.operand (digit false) (subst (λ t. fits strict s t ≡ true) r.shape e) in
       (takes, subst Fits (sym r.written) (zero_fits r.equal r.operand fit))
-  stood (Expr q) n w (inr (inr (inr (inr (inr (inr (inr (inr (inr (inl r)))))))))) e =
+  stood (Expr q) n w (ShiftAsked r) e =
       let (takes, fit) = beside_at (loosely false) true r.operand (digit false) (subst (λ t. fits strict s t ≡ true) r.shape e) in
       (takes, subst Fits (sym r.written) fit)
   stood p n w r e = absurd r
@@ -307,17 +307,17 @@ asked_by : (q : Seat) (n w a b : Tree) → n ≡ a → w ≡ b → AskedAlike (E
 asked_by q n w a b e f h = subst (λ t. AskedAlike (Expr q) t w) (sym e) (subst (AskedAlike (Expr q) a) (sym f) h)
 
 row_asked : (p : Position) (n w : Tree) → OperandRow p n w → AskedAlike p n w
-row_asked (Expr q) n w (inl r) = middle_asked q n w r
-row_asked (Expr q) n w (inr (inl r)) = asked_by q n w _ _ r.shape r.written (beside_asked q Addition r.on_right r.operand (text []) r.operand r.stays)
-row_asked (Expr q) n w (inr (inr (inl r))) = asked_by q n w _ _ r.shape r.written (beside_asked q (loosely r.equal) true r.operand (negated_digit r.truth) (told_by (same_boolean r.equal r.truth) r.operand) r.stays)
-row_asked (Expr q) n w (inr (inr (inr (inl r)))) = asked_by q n w _ _ r.shape r.written (both_asked q (loosely r.equal) r.on_right r.operand (negated_digit r.truth) (digit r.truth))
-row_asked (Expr q) n w (inr (inr (inr (inr (inl r))))) = asked_by q n w _ _ r.shape r.written (joined_asked q Addition Addition (binary Addition r.left (text r.before)) r.tail r.left (text (r.before ++ r.after)))
-row_asked (Expr q) n w (inr (inr (inr (inr (inr (inr (inl r))))))) = asked_by q n w _ _ r.shape r.written (bits_asked q r.operator r.on_right r.operand (numeral r.number))
-row_asked (Expr q) n w (inr (inr (inr (inr (inr (inr (inr (inl r)))))))) = asked_by q n w _ _ r.shape r.written (whole_asked q r.on_right r.operand (int32_form r.operand r.known))
-row_asked (Expr q) n w (inr (inr (inr (inr (inr (inl r)))))) = asked_by q n w _ _ r.shape r.written (zero_asked q (loosely r.equal) r.equal r.operand (digit false))
-row_asked (Expr q) n w (inr (inr (inr (inr (inr (inr (inr (inr (inl r))))))))) = operator_asked q n w r
-row_asked (Expr q) n w (inr (inr (inr (inr (inr (inr (inr (inr (inr (inr r)))))))))) = asked_by q n w _ _ r.shape r.written (zero_asked q (loosely r.equal) r.equal r.operand (digit false))
-row_asked (Expr q) n w (inr (inr (inr (inr (inr (inr (inr (inr (inr (inl r)))))))))) = asked_by q n w _ _ r.shape r.written (shifted_asked q r.operand (digit false) (shifted_form r.operand r.known))
+row_asked (Expr q) n w (MiddleOperand r) = middle_asked q n w r
+row_asked (Expr q) n w (EmptyText r) = asked_by q n w _ _ r.shape r.written (beside_asked q Addition r.on_right r.operand (text []) r.operand r.stays)
+row_asked (Expr q) n w (BooleanBesideTruth r) = asked_by q n w _ _ r.shape r.written (beside_asked q (loosely r.equal) true r.operand (negated_digit r.truth) (told_by (same_boolean r.equal r.truth) r.operand) r.stays)
+row_asked (Expr q) n w (TruthBesideValue r) = asked_by q n w _ _ r.shape r.written (both_asked q (loosely r.equal) r.on_right r.operand (negated_digit r.truth) (digit r.truth))
+row_asked (Expr q) n w (JoinedTexts r) = asked_by q n w _ _ r.shape r.written (joined_asked q Addition Addition (binary Addition r.left (text r.before)) r.tail r.left (text (r.before ++ r.after)))
+row_asked (Expr q) n w (BitsWithZero r) = asked_by q n w _ _ r.shape r.written (bits_asked q r.operator r.on_right r.operand (numeral r.number))
+row_asked (Expr q) n w (WholeOrZero r) = asked_by q n w _ _ r.shape r.written (whole_asked q r.on_right r.operand (int32_form r.operand r.known))
+row_asked (Expr q) n w (BitsBesideZero r) = asked_by q n w _ _ r.shape r.written (zero_asked q (loosely r.equal) r.equal r.operand (digit false))
+row_asked (Expr q) n w (ByOperator r) = operator_asked q n w r
+row_asked (Expr q) n w (ShiftEnclosed r) = asked_by q n w _ _ r.shape r.written (zero_asked q (loosely r.equal) r.equal r.operand (digit false))
+row_asked (Expr q) n w (ShiftAsked r) = asked_by q n w _ _ r.shape r.written (shifted_asked q r.operand (digit false) (shifted_form r.operand r.known))
 row_asked p n w r = absurd r
 
 pub operands_lawful : Lawful OperandContracts

@@ -43,7 +43,7 @@ use Rattle.mini_terms.proofs.Reading.{same_in_seat}
 use Rattle.mini_rows.specs.Booleans.{digit}
 use Rattle.mini_rows.specs.Choices.{loosely}
 use Rattle.mini_rows.specs.Folding.{Row13}
-use Rattle.mini_rows.specs.Operands.{is_shifted, beside, told_by, is_bits, keeps_bits, zero_told, Row14, Row7, Row29, OperandRow, OperandContracts}
+use Rattle.mini_rows.specs.Operands.{is_shifted, beside, told_by, is_bits, keeps_bits, zero_told, Row14, Row7, Row29, OperandRow, OperandContracts, MiddleOperand, EmptyText, BooleanBesideTruth, TruthBesideValue, JoinedTexts, BitsBesideZero, BitsWithZero, WholeOrZero, ByOperator, ShiftAsked, ShiftEnclosed}
 use Rattle.mini_rows.specs.Spellings.{binary, negated_digit, numeral, text}
 use Rattle.mini_rows.proofs.BooleanMeaning.{then_same, asked_truth}
 use Rattle.mini_rows.proofs.ChoiceMeaning.{rotated_same}
@@ -539,17 +539,17 @@ int32_beside false t h = same_after (binary BitwiseOr (digit false) t) (binary B
 -- ---- all
 
 row_same : (p : Position) (n w : Tree) → OperandRow p n w → SameAt p n w
-row_same (Expr s) n w (inl r) = middle_same s n w r
-row_same (Expr s) n w (inr (inl r)) = text_same s n w r
-row_same (Expr s) n w (inr (inr (inl r))) = equal_same s n w r
-row_same (Expr s) n w (inr (inr (inr (inl r)))) = tree_same s n w (same_by n w _ _ r.shape r.written (counted_alike r.equal r.truth r.on_right r.operand))
-row_same (Expr s) n w (inr (inr (inr (inr (inl r))))) = tree_same s n w (same_by n w _ _ r.shape r.written (joined_alike r.left r.before r.tail r.after (tail_form r.tail r.after r.known)))
-row_same (Expr s) n w (inr (inr (inr (inr (inr (inl r)))))) = tree_same s n w (same_by n w _ _ r.shape r.written (zero_alike r.equal r.operand r.known))
-row_same (Expr s) n w (inr (inr (inr (inr (inr (inr (inl r))))))) = tree_same s n w (same_by n w _ _ r.shape r.written (kept_beside r.operator r.on_right r.sided r.number r.known r.operand))
-row_same (Expr s) n w (inr (inr (inr (inr (inr (inr (inr (inl r)))))))) = tree_same s n w (same_by n w _ _ r.shape r.written (int32_beside r.on_right r.operand (int32_form r.operand r.known)))
-row_same (Expr s) n w (inr (inr (inr (inr (inr (inr (inr (inr (inl r))))))))) = operator_same s n w r
-row_same (Expr s) n w (inr (inr (inr (inr (inr (inr (inr (inr (inr (inr r)))))))))) = tree_same s n w (same_by n w _ _ r.shape r.written (enclosed_alike r.equal r.operand r.known))
-row_same (Expr s) n w (inr (inr (inr (inr (inr (inr (inr (inr (inr (inl r)))))))))) = same_by_shape s n w r.shape r.written (shift_same s r.operand (shifted_number r.operand r.known) r.asked)
+row_same (Expr s) n w (MiddleOperand r) = middle_same s n w r
+row_same (Expr s) n w (EmptyText r) = text_same s n w r
+row_same (Expr s) n w (BooleanBesideTruth r) = equal_same s n w r
+row_same (Expr s) n w (TruthBesideValue r) = tree_same s n w (same_by n w _ _ r.shape r.written (counted_alike r.equal r.truth r.on_right r.operand))
+row_same (Expr s) n w (JoinedTexts r) = tree_same s n w (same_by n w _ _ r.shape r.written (joined_alike r.left r.before r.tail r.after (tail_form r.tail r.after r.known)))
+row_same (Expr s) n w (BitsBesideZero r) = tree_same s n w (same_by n w _ _ r.shape r.written (zero_alike r.equal r.operand r.known))
+row_same (Expr s) n w (BitsWithZero r) = tree_same s n w (same_by n w _ _ r.shape r.written (kept_beside r.operator r.on_right r.sided r.number r.known r.operand))
+row_same (Expr s) n w (WholeOrZero r) = tree_same s n w (same_by n w _ _ r.shape r.written (int32_beside r.on_right r.operand (int32_form r.operand r.known)))
+row_same (Expr s) n w (ByOperator r) = operator_same s n w r
+row_same (Expr s) n w (ShiftEnclosed r) = tree_same s n w (same_by n w _ _ r.shape r.written (enclosed_alike r.equal r.operand r.known))
+row_same (Expr s) n w (ShiftAsked r) = same_by_shape s n w r.shape r.written (shift_same s r.operand (shifted_number r.operand r.known) r.asked)
 row_same p n w r = absurd r
 
 beside_read : (o : BinaryOperator) (b : Bool) (a k t : Tree) → is_plain_part t ≡ true → summary (beside o b a k) ≡ summary t
@@ -557,17 +557,17 @@ beside_read o true a k t h = sym (plain_read t h)
 beside_read o false a k t h = sym (plain_read t h)
 
 row_read : (p : Position) (n w : Tree) → OperandRow p n w → summary n ≡ summary w
-row_read (Expr s) n w (inl r) = ap summary r.shape ∙ sym (ap summary r.written)
-row_read (Expr s) n w (inr (inl r)) = ap summary r.shape ∙ beside_read Addition r.on_right r.operand (text []) r.operand (plain_of s r.operand r.stays) ∙ sym (ap summary r.written)
-row_read (Expr s) n w (inr (inr (inl r))) = let t : Tree = told_by (same_boolean r.equal r.truth) r.operand in ap summary r.shape ∙ beside_read (loosely r.equal) true r.operand (negated_digit r.truth) t (plain_of s t r.stays) ∙ sym (ap summary r.written)
-row_read (Expr s) n w (inr (inr (inr (inl r)))) = ap summary r.shape ∙ (counted_alike r.equal r.truth r.on_right r.operand).read ∙ sym (ap summary r.written)
-row_read (Expr s) n w (inr (inr (inr (inr (inl r))))) = ap summary r.shape ∙ (joined_alike r.left r.before r.tail r.after (tail_form r.tail r.after r.known)).read ∙ sym (ap summary r.written)
-row_read (Expr s) n w (inr (inr (inr (inr (inr (inl r)))))) = ap summary r.shape ∙ (zero_alike r.equal r.operand r.known).read ∙ sym (ap summary r.written)
-row_read (Expr s) n w (inr (inr (inr (inr (inr (inr (inl r))))))) = ap summary r.shape ∙ (kept_beside r.operator r.on_right r.sided r.number r.known r.operand).read ∙ sym (ap summary r.written)
-row_read (Expr s) n w (inr (inr (inr (inr (inr (inr (inr (inl r)))))))) = ap summary r.shape ∙ (int32_beside r.on_right r.operand (int32_form r.operand r.known)).read ∙ sym (ap summary r.written)
-row_read (Expr s) n w (inr (inr (inr (inr (inr (inr (inr (inr (inl r))))))))) = operator_read s n w r
-row_read (Expr s) n w (inr (inr (inr (inr (inr (inr (inr (inr (inr (inr r)))))))))) = ap summary r.shape ∙ (enclosed_alike r.equal r.operand r.known).read ∙ sym (ap summary r.written)
-row_read (Expr s) n w (inr (inr (inr (inr (inr (inr (inr (inr (inr (inl r)))))))))) = ap summary r.shape ∙ beside_read (loosely false) true r.operand (digit false) r.operand (shifted_plain r.operand (shifted_form r.operand r.known)) ∙ sym (ap summary r.written)
+row_read (Expr s) n w (MiddleOperand r) = ap summary r.shape ∙ sym (ap summary r.written)
+row_read (Expr s) n w (EmptyText r) = ap summary r.shape ∙ beside_read Addition r.on_right r.operand (text []) r.operand (plain_of s r.operand r.stays) ∙ sym (ap summary r.written)
+row_read (Expr s) n w (BooleanBesideTruth r) = let t : Tree = told_by (same_boolean r.equal r.truth) r.operand in ap summary r.shape ∙ beside_read (loosely r.equal) true r.operand (negated_digit r.truth) t (plain_of s t r.stays) ∙ sym (ap summary r.written)
+row_read (Expr s) n w (TruthBesideValue r) = ap summary r.shape ∙ (counted_alike r.equal r.truth r.on_right r.operand).read ∙ sym (ap summary r.written)
+row_read (Expr s) n w (JoinedTexts r) = ap summary r.shape ∙ (joined_alike r.left r.before r.tail r.after (tail_form r.tail r.after r.known)).read ∙ sym (ap summary r.written)
+row_read (Expr s) n w (BitsBesideZero r) = ap summary r.shape ∙ (zero_alike r.equal r.operand r.known).read ∙ sym (ap summary r.written)
+row_read (Expr s) n w (BitsWithZero r) = ap summary r.shape ∙ (kept_beside r.operator r.on_right r.sided r.number r.known r.operand).read ∙ sym (ap summary r.written)
+row_read (Expr s) n w (WholeOrZero r) = ap summary r.shape ∙ (int32_beside r.on_right r.operand (int32_form r.operand r.known)).read ∙ sym (ap summary r.written)
+row_read (Expr s) n w (ByOperator r) = operator_read s n w r
+row_read (Expr s) n w (ShiftEnclosed r) = ap summary r.shape ∙ (enclosed_alike r.equal r.operand r.known).read ∙ sym (ap summary r.written)
+row_read (Expr s) n w (ShiftAsked r) = ap summary r.shape ∙ beside_read (loosely false) true r.operand (digit false) r.operand (shifted_plain r.operand (shifted_form r.operand r.known)) ∙ sym (ap summary r.written)
 row_read p n w r = absurd r
 
 pub operands_same : MeansSame OperandContracts

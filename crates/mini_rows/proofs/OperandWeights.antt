@@ -28,7 +28,7 @@ use Rattle.mini_terms.specs.Reading.{is_plain_part}
 use Rattle.mini_rows.specs.Booleans.{digit}
 use Rattle.mini_rows.specs.Choices.{loosely}
 use Rattle.mini_rows.specs.Operators.{is_bitwise}
-use Rattle.mini_rows.specs.Operands.{encloses, beside, told_by, keeps_bits, has_room, zero_told, OperandRow, OperandContracts, OperandsLighter}
+use Rattle.mini_rows.specs.Operands.{encloses, beside, told_by, keeps_bits, has_room, zero_told, OperandRow, OperandContracts, OperandsLighter, MiddleOperand, EmptyText, BooleanBesideTruth, TruthBesideValue, JoinedTexts, BitsBesideZero, BitsWithZero, WholeOrZero, ByOperator, ShiftAsked, ShiftEnclosed}
 use Rattle.mini_rows.specs.Spellings.{binary, negated_digit, numeral, text}
 use Rattle.mini_rows.proofs.BooleanWeights.{digit_falls}
 use Rattle.mini_rows.proofs.FoldMeaning.{plain_of}
@@ -269,17 +269,17 @@ enclosed_falls false s a e h =
 -- ---- all
 
 pub lighter : OperandsLighter
-lighter (Expr s) n w (inl r) = falls_by (Expr s) n w _ _ r.shape r.written (middle_falls r.operator r.tells s r.left r.middle r.right r.heavy)
-lighter (Expr s) n w (inr (inl r)) = falls_by (Expr s) n w _ _ r.shape r.written (text_falls r.on_right s r.operand (plain_of s r.operand r.stays))
-lighter (Expr s) n w (inr (inr (inl r))) = falls_by (Expr s) n w _ _ r.shape r.written (told_falls r.equal r.truth s r.operand (plain_inside (same_boolean r.equal r.truth) r.operand (plain_of s (told_by (same_boolean r.equal r.truth) r.operand) r.stays)))
-lighter (Expr s) n w (inr (inr (inr (inl r)))) = falls_by (Expr s) n w _ _ r.shape r.written (counted_falls r.equal r.truth r.on_right s r.operand)
-lighter (Expr s) n w (inr (inr (inr (inr (inl r))))) = falls_by (Expr s) n w _ _ r.shape r.written (joined_falls s r.left r.before r.tail r.after (tail_form r.tail r.after r.known))
-lighter (Expr s) n w (inr (inr (inr (inr (inr (inl r)))))) = falls_by (Expr s) n w _ _ r.shape r.written (zero_falls r.equal s r.operand (bits_form r.operand r.known))
-lighter (Expr s) n w (inr (inr (inr (inr (inr (inr (inl r))))))) = falls_by (Expr s) n w _ _ r.shape r.written (beside_falls r.operator r.on_right r.number r.known r.sided s r.seated r.operand)
-lighter (Expr s) n w (inr (inr (inr (inr (inr (inr (inr (inl r)))))))) = falls_by (Expr s) n w _ _ r.shape r.written (whole_falls r.on_right s r.operand (int32_form r.operand r.known))
-lighter (Expr s) n w (inr (inr (inr (inr (inr (inr (inr (inr (inl r))))))))) = operator_lighter s n w r
-lighter (Expr s) n w (inr (inr (inr (inr (inr (inr (inr (inr (inr (inr r)))))))))) = falls_by (Expr s) n w _ _ r.shape r.written (enclosed_falls r.equal s r.operand r.seated (shifted_form r.operand r.known))
-lighter (Expr s) n w (inr (inr (inr (inr (inr (inr (inr (inr (inr (inl r)))))))))) = falls_by (Expr s) n w _ _ r.shape r.written (shifted_falls s r.operand (shifted_form r.operand r.known))
+lighter (Expr s) n w (MiddleOperand r) = falls_by (Expr s) n w _ _ r.shape r.written (middle_falls r.operator r.tells s r.left r.middle r.right r.heavy)
+lighter (Expr s) n w (EmptyText r) = falls_by (Expr s) n w _ _ r.shape r.written (text_falls r.on_right s r.operand (plain_of s r.operand r.stays))
+lighter (Expr s) n w (BooleanBesideTruth r) = falls_by (Expr s) n w _ _ r.shape r.written (told_falls r.equal r.truth s r.operand (plain_inside (same_boolean r.equal r.truth) r.operand (plain_of s (told_by (same_boolean r.equal r.truth) r.operand) r.stays)))
+lighter (Expr s) n w (TruthBesideValue r) = falls_by (Expr s) n w _ _ r.shape r.written (counted_falls r.equal r.truth r.on_right s r.operand)
+lighter (Expr s) n w (JoinedTexts r) = falls_by (Expr s) n w _ _ r.shape r.written (joined_falls s r.left r.before r.tail r.after (tail_form r.tail r.after r.known))
+lighter (Expr s) n w (BitsBesideZero r) = falls_by (Expr s) n w _ _ r.shape r.written (zero_falls r.equal s r.operand (bits_form r.operand r.known))
+lighter (Expr s) n w (BitsWithZero r) = falls_by (Expr s) n w _ _ r.shape r.written (beside_falls r.operator r.on_right r.number r.known r.sided s r.seated r.operand)
+lighter (Expr s) n w (WholeOrZero r) = falls_by (Expr s) n w _ _ r.shape r.written (whole_falls r.on_right s r.operand (int32_form r.operand r.known))
+lighter (Expr s) n w (ByOperator r) = operator_lighter s n w r
+lighter (Expr s) n w (ShiftEnclosed r) = falls_by (Expr s) n w _ _ r.shape r.written (enclosed_falls r.equal s r.operand r.seated (shifted_form r.operand r.known))
+lighter (Expr s) n w (ShiftAsked r) = falls_by (Expr s) n w _ _ r.shape r.written (shifted_falls s r.operand (shifted_form r.operand r.known))
 lighter p n w r = absurd r
 
 -- what a parent's weight reads of them
@@ -345,17 +345,17 @@ shifted_no_zero : (t : Tree) → Shifted t → (outline t).is_zero ≡ false
 shifted_no_zero t (shifts o h is) = ap (λ x. (outline x).is_zero) is
 
 alike : (p : Position) (n w : Tree) → OperandRow p n w → ReadAlike n w
-alike (Expr s) n w (inl r) = whole_alike n w (ap outline r.shape ∙ sym (ap outline r.written))
-alike (Expr s) n w (inr (inl r)) = left_alike n w Addition r.on_right r.operand (text []) r.operand r.shape r.written (plain_of s r.operand r.stays) (text_not_zero r.operand r.known)
-alike (Expr s) n w (inr (inr (inl r))) = let t : Tree = told_by (same_boolean r.equal r.truth) r.operand in left_alike n w (loosely r.equal) true r.operand (negated_digit r.truth) t r.shape r.written (plain_of s t r.stays) (told_not_zero (same_boolean r.equal r.truth) r.operand r.known)
-alike (Expr s) n w (inr (inr (inr (inl r)))) = whole_alike n w (ap outline r.shape ∙ beside_outline (loosely r.equal) r.on_right r.operand (negated_digit r.truth) (digit r.truth) ∙ sym (ap outline r.written))
-alike (Expr s) n w (inr (inr (inr (inr (inl r))))) = whole_alike n w (ap outline r.shape ∙ sym (ap outline r.written))
-alike (Expr s) n w (inr (inr (inr (inr (inr (inl r)))))) = left_alike n w (loosely r.equal) true r.operand (digit false) (zero_told r.equal r.operand) r.shape r.written (zero_plain r.equal r.operand (bits_plain r.operand r.known)) (zero_is_none r.equal r.operand)
-alike (Expr s) n w (inr (inr (inr (inr (inr (inr (inl r))))))) = left_alike n w r.operator r.on_right r.operand (numeral r.number) (binary BitwiseOr r.operand (digit false)) r.shape r.written refl refl
-alike (Expr s) n w (inr (inr (inr (inr (inr (inr (inr (inl r)))))))) = let form = int32_form r.operand r.known in left_alike n w BitwiseOr r.on_right r.operand (digit false) r.operand r.shape r.written (int32_plain r.operand form) (int32_no_zero r.operand form)
-alike (Expr s) n w (inr (inr (inr (inr (inr (inr (inr (inr (inl r))))))))) = whole_alike n w (operator_outline s n w r)
-alike (Expr s) n w (inr (inr (inr (inr (inr (inr (inr (inr (inr (inr r)))))))))) = left_alike n w (loosely r.equal) true r.operand (digit false) (zero_told r.equal r.operand) r.shape r.written (zero_plain r.equal r.operand (shifted_plain r.operand (shifted_form r.operand r.known))) (zero_is_none r.equal r.operand)
-alike (Expr s) n w (inr (inr (inr (inr (inr (inr (inr (inr (inr (inl r)))))))))) = let form = shifted_form r.operand r.known in left_alike n w (loosely false) true r.operand (digit false) r.operand r.shape r.written (shifted_plain r.operand form) (shifted_no_zero r.operand form)
+alike (Expr s) n w (MiddleOperand r) = whole_alike n w (ap outline r.shape ∙ sym (ap outline r.written))
+alike (Expr s) n w (EmptyText r) = left_alike n w Addition r.on_right r.operand (text []) r.operand r.shape r.written (plain_of s r.operand r.stays) (text_not_zero r.operand r.known)
+alike (Expr s) n w (BooleanBesideTruth r) = let t : Tree = told_by (same_boolean r.equal r.truth) r.operand in left_alike n w (loosely r.equal) true r.operand (negated_digit r.truth) t r.shape r.written (plain_of s t r.stays) (told_not_zero (same_boolean r.equal r.truth) r.operand r.known)
+alike (Expr s) n w (TruthBesideValue r) = whole_alike n w (ap outline r.shape ∙ beside_outline (loosely r.equal) r.on_right r.operand (negated_digit r.truth) (digit r.truth) ∙ sym (ap outline r.written))
+alike (Expr s) n w (JoinedTexts r) = whole_alike n w (ap outline r.shape ∙ sym (ap outline r.written))
+alike (Expr s) n w (BitsBesideZero r) = left_alike n w (loosely r.equal) true r.operand (digit false) (zero_told r.equal r.operand) r.shape r.written (zero_plain r.equal r.operand (bits_plain r.operand r.known)) (zero_is_none r.equal r.operand)
+alike (Expr s) n w (BitsWithZero r) = left_alike n w r.operator r.on_right r.operand (numeral r.number) (binary BitwiseOr r.operand (digit false)) r.shape r.written refl refl
+alike (Expr s) n w (WholeOrZero r) = let form = int32_form r.operand r.known in left_alike n w BitwiseOr r.on_right r.operand (digit false) r.operand r.shape r.written (int32_plain r.operand form) (int32_no_zero r.operand form)
+alike (Expr s) n w (ByOperator r) = whole_alike n w (operator_outline s n w r)
+alike (Expr s) n w (ShiftEnclosed r) = left_alike n w (loosely r.equal) true r.operand (digit false) (zero_told r.equal r.operand) r.shape r.written (zero_plain r.equal r.operand (shifted_plain r.operand (shifted_form r.operand r.known))) (zero_is_none r.equal r.operand)
+alike (Expr s) n w (ShiftAsked r) = let form = shifted_form r.operand r.known in left_alike n w (loosely false) true r.operand (digit false) r.operand r.shape r.written (shifted_plain r.operand form) (shifted_no_zero r.operand form)
 alike p n w r = absurd r
 
 no_items : (p : Position) (n w : Tree) → OperandRow p n w → counts_items p ≡ true → (outline n).items ≡ (outline w).items

@@ -18,7 +18,7 @@ use Rattle.mini_terms.specs.Parts.{leaves_nothing}
 use Rattle.mini_rows.specs.Arranged.{KeptAt, Vanishes}
 use Rattle.mini_rows.specs.Booleans.{plus}
 use Rattle.mini_rows.specs.Choices.{pair}
-use Rattle.mini_rows.specs.Operators.{deleted, says_equal, with_number, OperatorRow, TypeRow}
+use Rattle.mini_rows.specs.Operators.{deleted, says_equal, with_number, OperatorRow, TypeRow, Deleted, SameTypes, NeverType, LeftPlus, RightPlus, JoinedMasks}
 use Rattle.mini_rows.specs.Sketches.{Number as NumberHead, Unary, Binary, Sequence, Sketch, part, under, list, end, ◌▹◌, no_items, item, Free}
 use Rattle.mini_rows.specs.Spellings.{binary, negated_digit, numeral}
 use Rattle.mini_rows.proofs.ArrangedExpressions.{expressions_arranged, expressions_arranged_freely}
@@ -63,12 +63,12 @@ masked_kept o true a c d r q n w e f = expressions_arranged (record { trees = a 
 masked_kept o false a c d r q n w e f = expressions_arranged (record { trees = a ▸ none; lists = [] }) (under (Binary o) (under (Binary o) (under (NumberHead c) end ▹ part 0 ▹ end) ▹ under (NumberHead d) end ▹ end)) (under (Binary o) (part 0 ▹ under (NumberHead r) end ▹ end)) refl q n w e f
 
 pub operator_kept : (q : Seat) (n w : Tree) → OperatorRow q n w → KeptAt (Expr q) n w
-operator_kept q n w (inl r) = deleted_kept r.operand q n w r.shape r.written
-operator_kept q n w (inr (inl r)) = types_kept r.operator r.name q n w r.shape r.written
-operator_kept q n w (inr (inr (inl r))) = type_kept true q n w r
-operator_kept q n w (inr (inr (inr (inl r)))) = expressions_arranged (record { trees = r.operand ▸ r.right ▸ none; lists = [] }) (under (Binary r.operator) (under (Unary UnaryPlus) (part 0 ▹ end) ▹ part 1 ▹ end)) (under (Binary r.operator) (part 0 ▹ part 1 ▹ end)) refl q n w r.shape r.written
-operator_kept q n w (inr (inr (inr (inr (inr r))))) = masked_kept r.operator r.on_right r.operand r.first r.second r.joined q n w r.shape r.written
-operator_kept q n w (inr (inr (inr (inr (inl r))))) = expressions_arranged (record { trees = r.left ▸ r.operand ▸ none; lists = [] }) (under (Binary r.operator) (part 0 ▹ under (Unary UnaryPlus) (part 1 ▹ end) ▹ end)) (under (Binary r.operator) (part 0 ▹ part 1 ▹ end)) refl q n w r.shape r.written
+operator_kept q n w (Deleted r) = deleted_kept r.operand q n w r.shape r.written
+operator_kept q n w (SameTypes r) = types_kept r.operator r.name q n w r.shape r.written
+operator_kept q n w (NeverType r) = type_kept true q n w r
+operator_kept q n w (LeftPlus r) = expressions_arranged (record { trees = r.operand ▸ r.right ▸ none; lists = [] }) (under (Binary r.operator) (under (Unary UnaryPlus) (part 0 ▹ end) ▹ part 1 ▹ end)) (under (Binary r.operator) (part 0 ▹ part 1 ▹ end)) refl q n w r.shape r.written
+operator_kept q n w (JoinedMasks r) = masked_kept r.operator r.on_right r.operand r.first r.second r.joined q n w r.shape r.written
+operator_kept q n w (RightPlus r) = expressions_arranged (record { trees = r.left ▸ r.operand ▸ none; lists = [] }) (under (Binary r.operator) (part 0 ▹ under (Unary UnaryPlus) (part 1 ▹ end) ▹ end)) (under (Binary r.operator) (part 0 ▹ part 1 ▹ end)) refl q n w r.shape r.written
 
 -- ---- where they stand
 
@@ -97,22 +97,22 @@ module _ (strict : Bool) (s : Slot) where
 
   -- what is written, where an expression is taken
   pub operator_stood : (q : Seat) (n w : Tree) → OperatorRow q n w → fits strict s n ≡ true → TakesExpression s × Fits w
-  operator_stood q n w (inl r) e =
+  operator_stood q n w (Deleted r) e =
       let (takes, fit) = unary_at strict Delete r.operand s (subst (λ t. fits strict s t ≡ true) r.shape e) in
       (takes, subst Fits (sym r.written) (deleted_fits r.operand fit))
-  operator_stood q n w (inr (inl r)) e =
+  operator_stood q n w (SameTypes r) e =
       let (takes, both) = binary_at strict r.operator (unary Typeof (identifier r.name)) (unary Typeof (identifier r.name)) s (subst (λ t. fits strict s t ≡ true) r.shape e) in
       (takes, subst Fits (sym r.written) (boolean_fits (says_equal r.operator)))
-  operator_stood q n w (inr (inr (inl r))) e =
+  operator_stood q n w (NeverType r) e =
       let (takes, both) = binary_at strict r.operator (unary Typeof r.operand) r.right s (subst (λ t. fits strict s t ≡ true) r.shape e) in
       (takes, subst Fits (sym r.written) (boolean_fits (not (says_equal r.operator))))
-  operator_stood q n w (inr (inr (inr (inl r)))) e =
+  operator_stood q n w (LeftPlus r) e =
       let (takes, (first, second)) = binary_at strict r.operator (plus r.operand) r.right s (subst (λ t. fits strict s t ≡ true) r.shape e) in
       (takes, subst Fits (sym r.written) (two_fit strict r.operand r.right (of_plus r.operand first) second))
-  operator_stood q n w (inr (inr (inr (inr (inr r))))) e =
+  operator_stood q n w (JoinedMasks r) e =
       let (takes, (first, second)) = binary_at strict r.operator (with_number r.operator r.on_right r.operand r.first) (numeral r.second) s (subst (λ t. fits strict s t ≡ true) r.shape e) in
       (takes, subst Fits (sym r.written) (two_fit strict r.operand (numeral r.joined) (of_number r.operator r.on_right r.operand r.first first) (lit_fits strict (Number r.joined) (numeral r.joined) refl (numbers_written r.operator r.first r.second (Number r.joined) r.known))))
-  operator_stood q n w (inr (inr (inr (inr (inl r))))) e =
+  operator_stood q n w (RightPlus r) e =
       let (takes, (first, second)) = binary_at strict r.operator r.left (plus r.operand) s (subst (λ t. fits strict s t ≡ true) r.shape e) in
       (takes, subst Fits (sym r.written) (two_fit strict r.left r.operand first (of_plus r.operand second)))
 
@@ -171,9 +171,9 @@ asked_by : (q : Seat) (n w a b : Tree) → n ≡ a → w ≡ b → AskedAlike (E
 asked_by q n w a b e f h = subst (λ t. AskedAlike (Expr q) t w) (sym e) (subst (AskedAlike (Expr q) a) (sym f) h)
 
 pub operator_asked : (q : Seat) (n w : Tree) → OperatorRow q n w → AskedAlike (Expr q) n w
-operator_asked q n w (inl r) = asked_by q n w _ _ r.shape r.written (deleted_asked q r.operand r.operand)
-operator_asked q n w (inr (inl r)) = asked_by q n w _ _ r.shape r.written (told_asked q r.operator (unary Typeof (identifier r.name)) (unary Typeof (identifier r.name)) (says_equal r.operator))
-operator_asked q n w (inr (inr (inl r))) = asked_by q n w _ _ r.shape r.written (told_asked q r.operator (unary Typeof r.operand) r.right (not (says_equal r.operator)))
-operator_asked q n w (inr (inr (inr (inl r)))) = asked_by q n w _ _ r.shape r.written (binary_asked q r.operator (plus r.operand) r.right r.operand r.right)
-operator_asked q n w (inr (inr (inr (inr (inr r))))) = asked_by q n w _ _ r.shape r.written (binary_asked q r.operator (with_number r.operator r.on_right r.operand r.first) (numeral r.second) r.operand (numeral r.joined))
-operator_asked q n w (inr (inr (inr (inr (inl r))))) = asked_by q n w _ _ r.shape r.written (binary_asked q r.operator r.left (plus r.operand) r.left r.operand)
+operator_asked q n w (Deleted r) = asked_by q n w _ _ r.shape r.written (deleted_asked q r.operand r.operand)
+operator_asked q n w (SameTypes r) = asked_by q n w _ _ r.shape r.written (told_asked q r.operator (unary Typeof (identifier r.name)) (unary Typeof (identifier r.name)) (says_equal r.operator))
+operator_asked q n w (NeverType r) = asked_by q n w _ _ r.shape r.written (told_asked q r.operator (unary Typeof r.operand) r.right (not (says_equal r.operator)))
+operator_asked q n w (LeftPlus r) = asked_by q n w _ _ r.shape r.written (binary_asked q r.operator (plus r.operand) r.right r.operand r.right)
+operator_asked q n w (JoinedMasks r) = asked_by q n w _ _ r.shape r.written (binary_asked q r.operator (with_number r.operator r.on_right r.operand r.first) (numeral r.second) r.operand (numeral r.joined))
+operator_asked q n w (RightPlus r) = asked_by q n w _ _ r.shape r.written (binary_asked q r.operator r.left (plus r.operand) r.left r.operand)

@@ -50,7 +50,7 @@ use Rattle.mini_terms.proofs.Opened.{after}
 use Rattle.mini_terms.proofs.Reading.{same_in_seat}
 use Rattle.mini_rows.specs.Booleans.{plus}
 use Rattle.mini_rows.specs.Choices.{pair}
-use Rattle.mini_rows.specs.Operators.{deleted, says_equal, is_type_text, is_other_kind, is_no_type_by, is_no_type, makes_numbers, is_bitwise, with_number, OperatorRow}
+use Rattle.mini_rows.specs.Operators.{deleted, says_equal, is_type_text, is_other_kind, is_no_type_by, is_no_type, makes_numbers, is_bitwise, with_number, OperatorRow, Deleted, SameTypes, NeverType, LeftPlus, RightPlus, JoinedMasks}
 use Rattle.mini_rows.specs.Spellings.{binary, negated_digit, numeral, text}
 use Rattle.mini_rows.proofs.ChoiceRuns.{value, binary_value, binary_names, sides, pair_value, bind_free, numeric_free, made_free}
 use Rattle.mini_rows.proofs.FoldMeaning.{plain_read}
@@ -575,17 +575,17 @@ same_by_parts : (s : Seat) (n w t u : Tree) → n ≡ t → w ≡ u → SameAt (
 same_by_parts s n w t u e f h = subst (λ x. SameAt (Expr s) x w) (sym e) (subst (SameAt (Expr s) t) (sym f) h)
 
 pub operator_same : (s : Seat) (n w : Tree) → OperatorRow s n w → SameAt (Expr s) n w
-operator_same s n w (inl r) = same_by_parts s n w _ _ r.shape r.written (delete_same s r.operand r.value)
-operator_same s n w (inr (inl r)) = same_by_parts s n w _ _ r.shape r.written (boolean_same s _ (says_equal r.operator) refl (types_same r.operator r.equality r.name))
-operator_same s n w (inr (inr (inl r))) = same_by_parts s n w _ _ r.shape r.written (boolean_same s _ (not (says_equal r.operator)) refl (type_differs r.operator r.equality r.operand r.right r.known r.effect_free))
-operator_same s n w (inr (inr (inr (inl r)))) = tree_same s n w (same_by n w _ _ r.shape r.written (left_alike r.operator r.numeric r.operand r.right r.number r.known))
-operator_same s n w (inr (inr (inr (inr (inl r))))) = tree_same s n w (same_by n w _ _ r.shape r.written (right_alike r.operator r.numeric r.left r.operand r.known))
-operator_same s n w (inr (inr (inr (inr (inr r))))) = tree_same s n w (same_by n w _ _ r.shape r.written (masked_alike r.operator r.bitwise r.on_right r.operand r.first r.second r.joined r.known))
+operator_same s n w (Deleted r) = same_by_parts s n w _ _ r.shape r.written (delete_same s r.operand r.value)
+operator_same s n w (SameTypes r) = same_by_parts s n w _ _ r.shape r.written (boolean_same s _ (says_equal r.operator) refl (types_same r.operator r.equality r.name))
+operator_same s n w (NeverType r) = same_by_parts s n w _ _ r.shape r.written (boolean_same s _ (not (says_equal r.operator)) refl (type_differs r.operator r.equality r.operand r.right r.known r.effect_free))
+operator_same s n w (LeftPlus r) = tree_same s n w (same_by n w _ _ r.shape r.written (left_alike r.operator r.numeric r.operand r.right r.number r.known))
+operator_same s n w (RightPlus r) = tree_same s n w (same_by n w _ _ r.shape r.written (right_alike r.operator r.numeric r.left r.operand r.known))
+operator_same s n w (JoinedMasks r) = tree_same s n w (same_by n w _ _ r.shape r.written (masked_alike r.operator r.bitwise r.on_right r.operand r.first r.second r.joined r.known))
 
 pub operator_read : (s : Seat) (n w : Tree) → OperatorRow s n w → summary n ≡ summary w
-operator_read s n w (inl r) = ap summary r.shape ∙ delete_read r.operand ∙ sym (ap summary r.written)
-operator_read s n w (inr (inl r)) = ap summary r.shape ∙ sym (ap summary r.written ∙ plain_read (negated_digit (says_equal r.operator)) (boolean_read (says_equal r.operator)))
-operator_read s n w (inr (inr (inl r))) = ap summary r.shape ∙ sym (ap summary r.written ∙ plain_read (negated_digit (not (says_equal r.operator))) (boolean_read (not (says_equal r.operator))))
-operator_read s n w (inr (inr (inr (inl r)))) = ap summary r.shape ∙ (left_alike r.operator r.numeric r.operand r.right r.number r.known).read ∙ sym (ap summary r.written)
-operator_read s n w (inr (inr (inr (inr (inl r))))) = ap summary r.shape ∙ (right_alike r.operator r.numeric r.left r.operand r.known).read ∙ sym (ap summary r.written)
-operator_read s n w (inr (inr (inr (inr (inr r))))) = ap summary r.shape ∙ (masked_alike r.operator r.bitwise r.on_right r.operand r.first r.second r.joined r.known).read ∙ sym (ap summary r.written)
+operator_read s n w (Deleted r) = ap summary r.shape ∙ delete_read r.operand ∙ sym (ap summary r.written)
+operator_read s n w (SameTypes r) = ap summary r.shape ∙ sym (ap summary r.written ∙ plain_read (negated_digit (says_equal r.operator)) (boolean_read (says_equal r.operator)))
+operator_read s n w (NeverType r) = ap summary r.shape ∙ sym (ap summary r.written ∙ plain_read (negated_digit (not (says_equal r.operator))) (boolean_read (not (says_equal r.operator))))
+operator_read s n w (LeftPlus r) = ap summary r.shape ∙ (left_alike r.operator r.numeric r.operand r.right r.number r.known).read ∙ sym (ap summary r.written)
+operator_read s n w (RightPlus r) = ap summary r.shape ∙ (right_alike r.operator r.numeric r.left r.operand r.known).read ∙ sym (ap summary r.written)
+operator_read s n w (JoinedMasks r) = ap summary r.shape ∙ (masked_alike r.operator r.bitwise r.on_right r.operand r.first r.second r.joined r.known).read ∙ sym (ap summary r.written)

@@ -20,7 +20,7 @@ use Rattle.mini_terms.specs.Folds.{is_effect_free}
 use Rattle.mini_terms.specs.Parts.{leaves_nothing}
 use Rattle.mini_rows.specs.Booleans.{plus}
 use Rattle.mini_rows.specs.Choices.{pair}
-use Rattle.mini_rows.specs.Operators.{deleted, says_equal, makes_numbers, is_bitwise, with_number, is_short, OperatorRow}
+use Rattle.mini_rows.specs.Operators.{deleted, says_equal, makes_numbers, is_bitwise, with_number, is_short, OperatorRow, Deleted, SameTypes, NeverType, LeftPlus, RightPlus, JoinedMasks}
 use Rattle.mini_rows.specs.Spellings.{binary, negated_digit, numeral}
 use Rattle.mini_rows.proofs.ListWeights.{sequence_weighs}
 use Rattle.mini_rows.proofs.SpellWeights.{falls_by, inside}
@@ -149,12 +149,12 @@ masked_falls s o e b a c d r h = absurd (true≢false (sym e))
 -- ---- all
 
 pub operator_lighter : (s : Seat) (n w : Tree) → OperatorRow s n w → weight (Expr s) w < weight (Expr s) n
-operator_lighter s n w (inl r) = falls_by (Expr s) n w _ _ r.shape r.written (deleted_falls s r.operand (is_effect_free r.operand && leaves_nothing r.operand))
-operator_lighter s n w (inr (inl r)) = falls_by (Expr s) n w _ _ r.shape r.written (boolean_falls s r.operator r.equality (identifier r.name) (unary Typeof (identifier r.name)) (says_equal r.operator))
-operator_lighter s n w (inr (inr (inl r))) = falls_by (Expr s) n w _ _ r.shape r.written (boolean_falls s r.operator r.equality r.operand r.right (not (says_equal r.operator)))
-operator_lighter s n w (inr (inr (inr (inl r)))) = falls_by (Expr s) n w _ _ r.shape r.written (left_falls s r.operator r.numeric r.operand r.right)
-operator_lighter s n w (inr (inr (inr (inr (inl r))))) = falls_by (Expr s) n w _ _ r.shape r.written (right_falls s r.operator r.numeric r.left r.operand)
-operator_lighter s n w (inr (inr (inr (inr (inr r))))) = falls_by (Expr s) n w _ _ r.shape r.written (masked_falls s r.operator r.bitwise r.on_right r.operand r.first r.second r.joined r.short)
+operator_lighter s n w (Deleted r) = falls_by (Expr s) n w _ _ r.shape r.written (deleted_falls s r.operand (is_effect_free r.operand && leaves_nothing r.operand))
+operator_lighter s n w (SameTypes r) = falls_by (Expr s) n w _ _ r.shape r.written (boolean_falls s r.operator r.equality (identifier r.name) (unary Typeof (identifier r.name)) (says_equal r.operator))
+operator_lighter s n w (NeverType r) = falls_by (Expr s) n w _ _ r.shape r.written (boolean_falls s r.operator r.equality r.operand r.right (not (says_equal r.operator)))
+operator_lighter s n w (LeftPlus r) = falls_by (Expr s) n w _ _ r.shape r.written (left_falls s r.operator r.numeric r.operand r.right)
+operator_lighter s n w (RightPlus r) = falls_by (Expr s) n w _ _ r.shape r.written (right_falls s r.operator r.numeric r.left r.operand)
+operator_lighter s n w (JoinedMasks r) = falls_by (Expr s) n w _ _ r.shape r.written (masked_falls s r.operator r.bitwise r.on_right r.operand r.first r.second r.joined r.short)
 
 -- a parent's weight reads the same of both
 
@@ -170,9 +170,9 @@ boolean_outline o a b true = refl
 boolean_outline o a b false = refl
 
 pub operator_outline : (s : Seat) (n w : Tree) → OperatorRow s n w → outline n ≡ outline w
-operator_outline s n w (inl r) = ap outline r.shape ∙ deleted_outline r.operand r.operand ∙ sym (ap outline r.written)
-operator_outline s n w (inr (inl r)) = ap outline r.shape ∙ boolean_outline r.operator (unary Typeof (identifier r.name)) (unary Typeof (identifier r.name)) (says_equal r.operator) ∙ sym (ap outline r.written)
-operator_outline s n w (inr (inr (inl r))) = ap outline r.shape ∙ boolean_outline r.operator (unary Typeof r.operand) r.right (not (says_equal r.operator)) ∙ sym (ap outline r.written)
-operator_outline s n w (inr (inr (inr (inl r)))) = ap outline r.shape ∙ sym (ap outline r.written)
-operator_outline s n w (inr (inr (inr (inr (inl r))))) = ap outline r.shape ∙ sym (ap outline r.written)
-operator_outline s n w (inr (inr (inr (inr (inr r))))) = ap outline r.shape ∙ sym (ap outline r.written)
+operator_outline s n w (Deleted r) = ap outline r.shape ∙ deleted_outline r.operand r.operand ∙ sym (ap outline r.written)
+operator_outline s n w (SameTypes r) = ap outline r.shape ∙ boolean_outline r.operator (unary Typeof (identifier r.name)) (unary Typeof (identifier r.name)) (says_equal r.operator) ∙ sym (ap outline r.written)
+operator_outline s n w (NeverType r) = ap outline r.shape ∙ boolean_outline r.operator (unary Typeof r.operand) r.right (not (says_equal r.operator)) ∙ sym (ap outline r.written)
+operator_outline s n w (LeftPlus r) = ap outline r.shape ∙ sym (ap outline r.written)
+operator_outline s n w (RightPlus r) = ap outline r.shape ∙ sym (ap outline r.written)
+operator_outline s n w (JoinedMasks r) = ap outline r.shape ∙ sym (ap outline r.written)

@@ -222,9 +222,23 @@ pub record Row27Enclosed (s : Seat) (n w : Tree) : Type 0 where
   pub shape : n ≡ binary (loosely equal) operand (digit false)
   pub written : w ≡ zero_told equal operand
 
--- a row on operands, or on operators, reads n as w at this place
+-- a row on operands, or on operators, reads n as w in this seat
+pub data Operand (s : Seat) (n w : Tree) : Type 0 where
+  MiddleOperand : Row14 s n w → Operand s n w
+  EmptyText : Row7 s n w → Operand s n w
+  BooleanBesideTruth : Row29 s n w → Operand s n w
+  TruthBesideValue : Row30 n w → Operand s n w
+  JoinedTexts : Row4 n w → Operand s n w
+  BitsBesideZero : Row27 n w → Operand s n w
+  BitsWithZero : Row31 s n w → Operand s n w
+  WholeOrZero : Row32 n w → Operand s n w
+  ByOperator : OperatorRow s n w → Operand s n w
+  ShiftAsked : Row27Asked s n w → Operand s n w
+  ShiftEnclosed : Row27Enclosed s n w → Operand s n w
+
+-- at this place
 abbrev pub OperandRow : Position → Tree → Tree → Type 0
-OperandRow (Expr s) n w = Row14 s n w ⊎ (Row7 s n w ⊎ (Row29 s n w ⊎ (Row30 n w ⊎ (Row4 n w ⊎ (Row27 n w ⊎ (Row31 s n w ⊎ (Row32 n w ⊎ (OperatorRow s n w ⊎ (Row27Asked s n w ⊎ Row27Enclosed s n w)))))))))
+OperandRow (Expr s) n w = Operand s n w
 OperandRow _ n w = ⊥
 
 -- what it writes, where it weighs less

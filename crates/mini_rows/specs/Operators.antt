@@ -164,5 +164,10 @@ pub record Row8 (n w : Tree) : Type 0 where
   pub written : w ≡ binary operator operand (numeral joined)
 
 -- a row on operators reads n as w in this seat
-abbrev pub OperatorRow : Seat → Tree → Tree → Type 0
-OperatorRow s n w = Row2 n w ⊎ (Row16 n w ⊎ (Row17 n w ⊎ (Row56Left n w ⊎ (Row56Right n w ⊎ Row8 n w))))
+pub data OperatorRow (s : Seat) (n w : Tree) : Type 0 where
+  Deleted : Row2 n w → OperatorRow s n w
+  SameTypes : Row16 n w → OperatorRow s n w
+  NeverType : Row17 n w → OperatorRow s n w
+  LeftPlus : Row56Left n w → OperatorRow s n w
+  RightPlus : Row56Right n w → OperatorRow s n w
+  JoinedMasks : Row8 n w → OperatorRow s n w
