@@ -28,30 +28,30 @@ use Rattle.mini_again.specs.Again.{Renaming, again, with_others_in}
 use Rattle.mini_laws.specs.Value.{VariableSet}
 use Rattle.mini_model.specs.Tree.{Tree}
 use Rattle.mini_model.specs.declared.place.Position.{Position}
-use Rattle.mini_rows.specs.Redex.{Contracts, Rewrites, Row}
+use Rattle.mini_rows.specs.Redex.{Contracts, Rewrites, Row, AsTest, AsSpelling, AsBranch, AsList, AsKey, AsChoice, AsDeclaration, AsFolding, AsTurn, AsArrow, AsConstant, AsHeldKey, AsBoolean, AsDeMorgan, AsSequence, AsOperand, AsNegation, AsTemplate, AsLoopGuard}
 use Rattle.mini_rows.specs.Switches.{Switches, liberties}
 use Rattle.std.proofs.Common.{inl, inr}
 
 pub row_again : (ρ : Renaming) (o : Switches) (p : Position) (n w : Tree) → Row o p n w → Row o p (again ρ n) (again ρ w)
-row_again ρ o p n w (inl r) = inl (redex_row_again ρ p n w r)
-row_again ρ o p n w (inr (inl r)) = inr (inl (spelling_row_again ρ p n w r))
-row_again ρ o p n w (inr (inr (inl r))) = inr (inr (inl (branch_row_again ρ p n w r)))
-row_again ρ o p n w (inr (inr (inr (inl r)))) = inr (inr (inr (inl (list_row_again ρ o p n w r))))
-row_again ρ o p n w (inr (inr (inr (inr (inl r))))) = inr (inr (inr (inr (inl (key_row_again ρ p n w r)))))
-row_again ρ o p n w (inr (inr (inr (inr (inr (inl r)))))) = inr (inr (inr (inr (inr (inl (choice_row_again ρ p n w r))))))
-row_again ρ o p n w (inr (inr (inr (inr (inr (inr (inl r))))))) = inr (inr (inr (inr (inr (inr (inl (declaration_row_again ρ p n w r)))))))
-row_again ρ o p n w (inr (inr (inr (inr (inr (inr (inr (inl r)))))))) = inr (inr (inr (inr (inr (inr (inr (inl (folding_row_again ρ p n w r))))))))
-row_again ρ o p n w (inr (inr (inr (inr (inr (inr (inr (inr (inl r))))))))) = inr (inr (inr (inr (inr (inr (inr (inr (inl (turn_row_again ρ p n w r)))))))))
-row_again ρ o p n w (inr (inr (inr (inr (inr (inr (inr (inr (inr (inl r)))))))))) = inr (inr (inr (inr (inr (inr (inr (inr (inr (inl (arrow_row_again ρ p n w r))))))))))
-row_again ρ o p n w (inr (inr (inr (inr (inr (inr (inr (inr (inr (inr (inl r))))))))))) = inr (inr (inr (inr (inr (inr (inr (inr (inr (inr (inl (constant_row_again ρ p n w r)))))))))))
-row_again ρ o p n w (inr (inr (inr (inr (inr (inr (inr (inr (inr (inr (inr (inl r)))))))))))) = inr (inr (inr (inr (inr (inr (inr (inr (inr (inr (inr (inl (held_key_row_again ρ p n w r))))))))))))
-row_again ρ o p n w (inr (inr (inr (inr (inr (inr (inr (inr (inr (inr (inr (inr (inl r))))))))))))) = inr (inr (inr (inr (inr (inr (inr (inr (inr (inr (inr (inr (inl (boolean_row_again ρ p n w r)))))))))))))
-row_again ρ o p n w (inr (inr (inr (inr (inr (inr (inr (inr (inr (inr (inr (inr (inr (inl r)))))))))))))) = inr (inr (inr (inr (inr (inr (inr (inr (inr (inr (inr (inr (inr (inl (de_morgan_row_again ρ p n w r))))))))))))))
-row_again ρ o p n w (inr (inr (inr (inr (inr (inr (inr (inr (inr (inr (inr (inr (inr (inr (inl r))))))))))))))) = inr (inr (inr (inr (inr (inr (inr (inr (inr (inr (inr (inr (inr (inr (inl (sequence_row_again ρ p n w r)))))))))))))))
-row_again ρ o p n w (inr (inr (inr (inr (inr (inr (inr (inr (inr (inr (inr (inr (inr (inr (inr (inl r)))))))))))))))) = inr (inr (inr (inr (inr (inr (inr (inr (inr (inr (inr (inr (inr (inr (inr (inl (operand_row_again ρ p n w r))))))))))))))))
-row_again ρ o p n w (inr (inr (inr (inr (inr (inr (inr (inr (inr (inr (inr (inr (inr (inr (inr (inr (inl r))))))))))))))))) = inr (inr (inr (inr (inr (inr (inr (inr (inr (inr (inr (inr (inr (inr (inr (inr (inl (negation_row_again ρ p n w r)))))))))))))))))
-row_again ρ o p n w (inr (inr (inr (inr (inr (inr (inr (inr (inr (inr (inr (inr (inr (inr (inr (inr (inr (inl r)))))))))))))))))) = inr (inr (inr (inr (inr (inr (inr (inr (inr (inr (inr (inr (inr (inr (inr (inr (inr (inl (template_row_again ρ p n w r))))))))))))))))))
-row_again ρ o p n w (inr (inr (inr (inr (inr (inr (inr (inr (inr (inr (inr (inr (inr (inr (inr (inr (inr (inr r)))))))))))))))))) = inr (inr (inr (inr (inr (inr (inr (inr (inr (inr (inr (inr (inr (inr (inr (inr (inr (inr (loop_guard_row_again ρ o p n w r))))))))))))))))))
+row_again ρ o p n w (AsTest r) = AsTest (redex_row_again ρ p n w r)
+row_again ρ o p n w (AsSpelling r) = AsSpelling (spelling_row_again ρ p n w r)
+row_again ρ o p n w (AsBranch r) = AsBranch (branch_row_again ρ p n w r)
+row_again ρ o p n w (AsList r) = AsList (list_row_again ρ o p n w r)
+row_again ρ o p n w (AsKey r) = AsKey (key_row_again ρ p n w r)
+row_again ρ o p n w (AsChoice r) = AsChoice (choice_row_again ρ p n w r)
+row_again ρ o p n w (AsDeclaration r) = AsDeclaration (declaration_row_again ρ p n w r)
+row_again ρ o p n w (AsFolding r) = AsFolding (folding_row_again ρ p n w r)
+row_again ρ o p n w (AsTurn r) = AsTurn (turn_row_again ρ p n w r)
+row_again ρ o p n w (AsArrow r) = AsArrow (arrow_row_again ρ p n w r)
+row_again ρ o p n w (AsConstant r) = AsConstant (constant_row_again ρ p n w r)
+row_again ρ o p n w (AsHeldKey r) = AsHeldKey (held_key_row_again ρ p n w r)
+row_again ρ o p n w (AsBoolean r) = AsBoolean (boolean_row_again ρ p n w r)
+row_again ρ o p n w (AsDeMorgan r) = AsDeMorgan (de_morgan_row_again ρ p n w r)
+row_again ρ o p n w (AsSequence r) = AsSequence (sequence_row_again ρ p n w r)
+row_again ρ o p n w (AsOperand r) = AsOperand (operand_row_again ρ p n w r)
+row_again ρ o p n w (AsNegation r) = AsNegation (negation_row_again ρ p n w r)
+row_again ρ o p n w (AsTemplate r) = AsTemplate (template_row_again ρ p n w r)
+row_again ρ o p n w (AsLoopGuard r) = AsLoopGuard (loop_guard_row_again ρ o p n w r)
 
 pub contracts_again : (ρ : Renaming) (o : Switches) (p : Position) (n w : Tree) → Contracts o p n w → Contracts o p (again ρ n) (again ρ w)
 contracts_again ρ o p n w r = record {

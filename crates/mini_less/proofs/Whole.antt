@@ -27,7 +27,7 @@ use Rattle.mini_rows.specs.KeyHolders.{HeldKeyContracts}
 use Rattle.mini_rows.specs.Declarations.{DeclarationContracts}
 use Rattle.mini_rows.specs.Lets.{LetContracts}
 use Rattle.mini_rows.specs.LoopGuards.{LoopGuardContracts}
-use Rattle.mini_rows.specs.Redex.{Row}
+use Rattle.mini_rows.specs.Redex.{Row, AsTest, AsSpelling, AsBranch, AsList, AsKey, AsChoice, AsDeclaration, AsFolding, AsTurn, AsArrow, AsConstant, AsHeldKey, AsBoolean, AsDeMorgan, AsSequence, AsOperand, AsNegation, AsTemplate, AsLoopGuard}
 use Rattle.mini_rows.specs.Redex as rows
 use Rattle.mini_rows.specs.Names.{NameContracts}
 use Rattle.mini_rows.specs.Switches.{Switches}
@@ -154,25 +154,25 @@ module _ (o : Switches) (p : Position) (n w : Tree) (lighter : weight p w < weig
   Whole = WholeFamilies o nothing p n w
 
   families : Row o p n w → Whole
-  families (inl r) = inl (record { row = r; lighter = lighter })
-  families (inr (inl r)) = inr (inl (record { row = r; lighter = lighter }))
-  families (inr (inr (inl r))) = inr (inr (inr (inr (inr (inr (inr (inr (inr (inr (inr (inr (inr (inr (inr (inr (inr (inr (inl (record { row = r; lighter = lighter })))))))))))))))))))
-  families (inr (inr (inr (inl r)))) = inr (inr (inr (inr (inr (inr (inr (inr (inr (inr (inr (inr (inr (inr (inr (inr (inr (inr (inr (inl (record { row = r; lighter = lighter }))))))))))))))))))))
-  families (inr (inr (inr (inr (inl r))))) = inr (inr (inl (record { row = r; lighter = lighter })))
-  families (inr (inr (inr (inr (inr (inl r)))))) = inr (inr (inr (inl (record { row = r; lighter = lighter }))))
-  families (inr (inr (inr (inr (inr (inr (inl r))))))) = inr (inr (inr (inr (inr (inr (inr (inr (inr (inr (inr (inr (inr (inr (inr (inr (inr (inr (inr (inr (inl (record { row = r; lighter = lighter })))))))))))))))))))))
-  families (inr (inr (inr (inr (inr (inr (inr (inl r)))))))) = inr (inr (inr (inr (inl (record { row = r; lighter = lighter })))))
-  families (inr (inr (inr (inr (inr (inr (inr (inr (inl r))))))))) = inr (inr (inr (inr (inr (inl (record { row = r; lighter = lighter }))))))
-  families (inr (inr (inr (inr (inr (inr (inr (inr (inr (inl r)))))))))) = inr (inr (inr (inr (inr (inr (inr (inr (inr (inr (inr (inr (inr (inr (inr (inl (record { row = r; lighter = lighter }))))))))))))))))
-  families (inr (inr (inr (inr (inr (inr (inr (inr (inr (inr (inl r))))))))))) = inr (inr (inr (inr (inr (inr (inl (record { row = r; lighter = lighter })))))))
-  families (inr (inr (inr (inr (inr (inr (inr (inr (inr (inr (inr (inl r)))))))))))) = inr (inr (inr (inr (inr (inr (inr (inr (inr (inr (inr (inr (inr (inr (inl (record { row = r; lighter = lighter })))))))))))))))
-  families (inr (inr (inr (inr (inr (inr (inr (inr (inr (inr (inr (inr (inl r))))))))))))) = inr (inr (inr (inr (inr (inr (inr (inl (record { row = r; lighter = lighter }))))))))
-  families (inr (inr (inr (inr (inr (inr (inr (inr (inr (inr (inr (inr (inr (inl r)))))))))))))) = inr (inr (inr (inr (inr (inr (inr (inr (inl (record { row = r; lighter = lighter })))))))))
-  families (inr (inr (inr (inr (inr (inr (inr (inr (inr (inr (inr (inr (inr (inr (inl r))))))))))))))) = inr (inr (inr (inr (inr (inr (inr (inr (inr (inl (record { row = r; lighter = lighter }))))))))))
-  families (inr (inr (inr (inr (inr (inr (inr (inr (inr (inr (inr (inr (inr (inr (inr (inl r)))))))))))))))) = inr (inr (inr (inr (inr (inr (inr (inr (inr (inr (inl (record { row = r; lighter = lighter })))))))))))
-  families (inr (inr (inr (inr (inr (inr (inr (inr (inr (inr (inr (inr (inr (inr (inr (inr (inl r))))))))))))))))) = inr (inr (inr (inr (inr (inr (inr (inr (inr (inr (inr (inl (record { row = r; lighter = lighter }))))))))))))
-  families (inr (inr (inr (inr (inr (inr (inr (inr (inr (inr (inr (inr (inr (inr (inr (inr (inr (inl r)))))))))))))))))) = inr (inr (inr (inr (inr (inr (inr (inr (inr (inr (inr (inr (inl (record { row = r; lighter = lighter })))))))))))))
-  families (inr (inr (inr (inr (inr (inr (inr (inr (inr (inr (inr (inr (inr (inr (inr (inr (inr (inr r)))))))))))))))))) = inr (inr (inr (inr (inr (inr (inr (inr (inr (inr (inr (inr (inr (inr (inr (inr (inr (inr (inr (inr (inr (inl (record { row = r; lighter = lighter }))))))))))))))))))))))
+  families (AsTest r) = inl (record { row = r; lighter = lighter })
+  families (AsSpelling r) = inr (inl (record { row = r; lighter = lighter }))
+  families (AsBranch r) = inr (inr (inr (inr (inr (inr (inr (inr (inr (inr (inr (inr (inr (inr (inr (inr (inr (inr (inl (record { row = r; lighter = lighter })))))))))))))))))))
+  families (AsList r) = inr (inr (inr (inr (inr (inr (inr (inr (inr (inr (inr (inr (inr (inr (inr (inr (inr (inr (inr (inl (record { row = r; lighter = lighter }))))))))))))))))))))
+  families (AsKey r) = inr (inr (inl (record { row = r; lighter = lighter })))
+  families (AsChoice r) = inr (inr (inr (inl (record { row = r; lighter = lighter }))))
+  families (AsDeclaration r) = inr (inr (inr (inr (inr (inr (inr (inr (inr (inr (inr (inr (inr (inr (inr (inr (inr (inr (inr (inr (inl (record { row = r; lighter = lighter })))))))))))))))))))))
+  families (AsFolding r) = inr (inr (inr (inr (inl (record { row = r; lighter = lighter })))))
+  families (AsTurn r) = inr (inr (inr (inr (inr (inl (record { row = r; lighter = lighter }))))))
+  families (AsArrow r) = inr (inr (inr (inr (inr (inr (inr (inr (inr (inr (inr (inr (inr (inr (inr (inl (record { row = r; lighter = lighter }))))))))))))))))
+  families (AsConstant r) = inr (inr (inr (inr (inr (inr (inl (record { row = r; lighter = lighter })))))))
+  families (AsHeldKey r) = inr (inr (inr (inr (inr (inr (inr (inr (inr (inr (inr (inr (inr (inr (inl (record { row = r; lighter = lighter })))))))))))))))
+  families (AsBoolean r) = inr (inr (inr (inr (inr (inr (inr (inl (record { row = r; lighter = lighter }))))))))
+  families (AsDeMorgan r) = inr (inr (inr (inr (inr (inr (inr (inr (inl (record { row = r; lighter = lighter })))))))))
+  families (AsSequence r) = inr (inr (inr (inr (inr (inr (inr (inr (inr (inl (record { row = r; lighter = lighter }))))))))))
+  families (AsOperand r) = inr (inr (inr (inr (inr (inr (inr (inr (inr (inr (inl (record { row = r; lighter = lighter })))))))))))
+  families (AsNegation r) = inr (inr (inr (inr (inr (inr (inr (inr (inr (inr (inr (inl (record { row = r; lighter = lighter }))))))))))))
+  families (AsTemplate r) = inr (inr (inr (inr (inr (inr (inr (inr (inr (inr (inr (inr (inl (record { row = r; lighter = lighter })))))))))))))
+  families (AsLoopGuard r) = inr (inr (inr (inr (inr (inr (inr (inr (inr (inr (inr (inr (inr (inr (inr (inr (inr (inr (inr (inr (inr (inl (record { row = r; lighter = lighter }))))))))))))))))))))))
 
 pub rows_read_less : RowsReadLess
 rows_read_less o = reads_less_narrows (rows.Contracts o) (WholeFamilies o nothing) (λ p n w r. families o p n w r.lighter r.row) (whole_families_read_less o nothing)

@@ -36,7 +36,7 @@ use Rattle.mini_rows.specs.Names.{NameContracts}
 use Rattle.mini_rows.specs.Catches.{CatchContracts}
 use Rattle.mini_rows.specs.Writes.{WriteContracts}
 use Rattle.mini_rows.specs.Lets.{LetContracts}
-use Rattle.mini_rows.specs.Redex.{Row, Contracts, Rewrites}
+use Rattle.mini_rows.specs.Redex.{Row, Contracts, Rewrites, AsTest, AsSpelling, AsBranch, AsList, AsKey, AsChoice, AsDeclaration, AsFolding, AsTurn, AsArrow, AsConstant, AsHeldKey, AsBoolean, AsDeMorgan, AsSequence, AsOperand, AsNegation, AsTemplate, AsLoopGuard}
 use Rattle.mini_rows.proofs.SpellKeyLawful as keys
 use Rattle.mini_rows.proofs.FoldRows.{foldings_lawful, foldings_loose}
 use Rattle.mini_rows.proofs.SpellLawful as spellings
@@ -182,25 +182,25 @@ module _ (o : Switches) where
       (loose_join FoldingContracts Functions K nothing (foldings_loose K) (lawful_is_loose Functions K nothing functions_lawful))))))))
 
   by_row : (p : Position) (n w : Tree) → Row o p n w → weight p w < weight p n → Families p n w
-  by_row p n w (inl r) l = inl (record { row = r; lighter = l })
-  by_row p n w (inr (inl r)) l = inr (inl (record { row = r; lighter = l }))
-  by_row p n w (inr (inr (inl r))) l = inr (inr (inl (record { row = r; lighter = l })))
-  by_row p n w (inr (inr (inr (inl r)))) l = inr (inr (inr (inl (record { row = r; lighter = l }))))
-  by_row p n w (inr (inr (inr (inr (inl r))))) l = inr (inr (inr (inr (inl (record { row = r; lighter = l })))))
-  by_row p n w (inr (inr (inr (inr (inr (inl r)))))) l = inr (inr (inr (inr (inr (inl (record { row = r; lighter = l }))))))
-  by_row p n w (inr (inr (inr (inr (inr (inr (inl r))))))) l = inr (inr (inr (inr (inr (inr (inl (record { row = r; lighter = l })))))))
-  by_row p n w (inr (inr (inr (inr (inr (inr (inr (inl r)))))))) l = inr (inr (inr (inr (inr (inr (inr (inl (record { row = r; lighter = l }))))))))
-  by_row p n w (inr (inr (inr (inr (inr (inr (inr (inr (inl r))))))))) l = inr (inr (inr (inr (inr (inr (inr (inr (inl (record { row = r; lighter = l })))))))))
-  by_row p n w (inr (inr (inr (inr (inr (inr (inr (inr (inr (inl r)))))))))) l = inr (inr (inr (inr (inr (inr (inr (inr (inr (inl (record { row = r; lighter = l }))))))))))
-  by_row p n w (inr (inr (inr (inr (inr (inr (inr (inr (inr (inr (inl r))))))))))) l = inr (inr (inr (inr (inr (inr (inr (inr (inr (inr (inl (record { row = r; lighter = l })))))))))))
-  by_row p n w (inr (inr (inr (inr (inr (inr (inr (inr (inr (inr (inr (inl r)))))))))))) l = inr (inr (inr (inr (inr (inr (inr (inr (inr (inr (inr (inl (record { row = r; lighter = l }))))))))))))
-  by_row p n w (inr (inr (inr (inr (inr (inr (inr (inr (inr (inr (inr (inr (inl r))))))))))))) l = inr (inr (inr (inr (inr (inr (inr (inr (inr (inr (inr (inr (inl (record { row = r; lighter = l })))))))))))))
-  by_row p n w (inr (inr (inr (inr (inr (inr (inr (inr (inr (inr (inr (inr (inr (inl r)))))))))))))) l = inr (inr (inr (inr (inr (inr (inr (inr (inr (inr (inr (inr (inr (inl (record { row = r; lighter = l }))))))))))))))
-  by_row p n w (inr (inr (inr (inr (inr (inr (inr (inr (inr (inr (inr (inr (inr (inr (inl r))))))))))))))) l = inr (inr (inr (inr (inr (inr (inr (inr (inr (inr (inr (inr (inr (inr (inl (record { row = r; lighter = l })))))))))))))))
-  by_row p n w (inr (inr (inr (inr (inr (inr (inr (inr (inr (inr (inr (inr (inr (inr (inr (inl r)))))))))))))))) l = inr (inr (inr (inr (inr (inr (inr (inr (inr (inr (inr (inr (inr (inr (inr (inl (record { row = r; lighter = l }))))))))))))))))
-  by_row p n w (inr (inr (inr (inr (inr (inr (inr (inr (inr (inr (inr (inr (inr (inr (inr (inr (inl r))))))))))))))))) l = inr (inr (inr (inr (inr (inr (inr (inr (inr (inr (inr (inr (inr (inr (inr (inr (inl (record { row = r; lighter = l })))))))))))))))))
-  by_row p n w (inr (inr (inr (inr (inr (inr (inr (inr (inr (inr (inr (inr (inr (inr (inr (inr (inr (inl r)))))))))))))))))) l = inr (inr (inr (inr (inr (inr (inr (inr (inr (inr (inr (inr (inr (inr (inr (inr (inr (inl (record { row = r; lighter = l }))))))))))))))))))
-  by_row p n w (inr (inr (inr (inr (inr (inr (inr (inr (inr (inr (inr (inr (inr (inr (inr (inr (inr (inr r)))))))))))))))))) l = inr (inr (inr (inr (inr (inr (inr (inr (inr (inr (inr (inr (inr (inr (inr (inr (inr (inr (record { row = r; lighter = l }))))))))))))))))))
+  by_row p n w (AsTest r) l = inl (record { row = r; lighter = l })
+  by_row p n w (AsSpelling r) l = inr (inl (record { row = r; lighter = l }))
+  by_row p n w (AsBranch r) l = inr (inr (inl (record { row = r; lighter = l })))
+  by_row p n w (AsList r) l = inr (inr (inr (inl (record { row = r; lighter = l }))))
+  by_row p n w (AsKey r) l = inr (inr (inr (inr (inl (record { row = r; lighter = l })))))
+  by_row p n w (AsChoice r) l = inr (inr (inr (inr (inr (inl (record { row = r; lighter = l }))))))
+  by_row p n w (AsDeclaration r) l = inr (inr (inr (inr (inr (inr (inl (record { row = r; lighter = l })))))))
+  by_row p n w (AsFolding r) l = inr (inr (inr (inr (inr (inr (inr (inl (record { row = r; lighter = l }))))))))
+  by_row p n w (AsTurn r) l = inr (inr (inr (inr (inr (inr (inr (inr (inl (record { row = r; lighter = l })))))))))
+  by_row p n w (AsArrow r) l = inr (inr (inr (inr (inr (inr (inr (inr (inr (inl (record { row = r; lighter = l }))))))))))
+  by_row p n w (AsConstant r) l = inr (inr (inr (inr (inr (inr (inr (inr (inr (inr (inl (record { row = r; lighter = l })))))))))))
+  by_row p n w (AsHeldKey r) l = inr (inr (inr (inr (inr (inr (inr (inr (inr (inr (inr (inl (record { row = r; lighter = l }))))))))))))
+  by_row p n w (AsBoolean r) l = inr (inr (inr (inr (inr (inr (inr (inr (inr (inr (inr (inr (inl (record { row = r; lighter = l })))))))))))))
+  by_row p n w (AsDeMorgan r) l = inr (inr (inr (inr (inr (inr (inr (inr (inr (inr (inr (inr (inr (inl (record { row = r; lighter = l }))))))))))))))
+  by_row p n w (AsSequence r) l = inr (inr (inr (inr (inr (inr (inr (inr (inr (inr (inr (inr (inr (inr (inl (record { row = r; lighter = l })))))))))))))))
+  by_row p n w (AsOperand r) l = inr (inr (inr (inr (inr (inr (inr (inr (inr (inr (inr (inr (inr (inr (inr (inl (record { row = r; lighter = l }))))))))))))))))
+  by_row p n w (AsNegation r) l = inr (inr (inr (inr (inr (inr (inr (inr (inr (inr (inr (inr (inr (inr (inr (inr (inl (record { row = r; lighter = l })))))))))))))))))
+  by_row p n w (AsTemplate r) l = inr (inr (inr (inr (inr (inr (inr (inr (inr (inr (inr (inr (inr (inr (inr (inr (inr (inl (record { row = r; lighter = l }))))))))))))))))))
+  by_row p n w (AsLoopGuard r) l = inr (inr (inr (inr (inr (inr (inr (inr (inr (inr (inr (inr (inr (inr (inr (inr (inr (inr (record { row = r; lighter = l }))))))))))))))))))
 
   pub by_family : (p : Position) (n w : Tree) → Contracts o p n w → Families p n w
   by_family p n w c = by_row p n w c.row c.lighter

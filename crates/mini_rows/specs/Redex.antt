@@ -42,8 +42,26 @@ use Rattle.mini_rows.specs.LoopGuards.{LoopGuardRow}
 -- the keys of patterns and classes, of booleans, of De Morgan's laws, of sequences, of operands
 -- whose value is known, of negations that reach into the operand, of templates, or of guards in the
 -- bodies of loops
-abbrev pub Row : Switches → Position → Tree → Tree → Type 0
-Row o p n w = first.Row p n w ⊎ (SpellingRow p n w ⊎ (BranchRow p n w ⊎ (ListRow o p n w ⊎ (KeyRow p n w ⊎ (ChoiceRow p n w ⊎ (DeclarationRow p n w ⊎ (FoldingRow p n w ⊎ (TurnRow p n w ⊎ (ArrowRow p n w ⊎ (ConstantRow p n w ⊎ (HeldKeyRow p n w ⊎ (BooleanRow p n w ⊎ (DeMorganRow p n w ⊎ (SequenceRow p n w ⊎ (OperandRow p n w ⊎ (NegationRow p n w ⊎ (TemplateRow p n w ⊎ LoopGuardRow o p n w)))))))))))))))))
+pub data Row (o : Switches) (p : Position) (n w : Tree) : Type 0 where
+  AsTest : first.Row p n w → Row o p n w
+  AsSpelling : SpellingRow p n w → Row o p n w
+  AsBranch : BranchRow p n w → Row o p n w
+  AsList : ListRow o p n w → Row o p n w
+  AsKey : KeyRow p n w → Row o p n w
+  AsChoice : ChoiceRow p n w → Row o p n w
+  AsDeclaration : DeclarationRow p n w → Row o p n w
+  AsFolding : FoldingRow p n w → Row o p n w
+  AsTurn : TurnRow p n w → Row o p n w
+  AsArrow : ArrowRow p n w → Row o p n w
+  AsConstant : ConstantRow p n w → Row o p n w
+  AsHeldKey : HeldKeyRow p n w → Row o p n w
+  AsBoolean : BooleanRow p n w → Row o p n w
+  AsDeMorgan : DeMorganRow p n w → Row o p n w
+  AsSequence : SequenceRow p n w → Row o p n w
+  AsOperand : OperandRow p n w → Row o p n w
+  AsNegation : NegationRow p n w → Row o p n w
+  AsTemplate : TemplateRow p n w → Row o p n w
+  AsLoopGuard : LoopGuardRow o p n w → Row o p n w
 
 -- what a row writes, where it weighs less
 pub record Contracts (o : Switches) (p : Position) (n w : Tree) : Type 0 where
