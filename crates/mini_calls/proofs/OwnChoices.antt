@@ -15,7 +15,7 @@ use Rattle.mini_node.proofs.Equality.{tree_itself}
 use Rattle.mini_laws.specs.Value.{VariableSet}
 use Rattle.mini_rows.specs.Chains.{Row46Chain}
 use Rattle.mini_rows.specs.ChainLinks.{Row64, ChainRow}
-use Rattle.mini_rows.specs.Choices.{argument, member_of, Row38, Row38Last, Row39}
+use Rattle.mini_rows.specs.Choices.{argument, member_of, Row38, Row38Last, Row39, OrTest, AndTest}
 use Rattle.mini_rows.specs.Writes.{Row34, Row37Assigned, Row46Assigned, Row46AssignedChain}
 use Rattle.mini_choices.specs.ChainLinks.{folded_written}
 use Rattle.mini_choices.specs.EvaluateBothSides as both
@@ -123,10 +123,10 @@ own_there s n w t u x e f small less =
 shared_there : (s : Seat) (n w : Tree) → SharedRow s n w → weight (Expr s) n < 2 ^ 64 → weight (Expr s) w < weight (Expr s) n → is_some (branches.written s n) ≡ true
 shared_there s n w (inl (inl r)) small less = ap (λ t. is_some (branches.written s t)) r.shape ∙ by_equal s (conditional (binary Equality (identifier r.name) null_literal) r.b (identifier r.name)) (declared_passes r.name r.declared)
 shared_there s n w (inl (inr r)) small less = ap (λ t. is_some (branches.written s t)) r.shape ∙ by_unequal s (conditional (binary Inequality (identifier r.name) null_literal) (identifier r.name) r.b) (declared_passes r.name r.declared)
-shared_there s n w (inr (inl (inl r))) small less =
+shared_there s n w (inr (inl (OrTest r))) small less =
     let x : Tree = identifier r.name in
     ap (λ t. is_some (branches.written s t)) r.shape ∙ by_consequent s (conditional x x r.b) (own_there s n w (conditional x x r.b) (logical Or x r.b) x r.shape r.written small less)
-shared_there s n w (inr (inl (inr r))) small less =
+shared_there s n w (inr (inl (AndTest r))) small less =
     let x : Tree = identifier r.name in
     ap (λ t. is_some (branches.written s t)) r.shape ∙ by_alternate s (conditional x r.b x) (own_there s n w (conditional x r.b x) (logical And x r.b) x r.shape r.written small less)
 shared_there s n w (inr (inr (inl (inl r)))) small less =

@@ -21,8 +21,8 @@ use Rattle.mini_terms.specs.Parts.{takes_numbers}
 use Rattle.mini_terms.specs.Reading.{is_unguarded}
 use Rattle.mini_rows.specs.Constants.{RowConstant}
 use Rattle.mini_rows.specs.Folding.{Row9}
-use Rattle.mini_rows.specs.Operands.{beside}
-use Rattle.mini_rows.specs.Operators.{deleted, Row2, Row8}
+use Rattle.mini_rows.specs.Operands.{beside, ByOperator, EmptyText, JoinedTexts}
+use Rattle.mini_rows.specs.Operators.{deleted, Row2, Row8, Deleted, JoinedMasks}
 use Rattle.mini_rows.specs.ChainLinks.{is_lone}
 use Rattle.mini_rows.specs.Spellings.{binary, computed_member, static_member, text, key, numeral}
 use Rattle.mini_rows.specs.Templates.{TemplateRow}
@@ -56,7 +56,7 @@ unary_said : (s : Seat) (n w : Tree) → unary_written s n ≡ Some w → Falls 
 unary_said s n w e = go (unary_operator n) refl e
   where
     deleted_row : Row2 n w → Falls UnaryRow s n w
-    deleted_row r = (inr r, lighter (Expr s) n w (inr (inr (inr (inr (inr (inr (inr (inr (inl (inl r)))))))))))
+    deleted_row r = (inr r, lighter (Expr s) n w (ByOperator (Deleted r)))
 
     constant : is_some (unary_operator n) ≡ true → (r : RowConstant s n w) → Falls UnaryRow s n w
     constant h r = (inl (r, h), falls (Expr s) n w r.gains)
@@ -97,8 +97,8 @@ module _ (s : Seat) (n w : Tree) where
   texts_said e = go (binary_operator n) refl e
     where
       by : n ≡ binary Addition (part n 0) (part n 1) → (t : Option Tree) → text_written s (part n 0) (part n 1) ≡ t → or_else t (sum_joined (part n 0) (part n 1)) ≡ Some w → Falls TextRow s n w
-      by is (Some t) h f = let r = texts_row s n w (part n 0) (part n 1) is (h ∙ f) in (inl r, lighter (Expr s) n w (inr (inl r)))
-      by is None h f = let r = joined_row n w (part n 0) (part n 1) is f in (inr r, lighter (Expr s) n w (inr (inr (inr (inr (inl r))))))
+      by is (Some t) h f = let r = texts_row s n w (part n 0) (part n 1) is (h ∙ f) in (inl r, lighter (Expr s) n w (EmptyText r))
+      by is None h f = let r = joined_row n w (part n 0) (part n 1) is f in (inr r, lighter (Expr s) n w (JoinedTexts r))
 
       go : (o : Option BinaryOperator) → binary_operator n ≡ o → texts_by s o n ≡ Some w → Falls TextRow s n w
       go (Some Addition) h f = by (binary_is n Addition h) (text_written s (part n 0) (part n 1)) refl f
@@ -137,7 +137,7 @@ module _ (s : Seat) (n w : Tree) where
       joins None k f = templates_said f
 
       masks : (o : Option Tree) → masks_written n ≡ o → or_else o (joins_written s n) ≡ Some w → Falls OperatorRow s n w
-      masks (Some t) k f = let r = masks_said (k ∙ f) in (inr (inr (inl (inl r))), lighter (Expr s) n w (inr (inr (inr (inr (inr (inr (inr (inr (inl (inr (inr (inr (inr (inr r)))))))))))))))
+      masks (Some t) k f = let r = masks_said (k ∙ f) in (inr (inr (inl (inl r))), lighter (Expr s) n w (ByOperator (JoinedMasks r)))
       masks None k f = joins (joined_written n) refl f
 
       texts : (o : Option Tree) → texts_written s n ≡ o → or_else o (masked_written s n) ≡ Some w → Falls OperatorRow s n w

@@ -11,7 +11,7 @@ use Rattle.mini_model.specs.Weight.{weight}
 use Rattle.mini_node.specs.Kinds.{is_conditional}
 use Rattle.mini_laws.specs.Value.{VariableSet}
 use Rattle.mini_rows.specs.Chains.{if_nullish, spine}
-use Rattle.mini_rows.specs.Choices.{assign, HeldRow, AndBoth, OrEither, LastAfterOr, LastAfterAnd, AndThenOr, OrThenAnd, Alike}
+use Rattle.mini_rows.specs.Choices.{assign, HeldRow, AndBoth, OrEither, LastAfterOr, LastAfterAnd, AndThenOr, OrThenAnd, Alike, OrTest, AndTest}
 use Rattle.mini_rows.specs.Lists.{resolved}
 use Rattle.mini_rows.specs.Writes.{if_null}
 use Rattle.mini_rows.proofs.ChainLawful.{chain_row_lighter}
@@ -117,8 +117,8 @@ held_chooses n w (Alike r) = ap is_conditional r.shape
 shared_chooses : (s : Seat) (n w : Tree) → SharedRow s n w → is_conditional n ≡ true
 shared_chooses s n w (inl (inl r)) = ap is_conditional r.shape
 shared_chooses s n w (inl (inr r)) = ap is_conditional r.shape
-shared_chooses s n w (inr (inl (inl r))) = ap is_conditional r.shape
-shared_chooses s n w (inr (inl (inr r))) = ap is_conditional r.shape
+shared_chooses s n w (inr (inl (OrTest r))) = ap is_conditional r.shape
+shared_chooses s n w (inr (inl (AndTest r))) = ap is_conditional r.shape
 shared_chooses s n w (inr (inr (inl (inl r)))) = ap is_conditional r.shape
 shared_chooses s n w (inr (inr (inl (inr (inl r))))) = ap is_conditional r.shape
 shared_chooses s n w (inr (inr (inl (inr (inr r))))) = ap is_conditional r.shape

@@ -20,7 +20,7 @@ use Rattle.mini_rows.specs.Switches.{Switches, Liberties, let_go}
 use Rattle.mini_rows.specs.Branches.{BranchRow}
 use Rattle.mini_rows.specs.Turns.{TurnRow}
 use Rattle.mini_rows.specs.Arrows.{ArrowRow}
-use Rattle.mini_rows.specs.Redex.{Row, Contracts, Rewrites, IsSettled, HasNoRedex}
+use Rattle.mini_rows.specs.Redex.{Row, Contracts, Rewrites, IsSettled, HasNoRedex, AsTest, AsSpelling, AsBranch, AsList, AsKey, AsChoice, AsDeclaration, AsFolding, AsTurn, AsArrow, AsConstant, AsHeldKey, AsBoolean, AsDeMorgan, AsSequence, AsOperand, AsNegation, AsTemplate, AsLoopGuard}
 use Rattle.mini_rows.proofs.AllRows.{all_loose}
 use Rattle.mini_logic.specs.Joined as logic_law
 use Rattle.mini_logic.specs.MinimizeBody as bodies
@@ -57,18 +57,18 @@ use Rattle.mini_unused.specs.Allowed.{allowed_in}
 -- the rows of the rules are among the rows
 
 of_branches : (o : Switches) (p : Position) (n w : Tree) → BranchRow p n w → Row o p n w
-of_branches o p n w r = inr (inr (inl r))
+of_branches o p n w r = AsBranch r
 
 of_turns : (o : Switches) (p : Position) (n w : Tree) → TurnRow p n w → Row o p n w
-of_turns o p n w r = inr (inr (inr (inr (inr (inr (inr (inr (inl r))))))))
+of_turns o p n w r = AsTurn r
 
 logic_row : (o : Switches) (p : Position) (n w : Tree) → logic_law.LogicRow p n w → Row o p n w
-logic_row o (Expr s) n w (inl r) = inl r
+logic_row o (Expr s) n w (inl r) = AsTest r
 logic_row o (Expr s) n w (inr r) = of_turns o (Expr s) n w r
-logic_row o (Stmt q) n w (inl r) = inl r
+logic_row o (Stmt q) n w (inl r) = AsTest r
 logic_row o (Stmt q) n w (inr (inl r)) = of_branches o (Stmt q) n w (inr (inr r))
 logic_row o (Stmt q) n w (inr (inr r)) = of_turns o (Stmt q) n w r
-logic_row o p n w r = inl r
+logic_row o p n w r = AsTest r
 
 first_row : (p : Position) (n w : Tree) → first.Row p n w → logic_law.LogicRow p n w
 first_row (Expr s) n w r = inl r
@@ -94,23 +94,23 @@ module _ (o : CompressOptions) (q : Tree) where
   gives_contract p t u (inl r) = let c = logic.gives_contract p t u r in record { row = logic_row (switches o) p t u c.row; lighter = c.lighter }
   gives_contract p t u (inr (inl r)) = bodies_contract p t u r
   gives_contract p t u (inr (inr (inl r))) = returns_contract p t u r
-  gives_contract p t u (inr (inr (inr (inl c)))) = record { row = inr (inl c.row); lighter = c.lighter }
-  gives_contract p t u (inr (inr (inr (inr (inl c))))) = record { row = inr (inr (inr (inl c.row))); lighter = c.lighter }
-  gives_contract p t u (inr (inr (inr (inr (inr (inl c)))))) = record { row = inr (inr (inr (inr (inl c.row)))); lighter = c.lighter }
-  gives_contract p t u (inr (inr (inr (inr (inr (inr (inl c))))))) = record { row = inr (inr (inr (inr (inr (inl c.row))))); lighter = c.lighter }
-  gives_contract p t u (inr (inr (inr (inr (inr (inr (inr (inl c)))))))) = record { row = inr (inr (inr (inr (inr (inr (inl c.row)))))); lighter = c.lighter }
-  gives_contract p t u (inr (inr (inr (inr (inr (inr (inr (inr (inl c))))))))) = record { row = inr (inr (inr (inr (inr (inr (inr (inl c.row))))))); lighter = c.lighter }
-  gives_contract p t u (inr (inr (inr (inr (inr (inr (inr (inr (inr (inl c)))))))))) = record { row = inr (inr (inr (inr (inr (inr (inr (inr (inr (inl c.row))))))))); lighter = c.lighter }
-  gives_contract p t u (inr (inr (inr (inr (inr (inr (inr (inr (inr (inr (inl c))))))))))) = record { row = inr (inr (inr (inr (inr (inr (inr (inr (inr (inr (inl c.row)))))))))); lighter = c.lighter }
-  gives_contract p t u (inr (inr (inr (inr (inr (inr (inr (inr (inr (inr (inr (inl c)))))))))))) = record { row = inr (inr (inr (inr (inr (inr (inr (inr (inr (inr (inr (inl c.row))))))))))); lighter = c.lighter }
-  gives_contract p t u (inr (inr (inr (inr (inr (inr (inr (inr (inr (inr (inr (inr (inl c))))))))))))) = record { row = inr (inr (inr (inr (inr (inr (inr (inr (inr (inr (inr (inr (inl c.row)))))))))))); lighter = c.lighter }
-  gives_contract p t u (inr (inr (inr (inr (inr (inr (inr (inr (inr (inr (inr (inr (inr (inl c)))))))))))))) = record { row = inr (inr (inr (inr (inr (inr (inr (inr (inr (inr (inr (inr (inr (inl c.row))))))))))))); lighter = c.lighter }
-  gives_contract p t u (inr (inr (inr (inr (inr (inr (inr (inr (inr (inr (inr (inr (inr (inr (inl c))))))))))))))) = record { row = inr (inr (inr (inr (inr (inr (inr (inr (inr (inr (inr (inr (inr (inr (inl c.row)))))))))))))); lighter = c.lighter }
-  gives_contract p t u (inr (inr (inr (inr (inr (inr (inr (inr (inr (inr (inr (inr (inr (inr (inr (inl c)))))))))))))))) = record { row = inr (inr (inr (inr (inr (inr (inr (inr (inr (inr (inr (inr (inr (inr (inr (inl c.row))))))))))))))); lighter = c.lighter }
-  gives_contract p t u (inr (inr (inr (inr (inr (inr (inr (inr (inr (inr (inr (inr (inr (inr (inr (inr (inl c))))))))))))))))) = record { row = inr (inr (inr (inr (inr (inr (inr (inr (inr (inr (inr (inr (inr (inr (inr (inr (inl c.row)))))))))))))))); lighter = c.lighter }
-  gives_contract p t u (inr (inr (inr (inr (inr (inr (inr (inr (inr (inr (inr (inr (inr (inr (inr (inr (inr (inl c)))))))))))))))))) = record { row = inr (inr (inr (inr (inr (inr (inr (inr (inr (inr (inr (inr (inr (inr (inr (inr (inr (inl c.row))))))))))))))))); lighter = c.lighter }
+  gives_contract p t u (inr (inr (inr (inl c)))) = record { row = AsSpelling c.row; lighter = c.lighter }
+  gives_contract p t u (inr (inr (inr (inr (inl c))))) = record { row = AsList c.row; lighter = c.lighter }
+  gives_contract p t u (inr (inr (inr (inr (inr (inl c)))))) = record { row = AsKey c.row; lighter = c.lighter }
+  gives_contract p t u (inr (inr (inr (inr (inr (inr (inl c))))))) = record { row = AsChoice c.row; lighter = c.lighter }
+  gives_contract p t u (inr (inr (inr (inr (inr (inr (inr (inl c)))))))) = record { row = AsDeclaration c.row; lighter = c.lighter }
+  gives_contract p t u (inr (inr (inr (inr (inr (inr (inr (inr (inl c))))))))) = record { row = AsFolding c.row; lighter = c.lighter }
+  gives_contract p t u (inr (inr (inr (inr (inr (inr (inr (inr (inr (inl c)))))))))) = record { row = AsArrow c.row; lighter = c.lighter }
+  gives_contract p t u (inr (inr (inr (inr (inr (inr (inr (inr (inr (inr (inl c))))))))))) = record { row = AsConstant c.row; lighter = c.lighter }
+  gives_contract p t u (inr (inr (inr (inr (inr (inr (inr (inr (inr (inr (inr (inl c)))))))))))) = record { row = AsHeldKey c.row; lighter = c.lighter }
+  gives_contract p t u (inr (inr (inr (inr (inr (inr (inr (inr (inr (inr (inr (inr (inl c))))))))))))) = record { row = AsBoolean c.row; lighter = c.lighter }
+  gives_contract p t u (inr (inr (inr (inr (inr (inr (inr (inr (inr (inr (inr (inr (inr (inl c)))))))))))))) = record { row = AsDeMorgan c.row; lighter = c.lighter }
+  gives_contract p t u (inr (inr (inr (inr (inr (inr (inr (inr (inr (inr (inr (inr (inr (inr (inl c))))))))))))))) = record { row = AsSequence c.row; lighter = c.lighter }
+  gives_contract p t u (inr (inr (inr (inr (inr (inr (inr (inr (inr (inr (inr (inr (inr (inr (inr (inl c)))))))))))))))) = record { row = AsOperand c.row; lighter = c.lighter }
+  gives_contract p t u (inr (inr (inr (inr (inr (inr (inr (inr (inr (inr (inr (inr (inr (inr (inr (inr (inl c))))))))))))))))) = record { row = AsNegation c.row; lighter = c.lighter }
+  gives_contract p t u (inr (inr (inr (inr (inr (inr (inr (inr (inr (inr (inr (inr (inr (inr (inr (inr (inr (inl c)))))))))))))))))) = record { row = AsTemplate c.row; lighter = c.lighter }
   gives_contract p t u (inr (inr (inr (inr (inr (inr (inr (inr (inr (inr (inr (inr (inr (inr (inr (inr (inr (inr (inl c))))))))))))))))))) = switches_contract p t u c
-  gives_contract p t u (inr (inr (inr (inr (inr (inr (inr (inr (inr (inr (inr (inr (inr (inr (inr (inr (inr (inr (inr c))))))))))))))))))) = record { row = inr (inr (inr (inr (inr (inr (inr (inr (inr (inr (inr (inr (inr (inr (inr (inr (inr (inr c.row))))))))))))))))); lighter = c.lighter }
+  gives_contract p t u (inr (inr (inr (inr (inr (inr (inr (inr (inr (inr (inr (inr (inr (inr (inr (inr (inr (inr (inr c))))))))))))))))))) = record { row = AsLoopGuard c.row; lighter = c.lighter }
 
   pub loose_contract : (p : Position) (t u : Tree) → LooseGives o q p t u → Rewrites (switches o) (writable_in q) p t u
   loose_contract p t u (inl r) = inl (gives_contract p t u r)
@@ -141,25 +141,25 @@ module _ (o : CompressOptions) (q : Tree) where
   arrow_settled p t u r row = absurd row
 
   settled : (p : Position) (t u : Tree) → weight p t < 2 ^ 64 → Rests o q p t → Row (switches o) p t u → weight p u < weight p t → ⊥
-  settled p t u small r (inl row) less = logic_settled p t u small r.0 (first_row p t u row) less
-  settled p t u small r (inr (inl row)) less = r.1.1.1.0 u row
-  settled p t u small r (inr (inr (inl row))) less = branch_settled p t u small r row less
-  settled p t u small r (inr (inr (inr (inl row)))) less = r.1.1.1.1.0 u row
-  settled p t u small r (inr (inr (inr (inr (inl row))))) less = r.1.1.1.1.1.0 u row
-  settled p t u small r (inr (inr (inr (inr (inr (inl row)))))) less = r.1.1.1.1.1.1.0 small u (record { row = row; lighter = less })
-  settled p t u small r (inr (inr (inr (inr (inr (inr (inl row))))))) less = r.1.1.1.1.1.1.1.0 u row
-  settled p t u small r (inr (inr (inr (inr (inr (inr (inr (inl row)))))))) less = r.1.1.1.1.1.1.1.1.0 u row
-  settled p t u small r (inr (inr (inr (inr (inr (inr (inr (inr (inl row))))))))) less = turn_settled p t u small r row less
-  settled p t u small r (inr (inr (inr (inr (inr (inr (inr (inr (inr (inl row)))))))))) less = arrow_settled p t u r row
-  settled p t u small r (inr (inr (inr (inr (inr (inr (inr (inr (inr (inr (inl row))))))))))) less = r.1.1.1.1.1.1.1.1.1.1.0 small u (record { row = row; lighter = less })
-  settled p t u small r (inr (inr (inr (inr (inr (inr (inr (inr (inr (inr (inr (inl row)))))))))))) less = r.1.1.1.1.1.1.1.1.1.1.1.0 u row
-  settled p t u small r (inr (inr (inr (inr (inr (inr (inr (inr (inr (inr (inr (inr (inl row))))))))))))) less = r.1.1.1.1.1.1.1.1.1.1.1.1.0 small u (record { row = row; lighter = less })
-  settled p t u small r (inr (inr (inr (inr (inr (inr (inr (inr (inr (inr (inr (inr (inr (inl row)))))))))))))) less = r.1.1.1.1.1.1.1.1.1.1.1.1.1.0 small u (record { row = row; lighter = less })
-  settled p t u small r (inr (inr (inr (inr (inr (inr (inr (inr (inr (inr (inr (inr (inr (inr (inl row))))))))))))))) less = r.1.1.1.1.1.1.1.1.1.1.1.1.1.1.0 u row
-  settled p t u small r (inr (inr (inr (inr (inr (inr (inr (inr (inr (inr (inr (inr (inr (inr (inr (inl row)))))))))))))))) less = r.1.1.1.1.1.1.1.1.1.1.1.1.1.1.1.0 u row
-  settled p t u small r (inr (inr (inr (inr (inr (inr (inr (inr (inr (inr (inr (inr (inr (inr (inr (inr (inl row))))))))))))))))) less = r.1.1.1.1.1.1.1.1.1.1.1.1.1.1.1.1.0 small u (record { row = row; lighter = less })
-  settled p t u small r (inr (inr (inr (inr (inr (inr (inr (inr (inr (inr (inr (inr (inr (inr (inr (inr (inr (inl row)))))))))))))))))) less = r.1.1.1.1.1.1.1.1.1.1.1.1.1.1.1.1.1.0 small u (record { row = row; lighter = less })
-  settled p t u small r (inr (inr (inr (inr (inr (inr (inr (inr (inr (inr (inr (inr (inr (inr (inr (inr (inr (inr row)))))))))))))))))) less = r.1.1.1.1.1.1.1.1.1.1.1.1.1.1.1.1.1.1.1 u row
+  settled p t u small r (AsTest row) less = logic_settled p t u small r.0 (first_row p t u row) less
+  settled p t u small r (AsSpelling row) less = r.1.1.1.0 u row
+  settled p t u small r (AsBranch row) less = branch_settled p t u small r row less
+  settled p t u small r (AsList row) less = r.1.1.1.1.0 u row
+  settled p t u small r (AsKey row) less = r.1.1.1.1.1.0 u row
+  settled p t u small r (AsChoice row) less = r.1.1.1.1.1.1.0 small u (record { row = row; lighter = less })
+  settled p t u small r (AsDeclaration row) less = r.1.1.1.1.1.1.1.0 u row
+  settled p t u small r (AsFolding row) less = r.1.1.1.1.1.1.1.1.0 u row
+  settled p t u small r (AsTurn row) less = turn_settled p t u small r row less
+  settled p t u small r (AsArrow row) less = arrow_settled p t u r row
+  settled p t u small r (AsConstant row) less = r.1.1.1.1.1.1.1.1.1.1.0 small u (record { row = row; lighter = less })
+  settled p t u small r (AsHeldKey row) less = r.1.1.1.1.1.1.1.1.1.1.1.0 u row
+  settled p t u small r (AsBoolean row) less = r.1.1.1.1.1.1.1.1.1.1.1.1.0 small u (record { row = row; lighter = less })
+  settled p t u small r (AsDeMorgan row) less = r.1.1.1.1.1.1.1.1.1.1.1.1.1.0 small u (record { row = row; lighter = less })
+  settled p t u small r (AsSequence row) less = r.1.1.1.1.1.1.1.1.1.1.1.1.1.1.0 u row
+  settled p t u small r (AsOperand row) less = r.1.1.1.1.1.1.1.1.1.1.1.1.1.1.1.0 u row
+  settled p t u small r (AsNegation row) less = r.1.1.1.1.1.1.1.1.1.1.1.1.1.1.1.1.0 small u (record { row = row; lighter = less })
+  settled p t u small r (AsTemplate row) less = r.1.1.1.1.1.1.1.1.1.1.1.1.1.1.1.1.1.0 small u (record { row = row; lighter = less })
+  settled p t u small r (AsLoopGuard row) less = r.1.1.1.1.1.1.1.1.1.1.1.1.1.1.1.1.1.1.1 u row
 
   loose_settled : (p : Position) (t u : Tree) → weight p t < 2 ^ 64 → LooseRests o q p t → Rewrites (switches o) (writable_in q) p t u → ⊥
   loose_settled p t u small r (inl c) = settled p t u small r.0 c.row c.lighter
