@@ -35,6 +35,7 @@ pub use laws::{
     bodies_told, counts_tell, declarators_tell, foreign_tells, names_tell, refresh_tells,
     shares_tell, steady_tells, tables_tell, uses_tell,
 };
+pub use marks::{is_marked, mark_symbol, no_marks};
 pub use refreshing::refresh;
 pub use resolution::resolve;
 pub use scopes::{ScopeId, Scopes};

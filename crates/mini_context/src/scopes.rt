@@ -351,19 +351,21 @@ impl Scopes {
     pub fn is_shared(&self, symbol: SymbolId, body: u32) -> bool
         ensures { result ≡ shares self.now symbol.0 body }
     {
-        self.is_shared_always(symbol.0) || self.is_mentioned_outside(symbol, body)
+        self.is_shared_always(symbol) || self.is_mentioned_outside(symbol, body)
     }
 
-    // Whether every body shares the symbol that mentions it.
-    fn is_shared_always(&self, symbol: u32) -> bool
-        ensures { result ≡ shared_always self.now symbol }
+    /// Whether every body that mentions the symbol shares it: it is one of a script's top names or
+    /// exchanged, a direct eval or `arguments` reaches it, or the pattern of a `var` or a `var`
+    /// under a catch parameter of its name writes it.
+    pub fn is_shared_always(&self, symbol: SymbolId) -> bool
+        ensures { result ≡ shared_always self.now symbol.0 }
     {
-        is_marked(self.look.tops.as_slice(), symbol)
-            || is_marked(self.look.tables.exchanged.as_slice(), symbol)
-            || is_marked(self.look.scopes.seen.as_slice(), symbol)
-            || is_marked(self.look.tables.reached.as_slice(), symbol)
-            || is_marked(self.look.tables.caught.as_slice(), symbol)
-            || is_marked(self.look.pattern_writes.as_slice(), symbol)
+        is_marked(self.look.tops.as_slice(), symbol.0)
+            || is_marked(self.look.tables.exchanged.as_slice(), symbol.0)
+            || is_marked(self.look.scopes.seen.as_slice(), symbol.0)
+            || is_marked(self.look.tables.reached.as_slice(), symbol.0)
+            || is_marked(self.look.tables.caught.as_slice(), symbol.0)
+            || is_marked(self.look.pattern_writes.as_slice(), symbol.0)
     }
 
     /// Whether the symbol is foreign to the body with this number: others may change it while the

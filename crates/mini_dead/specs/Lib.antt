@@ -10,3 +10,4 @@ pub mod MarkedExamples
 pub mod PrunedBodies
 pub mod KeptNames
 pub mod Frames
+pub mod DeadDropped

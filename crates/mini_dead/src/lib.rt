@@ -6,8 +6,9 @@ ghost use Rattle.mini_dead.specs.Creations.{WithoutNone, WithoutTwice};
 ghost use Rattle.mini_dead.specs.Differences.{UnansweredDiffers, LoneDeclarationDiffers};
 ghost use Rattle.mini_dead.specs.Pruned.{PrunedSame};
 ghost use Rattle.mini_dead.specs.PrunedBodies.{PrunedProgram};
+ghost use Rattle.mini_dead.specs.DeadDropped.{DeadIsDropped};
 ghost use Rattle.mini_dead.specs.Counting.{DropsCount, NoneGoes};
-ghost use Rattle.mini_dead.specs.Frames.{DropsKeepFrames, DropsKeepProgram};
+ghost use Rattle.mini_dead.specs.Frames.{DropsKeepFrames, DropsKeepProgram, DropsKeepAllFrames};
 ghost use Rattle.mini_dead.specs.Marked.{MayGoDrops, DeadSymbolsGo, DeadItemsCounted};
 ghost use Rattle.mini_dead.specs.KeptNames.{DropsKeepNames};
 ghost use Rattle.mini_dead.specs.Drops.{DropsKeepShape, DropsKeepBodies, DroppedBodiesStay};
@@ -80,8 +81,16 @@ pub fn drops_keep_names()
 
 /// Each function and each carried node that is left has the frame that it had, and so has the
 /// program itself, where its names are resolved: its imports, its exports and what a script gives
-/// the global object stay.
+/// the global object stay. So each frame that is left is one that was there.
 pub fn drops_keep_frames()
     ensures below { DropsKeepFrames }
     ensures program { DropsKeepProgram }
+    ensures all { DropsKeepAllFrames }
+{}
+
+/// All that is said of a program that loses dead items until there is none: which items go and how
+/// many, that the bodies, frames and names that are left are kept, and that the program as it is
+/// written is resolved to the symbols that it carries.
+pub fn dead_is_dropped()
+    ensures { DeadIsDropped }
 {}

@@ -4,3 +4,5 @@ pub mod Marks
 pub mod Symbols
 pub mod Agreeing
 pub mod Losing
+pub mod Every
+pub mod Later

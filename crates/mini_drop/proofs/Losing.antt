@@ -1,6 +1,6 @@
 -- What a round takes away, and rounds one after another.
 use Rattle.std.proofs.Common.{◌≡◌, ℕ, zero, suc, ◌+◌, ◌<◌, ◌≤◌, Bool, true, false, List, [], ◌∷◌, length, sym, ap, ◌∙◌, subst, arith, true≢false}
-use Rattle.std.specs.Prelude.{nat_lt}
+use Rattle.std.specs.Prelude.{nat_lt, slice_index}
 use Rattle.std.proofs.lemmas.Bool.{ltb-false}
 use Rattle.mini_model.specs.Tree.{Tree, node, node_count, node_counts}
 use Rattle.mini_accept.specs.WellShaped.{IsWellShaped}
@@ -12,7 +12,8 @@ use Rattle.mini_dead.specs.Marked.{less}
 use Rattle.mini_dead.proofs.DeadMarks.{dead_symbols_go, dead_items_counted}
 use Rattle.mini_dead.proofs.Shapes.{drops_keep_shape}
 use Rattle.mini_dead.proofs.Counting.{none_goes}
-use Rattle.mini_drop.specs.Symbols.{DeadSymbols}
+use Rattle.mini_drop.specs.Symbols.{DeadSymbols, Sound}
+use Rattle.mini_dead.proofs.Marking.{may_go_drops}
 use Rattle.mini_drop.specs.Walk.{Lost}
 use Rattle.mini_drop.proofs.Agreeing.{Agree, marked_same}
 
@@ -89,3 +90,11 @@ round_more t u v m n k e a w = subst (DropsAgain t v) (sym e) (more_goes t u v m
 -- nothing went, and nothing is left
 pub round_none : (t u : Tree) (n : ℕ) → Drops t u n → n ≡ dead_count t → n ≡ 0 → dead_count u ≡ 0
 round_none t u n w e f = ap dead_count (none_goes t u n (once t u n w) f) ∙ sym e ∙ f
+
+-- ---- a plan
+
+pub plan_drops : (t u : Tree) (xs : List Bool) (ks : List ℕ) (n : ℕ) → IsWellShaped t → Sound xs ks t → Lost (mark_at xs) Elsewhere t u n → Drops t u n
+plan_drops t u xs ks n shaped w l = subst (λ v. Drops t v n) (sym l.left) (subst (Drops t (less (mark_at xs) t)) (sym l.number) (may_go_drops (mark_at xs) (slice_index ks) t shaped w.unseen w.goes))
+
+pub plan_fewer : (t u : Tree) (n : ℕ) → Drops t u n → node_count u ≤ node_count t
+plan_fewer t u n w = omega (arith, w.number, fewer w.pruned, ap node_count w.before, ap node_count w.after)

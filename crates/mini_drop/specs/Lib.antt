@@ -1,3 +1,4 @@
 pub mod Asked
 pub mod Walk
 pub mod Symbols
+pub mod Going

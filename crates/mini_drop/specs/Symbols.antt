@@ -1,10 +1,12 @@
 -- Marks by symbol, and which symbols of a program are dead.
-use Rattle.std.specs.Prelude.{ℕ, ◌≡◌, ◌<◌, Bool, not, nat_eq, ◌&&◌, ◌||◌, List, length, slice_index, is_some, if◌then◌else◌}
+use Rattle.std.specs.Prelude.{ℕ, ◌≡◌, ◌<◌, Bool, true, false, not, nat_eq, ◌&&◌, ◌||◌, List, length, slice_index, is_some, if◌then◌else◌}
 use Rattle.std.specs.List.{list_any}
 use Rattle.mini_model.specs.declared.name.Name.{Name}
 use Rattle.mini_model.specs.Tree.{Tree}
-use Rattle.mini_dead.specs.Pruned.{Role, spot_below}
+use Rattle.mini_laws.specs.References.{reads, writes, counts_of}
+use Rattle.mini_dead.specs.Pruned.{Elsewhere, Role, spot_below}
 use Rattle.mini_dead.specs.Dead.{has_this_symbol, item_name, declares_inside, declares_otherwise, is_dead_symbol}
+use Rattle.mini_dead.specs.Marked.{AreUnseen, may_go}
 use Rattle.mini_context.specs.Tables.{mark_at}
 use Rattle.mini_context.specs.Facts.{Facts, shared_always}
 use Rattle.mini_context.specs.Holders.{AllBelow}
@@ -39,3 +41,18 @@ pub record ListsDead (f : Facts) (declared : List Bool) (n : ℕ) (marks : List 
 pub record DeadSymbols (t : Tree) (marks : List Bool) : Type 0 where
   pub each : (s : ℕ) → s < length marks → mark_at marks s ≡ is_dead_symbol t s
   pub whole : AllBelow (length marks) t
+
+-- of so many symbols none of the set is shared always, as the tables tell it
+abbrev pub Unseen : (ℕ → Bool) → Facts → ℕ → Type 0
+Unseen S f n = (s : ℕ) → s < n → S s ≡ true → shared_always f s ≡ false
+
+-- the items of a set may go from a program at once, each in its round
+pub record Sound (set : List Bool) (rounds : List ℕ) (t : Tree) : Type 0 where
+  pub unseen : AreUnseen (mark_at set) t
+  pub goes : may_go (mark_at set) (slice_index rounds) Elsewhere t ≡ true
+
+-- how often the tables say that each symbol is read and written is what counting a program anew
+-- gives
+pub record CountedAnew (f : Facts) (t : Tree) : Type 0 where
+  pub reads : f.reads ≡ counts_of reads (length f.reads) t
+  pub writes : f.writes ≡ counts_of writes (length f.reads) t

@@ -8,10 +8,8 @@ ghost use Rattle.mini_context.specs.Known.{Knows};
 ghost use Rattle.mini_drop.specs.Symbols.{DeadSymbols, ListsDead, dead_by, unreferenced_by};
 
 use crate::declared::mark_declared;
-use crate::homes::{first_homes, home_of, note_homes};
 use crate::place::Spot;
-use crate::tables::{is_marked, no_marks};
-use mini_context::{TraverseCtx, counts_tell};
+use mini_context::{TraverseCtx, counts_tell, is_marked, no_marks};
 use mini_model::{OutOfMemory, SymbolId};
 use mini_node::Node;
 use std::alloc::Global;
@@ -22,34 +20,13 @@ fn is_unreferenced(context: &TraverseCtx, symbol: u32) -> bool
     context.scopes.reads(SymbolId(symbol)) == 0 && context.scopes.writes(SymbolId(symbol)) == 0
 }
 
-// Whether every body shares a symbol that mentions it. The context tells it of a body outside of
-// which nothing mentions the symbol, as a home is. Memory counts as run out where something does: a
-// program that was resolved has no symbol without references that items of several bodies alone
-// declare.
-fn is_shared_always(context: &TraverseCtx, symbol: u32, home: u32) -> Result<bool, OutOfMemory>
-    ensures { IfOk result (λ shared. shared ≡ shared_always context.now.scopes symbol) }
+// Whether a symbol is dead, of which it is told whether anything but an item declares it.
+fn is_dead(context: &TraverseCtx, symbol: u32, is_declared: bool) -> bool
+    ensures { result ≡ dead_by context.now.scopes symbol is_declared }
 {
-    if context.scopes.is_mentioned_outside(SymbolId(symbol), home) {
-        return Err(OutOfMemory);
-    }
-    Ok(context.scopes.is_shared(SymbolId(symbol), home))
-}
-
-// Whether a symbol is dead, of which it is told whether anything but an item declares it, and in
-// which body it is declared.
-fn is_dead(
-    context: &TraverseCtx,
-    symbol: u32,
-    is_declared: bool,
-    home: u32,
-) -> Result<bool, OutOfMemory>
-    ensures { IfOk result (λ dead. dead ≡ dead_by context.now.scopes symbol is_declared) }
-{
-    if !is_unreferenced(context, symbol) || is_declared {
-        return Ok(false);
-    }
-    let shared = is_shared_always(context, symbol, home)?;
-    Ok(!shared)
+    is_unreferenced(context, symbol)
+        && !is_declared
+        && !context.scopes.is_shared_always(SymbolId(symbol))
 }
 
 fn push(marks: &mut Vec<bool>, mark: bool) -> Result<(), OutOfMemory>
@@ -65,7 +42,6 @@ fn push(marks: &mut Vec<bool>, mark: bool) -> Result<(), OutOfMemory>
 fn list_dead(
     alloc: Global,
     declared: &[bool],
-    homes: &[u32],
     context: &TraverseCtx,
     room: u32,
 ) -> Result<Vec<bool>, OutOfMemory>
@@ -73,15 +49,14 @@ fn list_dead(
 {
     let mut dead = Vec::new(alloc);
     for symbol in 0..room {
-        let home = home_of(homes, symbol);
-        let mark = is_dead(context, symbol, is_marked(declared, symbol), home)?;
+        let mark = is_dead(context, symbol, is_marked(declared, symbol));
         push(&mut dead, mark)?;
     }
     Ok(dead)
 }
 
-// For how many symbols there is room. Memory counts as run out where there are 2^32 - 1.
-fn room_of(context: &TraverseCtx) -> Result<u32, OutOfMemory>
+/// For how many symbols a context has room. Memory counts as run out where there are 2^32 - 1.
+pub fn room_of(context: &TraverseCtx) -> Result<u32, OutOfMemory>
     ensures { IfOk result (λ room. room ≡ length context.now.scopes.reads) }
 {
     for symbol in 0..u32::MAX {
@@ -92,9 +67,7 @@ fn room_of(context: &TraverseCtx) -> Result<u32, OutOfMemory>
     Err(OutOfMemory)
 }
 
-/// The dead symbols of a program that the context knows. The only error is that memory runs out,
-/// which it counts as where items of several bodies alone declare one symbol, to which nothing
-/// refers: a program that was resolved has none.
+/// The dead symbols of a program that the context knows. The only error is that memory runs out.
 pub fn dead_symbols(
     alloc: Global,
     program: &Node,
@@ -105,9 +78,7 @@ pub fn dead_symbols(
 {
     counts_tell();
     let room = room_of(context)?;
-    let mut homes = first_homes(alloc, room)?;
-    note_homes(&mut homes, 0, program);
     let mut declared = no_marks(alloc, room)?;
     mark_declared(&mut declared, Spot::Elsewhere, program);
-    list_dead(alloc, declared.as_slice(), homes.as_slice(), context, room)
+    list_dead(alloc, declared.as_slice(), context, room)
 }

@@ -9,7 +9,7 @@ ghost use Rattle.mini_drop.specs.Symbols.{Adds, any_has, part_declares};
 
 use crate::items::is_item;
 use crate::place::{Role, Spot, role_of, spot_below};
-use crate::tables::mark_symbol;
+use mini_context::mark_symbol;
 use mini_model::{Name, Shape};
 use mini_node::{Node, Nodes};
 

@@ -10,7 +10,7 @@ ghost use Rattle.mini_drop.specs.Asked as item;
 ghost use Rattle.mini_drop.specs.Asked.{role_in, items_by};
 
 use crate::place::Role;
-use crate::tables::is_marked;
+use mini_context::is_marked;
 use mini_model::{Name, Shape};
 use mini_node::{Node, Nodes};
 use mini_terms::is_effect_free;

@@ -4,10 +4,12 @@
 mod dead;
 mod declared;
 mod dropping;
-mod homes;
+mod going;
+mod guess;
 mod items;
 mod place;
+mod planned;
 mod rounds;
-mod tables;
+mod texts;
 
 pub use rounds::drop_dead;

@@ -7,10 +7,13 @@ ghost use Rattle.mini_tree.specs.declared.options.CompressOptions.{CompressOptio
 ghost use Rattle.mini_context.specs.Known.{Knows};
 ghost use Rattle.mini_dead.specs.Dead.{dead_count};
 ghost use Rattle.mini_dead.specs.Drops.{Drops, DropsAgain};
+ghost use Rattle.mini_dead.specs.DeadDropped.{DeadDropped};
+ghost use Rattle.mini_drop.specs.Symbols.{CountedAnew};
 
 use crate::dead::dead_symbols;
 use crate::dropping::{drop_items, sum};
 use crate::place::Spot;
+use crate::planned::drop_planned;
 use mini_context::TraverseCtx;
 use mini_model::OutOfMemory;
 use mini_node::Node;
@@ -64,8 +67,7 @@ fn drop_more(
 ///
 /// The context knows the program, before and after. The only error is that memory runs out, and
 /// then the program and the context are fit only to be dropped. Memory counts as run out where 2^32
-/// items go, and where items of several bodies alone declare one symbol, to which nothing refers: a
-/// program that was resolved has none.
+/// items go.
 pub fn drop_dead(
     alloc: Global,
     program: &mut Node,
@@ -77,9 +79,13 @@ pub fn drop_dead(
     ensures unchanged { IfOk result (λ gone. gone ≡ 0 → program.new ≡ program.old) }
     ensures none_left { OnOk result (dead_count program.new ≡ 0) }
     ensures shaped { OnOk result (IsWellShaped program.new) }
+    ensures all { IfOk result (λ gone. DeadDropped program.old program.new gone) }
+    ensures counts { OnOk result (CountedAnew context.new.scopes program.new) }
     ensures known { (o : CompressOptions) → Knows context.old o program.old → OnOk result (Knows context.new o program.new) }
 {
     let mut total = 0;
-    'rounds: while drop_more(alloc, program, context, &mut total)? {}
+    'rounds: while drop_more(alloc, program, context, &mut total)? {
+        drop_planned(alloc, program, context, &mut total)?;
+    }
     Ok(total)
 }

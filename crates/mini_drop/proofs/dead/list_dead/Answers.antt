@@ -8,7 +8,7 @@ loop-symbol-init c = subst (ListsDead c.args.context.now.scopes c.args.declared.
 
 pub loop-symbol-preserved : goal.loop-symbol-preserved
 loop-symbol-preserved c =
-    one_listed c.args.context.now.scopes c.args.declared.now c.loop-symbol.symbol c.loop-symbol.dead.items _ _ c.in_ok-push.ensures (c.in_ok-mark.ensures ∙ ap (dead_by c.args.context.now.scopes c.loop-symbol.symbol) c.is_marked.ensures) c.loop-symbol.invariant
+    one_listed c.args.context.now.scopes c.args.declared.now c.loop-symbol.symbol c.loop-symbol.dead.items _ _ c.in_ok-push.ensures (c.is_dead-mark.ensures ∙ ap (dead_by c.args.context.now.scopes c.loop-symbol.symbol) c.is_marked.ensures) c.loop-symbol.invariant
 
 pub returns : goal.returns
 returns c = subst (λ n. ListsDead c.args.context.now.scopes c.args.declared.now n c.loop-symbol.dead.items) (omega arith) c.loop-symbol.invariant
