@@ -1,4 +1,5 @@
--- What each form on negations, conditionals and logical expressions writes is what a row of the rewrites says.
+-- Each form on negations, conditionals and logical expressions writes what a row of the rewrites
+-- says.
 use Rattle.std.proofs.Common.{◌≡◌, ◌<◌, ◌⊎◌, refl, sym, ap, ◌∙◌, inl, inr, arith}
 use Rattle.std.specs.Prelude.{zero, nat_lt, Bool, true, false, not, ◌&&◌, ◌||◌, [], Option, Some, None, is_some, option_and_then, if◌then◌else◌}
 use Rattle.std.proofs.lemmas.Bool.{and_parts, false≢true}

@@ -1,4 +1,4 @@
--- What each form of `if` over expressions writes is what a row of the rewrites says.
+-- Each form of `if` over expressions writes what a row of the rewrites says.
 use Rattle.std.proofs.Common.{◌≡◌, ◌≤◌, ◌⊎◌, ℕ, zero, refl, sym, ap, ◌∙◌, inl, inr, arith}
 use Rattle.std.specs.Prelude.{◌+◌, pos, negsuc, nat_lt, Bool, true, false, not, ◌&&◌, List, [], Some, if◌then◌else◌}
 use Rattle.std.proofs.lemmas.Bool.{and_parts, ltb-true, false≢true}
@@ -24,7 +24,7 @@ use Rattle.mini_log.specs.ChoiceRows.{unnegated, unnegated_last, holds_nothing, 
 use Rattle.mini_log.specs.Terms.{when}
 use Rattle.mini_log.proofs.Tests.{whenever, mapped, not_true, either_true}
 
--- ---- the operand of a `!` is no heavier as the left side of an `||` or an `&&` that is a statement
+-- ---- the operand of a `!` is no heavier as the left side of a statement's `||` or `&&`
 
 or_marks : (h : Shape) (os : List Outline) → place_weight (Expr (left_operand_seat Or statement_expression_seat)) h os ≤ place_weight (Expr not_operand_seat) h os + 0
 or_marks (shape.LogicalExpression Or) os = omega arith

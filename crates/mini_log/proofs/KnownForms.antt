@@ -1,4 +1,4 @@
--- What each form on what is known of an expression writes is what a row of the rewrites says.
+-- Each form on what is known of an expression writes what a row of the rewrites says.
 use Rattle.std.proofs.Common.{◌≡◌, refl, sym, ap, subst, ◌∙◌, arith}
 use Rattle.std.specs.Prelude.{zero, suc, pos, negsuc, Bool, true, false, not, ◌&&◌, ◌||◌, ◌+◌, nat_le, List, [], ◌∷◌, codes, Option, Some, None}
 use Rattle.std.proofs.lemmas.Bool.{and_parts, leb-true, false≢true}

@@ -1,4 +1,5 @@
--- What each form of a statement in its list, or in a branch or a body, writes is what a row of the rewrites says.
+-- Each form of a statement in its list, or in a branch or a body, writes what a row of the rewrites
+-- says.
 use Rattle.std.proofs.Common.{◌≡◌, refl, sym, ap, ◌∙◌, inl, inr}
 use Rattle.std.specs.Prelude.{ℕ, zero, suc, Bool, true, false, not, ◌&&◌, nat_le, nat_eq, [], ◌∷◌, Option, Some, option_map, if◌then◌else◌}
 use Rattle.std.proofs.lemmas.Bool.{and_parts, false≢true}

@@ -1,4 +1,4 @@
--- What a row of a log writes is what a row of the rewrites says.
+-- A row of a log writes what a row of the rewrites says.
 use Rattle.std.proofs.Common.{◌≡◌, ◌<◌, ◌⊎◌, refl, subst, inl, inr, arith}
 use Rattle.std.specs.Prelude.{ℕ, zero, suc, nat_lt, Bool, true, false, List, [], ◌∷◌, Option, Some, None, if◌then◌else◌}
 use Rattle.std.proofs.lemmas.Bool.{ltb-true}

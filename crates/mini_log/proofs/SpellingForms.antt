@@ -1,4 +1,5 @@
--- What each form on spellings, and on an argument that is undefined, writes is what a row of the rewrites says.
+-- Each form on spellings, and on an argument that is undefined, writes what a row of the rewrites
+-- says.
 use Rattle.std.proofs.Common.{◌≡◌, ◌⊎◌, refl, sym, ap, ◌∙◌, inl, inr}
 use Rattle.std.specs.Prelude.{ℕ, zero, Bool, true, false, ◌&&◌, ◌||◌, nat_le, length, List, [], ◌∷◌, codes, Option, Some, None, option_map, option_and_then}
 use Rattle.std.proofs.lemmas.Bool.{and_parts, false≢true}

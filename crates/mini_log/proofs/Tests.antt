@@ -1,4 +1,4 @@
--- What an expression is, where a test of a log's rows says so.
+-- A tree is what a test of a log's rows says that it is.
 use Rattle.std.proofs.Common.{◌≡◌, refl, sym, ap, ◌∙◌, inl, inr}
 use Rattle.std.specs.Prelude.{ℕ, zero, suc, ◌⊎◌, Bool, true, false, not, ◌&&◌, ◌||◌, nat_eq, length, List, [], ◌∷◌, codes, Option, Some, None, option_map, is_none, ℤ, pos}
 use Rattle.std.proofs.lemmas.Bool.{and_parts, eqb-true, false≢true}

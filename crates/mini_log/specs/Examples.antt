@@ -190,7 +190,7 @@ row_39 = refl
 miss_39 : Rests 39 (logical And a (logical Or b c))
 miss_39 = refl
 
--- `!a ? b : c` becomes `a ? c : b`, `a != b ? c : d` becomes `a == b ? d : c`, and `a ? b : c` stays
+-- `!a ? b : c` becomes `a ? c : b`, `a != b ? c : d` `a == b ? d : c`, and `a ? b : c` stays
 row_40 : Writes 40 (conditional (negation a) b c) (conditional a c b)
 row_40 = refl
 

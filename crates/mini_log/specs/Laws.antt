@@ -1,4 +1,4 @@
--- What a log proves.
+-- The laws of a row's step and of a log.
 use Rattle.std.specs.Prelude.{◌≡◌, ◌≤◌, ◌+◌, List, length, Some}
 use Rattle.mini_model.specs.declared.place.Position.TheVariants.{Elsewhere}
 use Rattle.mini_model.specs.Paths.{Path}

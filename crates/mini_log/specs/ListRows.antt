@@ -113,7 +113,7 @@ abbrev pub spread : Trees → Option Trees
 spread none = None
 spread (t ▸ ts) = if is_block t && are_unscoped (children (part t 0)) then Some (append (children (part t 0)) ts) else None
 
--- the child at an index is a branch or a body: of `if`, `while`, `do`, `for`, `for..in` or `for..of`
+-- the child at an index is a branch or a body: of `if`, `while`, `do`, `for`, `for..in`, `for..of`
 abbrev pub is_branch : Shape → ℕ → Bool
 is_branch shape.IfStatement (suc zero) = true
 is_branch shape.IfStatement (suc (suc zero)) = true

@@ -1,4 +1,4 @@
-//! What a log proves of the program that it was replayed on.
+//! The laws of a row's step and of a log.
 
 ghost use Rattle.mini_log.specs.Laws.{LogIsAWay, LogKeeps, LogLightens, RowStepIsAStep, RowStepLightens};
 
@@ -9,8 +9,8 @@ pub fn row_steps_are_steps()
     ensures lighter { RowStepLightens }
 {}
 
-/// A log whose entries all have a step leads by such steps from the first program to the last, which
-/// keeps all that a program has to keep, and is lighter by at least the number of entries.
+/// A log whose entries all have a step leads by such steps from the first program to the last. That
+/// one keeps all that a program has to keep, and is lighter by at least the number of entries.
 pub fn accepted_logs_keep()
     ensures way { LogIsAWay }
     ensures keeps { LogKeeps }
