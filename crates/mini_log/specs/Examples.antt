@@ -354,6 +354,13 @@ miss_66 = refl
 miss_66_last : replayed true nothing two_statements (entry 66 (1 ∷ []) ∷ []) ≡ None
 miss_66_last = refl
 
+-- `switch (a) { case b: ; c; }`, of which the path of a statement counts the test before it
+abbrev one_case : Trees → Tree
+one_case ts = script (node shape.SwitchStatement [] 0 (a ▸ listed (node shape.SwitchCase [] 0 (b ▸ listed ts ▸ none) ▸ none) ▸ none) ▸ none)
+
+row_66_case : Makes 66 (0 ∷ 1 ∷ 1 ∷ []) (one_case (empty_statement ▸ expression_statement c ▸ none)) (one_case (expression_statement c ▸ none))
+row_66_case = refl
+
 abbrev held : Tree → Tree
 held t = script (if_else a t (expression_statement b) ▸ none)
 
