@@ -12,15 +12,15 @@ use Rattle.mini_model.specs.Tree.{Tree}
 use Rattle.mini_model.specs.Weight.{weight}
 use Rattle.mini_laws.specs.Value.{VariableSet}
 use Rattle.mini_rows.specs.Branches.{BranchRow}
-use Rattle.mini_rows.specs.Choices.{ChoiceRow}
+use Rattle.mini_rows.specs.Choices.{ChoiceRow, Shorter, TestedBranch, SharedBranch, BothSides, Rotated, OrTest, AndTest, AndBoth, OrEither, Alike}
 use Rattle.mini_rows.specs.Constants.{ConstantRow}
 use Rattle.mini_rows.specs.Declarations.{DeclarationRow}
 use Rattle.mini_rows.specs.Folding.{FoldingRow}
 use Rattle.mini_rows.specs.Lists.{ListRow}
 use Rattle.mini_rows.specs.Negations.{NegationRow}
-use Rattle.mini_rows.specs.Operands.{OperandRow}
-use Rattle.mini_rows.specs.Redex.{Row, Rewrites}
-use Rattle.mini_rows.specs.Spellings.{SpellingRow}
+use Rattle.mini_rows.specs.Operands.{OperandRow, EmptyText}
+use Rattle.mini_rows.specs.Redex.{Row, Rewrites, AsTest, AsSpelling, AsBranch, AsList, AsChoice, AsDeclaration, AsFolding, AsTurn, AsConstant, AsOperand, AsNegation}
+use Rattle.mini_rows.specs.Spellings.{SpellingRow, ShortBoolean, DottedMember, DottedTarget, DottedUpdate, LooseLeft, LooseRight, SwappedEquality, BareYield, OrderedTypeof, PlainTemplate, ComparedWithVoid}
 use Rattle.mini_rows.specs.Switches.{Switches}
 use Rattle.mini_rows.specs.Turns.{TurnRow}
 use Rattle.mini_rows.specs.Writes.{WriteRow}
@@ -75,25 +75,25 @@ module _ (o : Switches) (W : VariableSet) where
   node_rows : (r : LogRow) (p : Position) (t : Tree) → EachIs (Known o W p t) p t (node_forms W r p t)
   node_rows row.Row1 (Expr s) t = (λ w e l. of_constants (inl (folds_unary s t w e)), tt)
   node_rows row.Row3 (Expr s) t = (λ w e l. of_constants (inl (folds_binary s t w e)), tt)
-  node_rows row.Row7 (Expr s) t = (λ w e l. of_operands (inr (inl (stays_before s t w e))), (λ w e l. of_operands (inr (inl (stays_behind s t w e))), tt))
+  node_rows row.Row7 (Expr s) t = (λ w e l. of_operands (EmptyText (stays_before s t w e)), (λ w e l. of_operands (EmptyText (stays_behind s t w e)), tt))
   node_rows row.Row12 (Expr s) t = (λ w e l. of_foldings (inr (inl (stops_at is_and_or s t w e))), tt)
-  node_rows row.Row13 (Expr s) t = (λ w e l. of_foldings (inl (passes is_and_or s t w e)), (λ w e l. of_choices (inr (inr (inr (inr (inr (inr (inr (inl (evaluates_both is_and_or t w e))))))))), tt))
-  node_rows row.Row15 (Expr s) t = (λ w e l. of_foldings (inl (passes is_coalesce s t w e)), (λ w e l. of_choices (inr (inr (inr (inr (inr (inr (inr (inl (evaluates_both is_coalesce t w e))))))))), (λ w e l. of_foldings (inr (inl (stops_at is_coalesce s t w e))), tt)))
-  node_rows row.Row19 (Expr s) t = (λ w e l. of_spellings (inr (inr (inr (inr (inr (inr (inr (inr (inr (inl (untemplates t w e))))))))))), tt)
+  node_rows row.Row13 (Expr s) t = (λ w e l. of_foldings (inl (passes is_and_or s t w e)), (λ w e l. of_choices (BothSides (evaluates_both is_and_or t w e)), tt))
+  node_rows row.Row15 (Expr s) t = (λ w e l. of_foldings (inl (passes is_coalesce s t w e)), (λ w e l. of_choices (BothSides (evaluates_both is_coalesce t w e)), (λ w e l. of_foldings (inr (inl (stops_at is_coalesce s t w e))), tt)))
+  node_rows row.Row19 (Expr s) t = (λ w e l. of_spellings (PlainTemplate (untemplates t w e)), tt)
   node_rows row.Row23 (Expr s) t = (λ w e l. either_row (Expr s) t w (λ r. of_first (inl r)) of_negations (negates s t w e l), tt)
-  node_rows row.Row33 (Expr s) t = (λ w e l. of_spellings (inr (inl (dots t w e))), (λ w e l. of_spellings (inr (inr (inl (dots_target t w e)))), (λ w e l. of_spellings (inr (inr (inr (inl (dots_update t w e))))), tt)))
+  node_rows row.Row33 (Expr s) t = (λ w e l. of_spellings (DottedMember (dots t w e)), (λ w e l. of_spellings (DottedTarget (dots_target t w e)), (λ w e l. of_spellings (DottedUpdate (dots_update t w e)), tt)))
   node_rows row.Row34 (Expr s) t = (λ w e l. of_writes (inl (combines W t w e)), tt)
-  node_rows row.Row39 (Expr s) t = (λ w e l. of_choices (inl (inl (rotates t w e))), tt)
+  node_rows row.Row39 (Expr s) t = (λ w e l. of_choices (Shorter (Rotated (rotates t w e))), tt)
   node_rows row.Row40 (Expr s) t = (λ w e l. of_first (inr (swaps t w e)), (λ w e l. of_turns (swaps_equal t w e), tt))
-  node_rows row.Row41 (Expr s) t = (λ w e l. of_choices (inr (inl (inl (owns_consequent t w e)))), (λ w e l. of_choices (inr (inl (inr (owns_alternate t w e)))), tt))
-  node_rows row.Row42 (Expr s) t = (λ w e l. of_choices (inr (inr (inl (inl (holds_alternate t w e))))), (λ w e l. of_choices (inr (inr (inl (inr (inl (holds_consequent t w e)))))), tt))
-  node_rows row.Row49 (Expr s) t = (λ w e l. of_foldings (inr (inr (inr (inl (holds_one s t w e))))), (λ w e l. of_choices (inr (inr (inl (inr (inr (inr (inr (inr (inr (holds_both t w e)))))))))), tt))
-  node_rows row.Row54 (Expr s) t = (λ w e l. of_spellings (inr (inr (inr (inr (inr (inr (inl (turns t w e)))))))), tt)
-  node_rows row.Row55 (Expr s) t = (λ w e l. of_spellings (inr (inr (inr (inr (inr (inr (inr (inr (inl (orders t w e)))))))))), (λ w e l. of_spellings (inr (inr (inr (inr (inr (inr (inr (inr (inr (inr (compares t w e))))))))))), tt))
-  node_rows row.Row58 (Expr s) t = (λ w e l. of_spellings (inr (inr (inr (inr (inl (nulls_left t w e)))))), (λ w e l. of_spellings (inr (inr (inr (inr (inr (inl (nulls_right t w e))))))), tt))
-  node_rows row.Row60 (Expr s) t = (λ w e l. of_spellings (inr (inr (inr (inr (inr (inr (inr (inl (yields_bare t w e))))))))), tt)
+  node_rows row.Row41 (Expr s) t = (λ w e l. of_choices (TestedBranch (OrTest (owns_consequent t w e))), (λ w e l. of_choices (TestedBranch (AndTest (owns_alternate t w e))), tt))
+  node_rows row.Row42 (Expr s) t = (λ w e l. of_choices (SharedBranch (AndBoth (holds_alternate t w e))), (λ w e l. of_choices (SharedBranch (OrEither (holds_consequent t w e))), tt))
+  node_rows row.Row49 (Expr s) t = (λ w e l. of_foldings (inr (inr (inr (inl (holds_one s t w e))))), (λ w e l. of_choices (SharedBranch (Alike (holds_both t w e))), tt))
+  node_rows row.Row54 (Expr s) t = (λ w e l. of_spellings (SwappedEquality (turns t w e)), tt)
+  node_rows row.Row55 (Expr s) t = (λ w e l. of_spellings (OrderedTypeof (orders t w e)), (λ w e l. of_spellings (ComparedWithVoid (compares t w e)), tt))
+  node_rows row.Row58 (Expr s) t = (λ w e l. of_spellings (LooseLeft (nulls_left t w e)), (λ w e l. of_spellings (LooseRight (nulls_right t w e)), tt))
+  node_rows row.Row60 (Expr s) t = (λ w e l. of_spellings (BareYield (yields_bare t w e)), tt)
   node_rows row.Row60 (Stmt q) t = (λ w e l. of_branches (inl (inl (returns_bare t w e))), tt)
-  node_rows row.Row65 (Expr s) t = (λ w e l. of_spellings (inl (spells_digit t w e)), tt)
+  node_rows row.Row65 (Expr s) t = (λ w e l. of_spellings (ShortBoolean (spells_digit t w e)), tt)
   node_rows row.Row82 (Stmt q) t = (λ w e l. of_first (inl (chooses_between t w e)), (λ w e l. either_row (Stmt q) t w (λ r. of_first (inr (inr r))) (λ r. of_branches (inr (inr (inr (inr (inl r)))))) (disjoins t w e), (λ w e l. of_first (inr (inl (conjoins t w e))), (λ w e l. either_row (Stmt q) t w (λ r. of_branches (inr (inr (inl (inr r))))) (λ r. of_branches (inr (inr (inr (inr (inr r)))))) (else_conjoins t w e), (λ w e l. of_branches (inr (inr (inl (inl (else_disjoins t w e))))), tt)))))
   node_rows _ _ t = tt
 
@@ -133,15 +133,15 @@ module _ (o : Switches) (W : VariableSet) where
       by r = inl (record { row = r; lighter = l })
 
       go : Known o W p n w → Rewrites o W p n w
-      go (of_first r) = by (inl r)
-      go (of_spellings r) = by (inr (inl r))
-      go (of_branches r) = by (inr (inr (inl r)))
-      go (of_lists r) = by (inr (inr (inr (inl r))))
-      go (of_choices r) = by (inr (inr (inr (inr (inr (inl r))))))
-      go (of_declarations r) = by (inr (inr (inr (inr (inr (inr (inl r)))))))
-      go (of_foldings r) = by (inr (inr (inr (inr (inr (inr (inr (inl r))))))))
-      go (of_turns r) = by (inr (inr (inr (inr (inr (inr (inr (inr (inl r)))))))))
-      go (of_constants r) = by (inr (inr (inr (inr (inr (inr (inr (inr (inr (inr (inl r)))))))))))
-      go (of_operands r) = by (inr (inr (inr (inr (inr (inr (inr (inr (inr (inr (inr (inr (inr (inr (inr (inl r))))))))))))))))
-      go (of_negations r) = by (inr (inr (inr (inr (inr (inr (inr (inr (inr (inr (inr (inr (inr (inr (inr (inr (inl r)))))))))))))))))
+      go (of_first r) = by (AsTest r)
+      go (of_spellings r) = by (AsSpelling r)
+      go (of_branches r) = by (AsBranch r)
+      go (of_lists r) = by (AsList r)
+      go (of_choices r) = by (AsChoice r)
+      go (of_declarations r) = by (AsDeclaration r)
+      go (of_foldings r) = by (AsFolding r)
+      go (of_turns r) = by (AsTurn r)
+      go (of_constants r) = by (AsConstant r)
+      go (of_operands r) = by (AsOperand r)
+      go (of_negations r) = by (AsNegation r)
       go (of_writes r) = inr (inr (inr (inr (inl (record { row = r; lighter = l })))))
