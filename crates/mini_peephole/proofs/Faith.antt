@@ -129,13 +129,13 @@ nothing_left o m t u light f = record {
 }
 
 module _ (d : Data) (o : CompressOptions) (m : Minified) (t : Tree) (read : Accepts d t) (free : early_fault t ≡ None) (r : IsRewriting (resolved_program t) o m) where
-  lawful : (q : Tree) → DeclaresOnce q → LawfulRooted (let_go (switches o)) (writable_in q) (exactly_of q) (AllGives o q)
+  pub lawful : (q : Tree) → DeclaresOnce q → LawfulRooted (let_go (switches o)) (writable_in q) (exactly_of q) (AllGives o q)
   lawful = all_lawful o
 
-  so : AreSo steady_in
+  pub so : AreSo steady_in
   so q e = each_itself (steady_in q)
 
-  begins : EachBegins (λ q. PartEach (exactly_of q) (steady_in r.output)) r.passes.reached
+  pub begins : EachBegins (λ q. PartEach (exactly_of q) (steady_in r.output)) r.passes.reached
   begins = any.begins exactly_of steady_in (AllGives o) (AllRests o) o lawful (all_known o) known_is_so d m t read free r
 
   abbrev pub again : (u : Tree) × Accepts (program_data r.output) u × (text u ≡ text r.output)
