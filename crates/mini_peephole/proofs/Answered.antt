@@ -3,6 +3,7 @@ use Rattle.std.proofs.Common.{◌≡◌, ℕ, sym, ap, subst, ◌∙◌}
 use Rattle.std.specs.Prelude.{None, Ok, Result, IfOk}
 use Rattle.std.proofs.lemmas.Result.{IfOk-weaker}
 use Rattle.serde_json.specs.Data.{Data}
+use Rattle.mini_model.specs.declared.place.Position.{Position}
 use Rattle.mini_model.specs.declared.place.Position.TheVariants.{Elsewhere}
 use Rattle.mini_model.specs.Tree.{Tree}
 use Rattle.mini_model.specs.Weight.{weight, capped}
@@ -15,22 +16,27 @@ use Rattle.mini_writer.specs.Fits.{Fits}
 use Rattle.mini_writer.proofs.Light.{accepted_light}
 use Rattle.mini_peephole.specs.Faithful.{Faithful, PassesBounded}
 use Rattle.mini_peephole.specs.Answer.{IsWeighed}
-use Rattle.mini_peephole.specs.Minified.{IsAnswer, IsRewriting, IsWeighedAnswer}
+use Rattle.mini_peephole.specs.Minified.{IsAnswerOf, IsMinified, IsMinifiedBy, IsRewriting, IsWeighedAnswer}
 use Rattle.mini_peephole.specs.declared.minify.Weighed.{Weighed}
 use Rattle.mini_peephole.specs.declared.minify.Minified.{Minified}
 use Rattle.mini_peephole.specs.ComesBack.{ComesBack}
 use Rattle.mini_peephole.proofs.ComesBack.{comes_back}
 use Rattle.mini_peephole.proofs.Faith.{faithful, passes_bounded, weighs, weighs_after}
 
-pub answer_is_faithful : (d : Data) (o : CompressOptions) (t : Tree) (n : ℕ) (made : Result Minified MinifyError) → Fits d → program_at o.max_depth d ≡ Ok (t, n) → IfOk made (λ m. IsAnswer t o m) → IfOk made (λ m. Faithful d o m)
-answer_is_faithful d o t n made small read = IfOk-weaker {X = Minified} {Y = MinifyError} made _ _ (λ m a. faithful d o m t (o.max_depth, n, read) a.free a.rewriting (accepted_light d t (o.max_depth, n, read) small))
+-- the answer for the tree that was read is one for the value
+pub answer_is_minified : (G : CompressOptions → Tree → Position → Tree → Tree → Type 0) (D : CompressOptions → Tree → Position → Tree → Type 0) (d : Data) (o : CompressOptions) (t : Tree) (n : ℕ) (made : Result Minified MinifyError) → program_at o.max_depth d ≡ Ok (t, n) → IfOk made (λ m. IsAnswerOf G D t o m) → IfOk made (λ m. IsMinifiedBy G D d o m)
+answer_is_minified G D d o t n made read = IfOk-weaker {X = Minified} {Y = MinifyError} made _ _ (λ m a. record { input = t; accepted = (o.max_depth, n, read); answer = a })
 
-pub answer_is_bounded : (d : Data) (o : CompressOptions) (t : Tree) (n : ℕ) (made : Result Minified MinifyError) → program_at o.max_depth d ≡ Ok (t, n) → IfOk made (λ m. IsAnswer t o m) → IfOk made (λ m. PassesBounded d o m)
-answer_is_bounded d o t n made read = IfOk-weaker {X = Minified} {Y = MinifyError} made _ _ (λ m a. passes_bounded d o m t (o.max_depth, n, read) a.free a.rewriting)
+-- and what is one of all rules is faithful
+pub minified_is_faithful : (d : Data) (o : CompressOptions) (made : Result Minified MinifyError) → Fits d → IfOk made (λ m. IsMinified d o m) → IfOk made (λ m. Faithful d o m)
+minified_is_faithful d o made small = IfOk-weaker {X = Minified} {Y = MinifyError} made _ _ (λ m a. faithful d o m a.input a.accepted a.answer.free a.answer.rewriting (accepted_light d a.input a.accepted small))
 
--- a settled answer comes back
-pub answer_comes_back : (d : Data) (o : CompressOptions) (t : Tree) (n : ℕ) (made : Result Minified MinifyError) → Fits d → program_at o.max_depth d ≡ Ok (t, n) → IfOk made (λ m. IsAnswer t o m) → IfOk made (λ m. ComesBack o m)
-answer_comes_back d o t n made small read = IfOk-weaker {X = Minified} {Y = MinifyError} made _ _ (λ m a. comes_back d o m t (o.max_depth, n, read) a.free a.rewriting (accepted_light d t (o.max_depth, n, read) small))
+pub minified_is_bounded : (d : Data) (o : CompressOptions) (made : Result Minified MinifyError) → IfOk made (λ m. IsMinified d o m) → IfOk made (λ m. PassesBounded d o m)
+minified_is_bounded d o made = IfOk-weaker {X = Minified} {Y = MinifyError} made _ _ (λ m a. passes_bounded d o m a.input a.accepted a.answer.free a.answer.rewriting)
+
+-- where it is settled it comes back
+pub minified_comes_back : (d : Data) (o : CompressOptions) (made : Result Minified MinifyError) → Fits d → IfOk made (λ m. IsMinified d o m) → IfOk made (λ m. ComesBack o m)
+minified_comes_back d o made small = IfOk-weaker {X = Minified} {Y = MinifyError} made _ _ (λ m a. comes_back d o m a.input a.accepted a.answer.free a.answer.rewriting (accepted_light d a.input a.accepted small))
 
 weighed : (d : Data) (o : CompressOptions) (t : Tree) (n : ℕ) (w : Weighed) → Fits d → program_at o.max_depth d ≡ Ok (t, n) → IsWeighedAnswer t o w → IsWeighed d o w.minified w.before w.after
 weighed d o t n w small read a =

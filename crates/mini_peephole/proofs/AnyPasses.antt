@@ -33,7 +33,7 @@ use Rattle.mini_kept.specs.ShownFrames.{KeyGivenUnder, gone_from, FramesShown}
 use Rattle.mini_laws.specs.Writable.{writable_by, writable_in}
 use Rattle.mini_kept.specs.Loosely.{symbol, undeclared, ProgramIsKeptUnder}
 use Rattle.mini_kept.specs.Rooted.{LawfulRooted}
-use Rattle.mini_kept.specs.Without.{BodySets, Within, Steadies, Begins, Unseen, AlikeUnder}
+use Rattle.mini_kept.specs.Without.{BodySets, nothing_assured, Within, Steadies, Begins, Unseen, AlikeUnder}
 use Rattle.mini_kept.proofs.Gone.{avoids}
 use Rattle.mini_kept.proofs.Rooted.{rooted_keeps}
 use Rattle.mini_kept.proofs.ReadBack.{IsRead, IsReadBack, read_back}
@@ -42,7 +42,7 @@ use Rattle.mini_kept.proofs.SameEarly.{names_resolved}
 use Rattle.mini_kept.proofs.SameShape.{shaped_resolved}
 use Rattle.mini_kept.proofs.Texts.{text}
 use Rattle.mini_kept.proofs.Undeclared.{unshared, native}
-use Rattle.mini_kept.proofs.WithoutLists.{within_itself, kept_stands}
+use Rattle.mini_kept.proofs.WithoutLists.{PartEach, nothing_within, none_part, each_itself, kept_stands}
 use Rattle.mini_again.specs.Carrying.{HasNoRepeat}
 use Rattle.mini_shrink.specs.Exact.{exactly_of}
 use Rattle.mini_writer.specs.Written.{program_data}
@@ -51,13 +51,13 @@ use Rattle.mini_peephole.specs.Environments.{name_of, shared_by, foreign_to, is_
 use Rattle.mini_laws.specs.Foreign.{is_foreign}
 use Rattle.mini_laws.specs.Shared.{is_shared}
 use Rattle.mini_shrink.specs.SameForeign.{DeclaresOnce}
-use Rattle.mini_peephole.specs.AnyPasses.{KeepsKnown, PassesFaithful, NothingLeft}
+use Rattle.mini_peephole.specs.AnyPasses.{Facts, no_facts, AreAmong, AreSo, KeepsKnown, NothingLeft, EachBegins, PassesFaithful, StepsFaithful, PlainFaithful, ToldFaithful}
 use Rattle.mini_peephole.specs.Minified.{IsWritten}
 use Rattle.mini_rows.specs.Switches.{let_go}
 use Rattle.mini_peephole.specs.Faithful as faith
-use Rattle.mini_peephole.specs.Faithful.{switches, symbols_of, BeginsWithProgram, AreNamed, IsSameBody, BodiesAreSame, IsFaithfulWith, FaithfulWith}
+use Rattle.mini_peephole.specs.Faithful.{switches, symbols_of, BeginsWithProgram, AreNamed, IsSameBody, BodiesAreSame, IsFaithfulUnder, FaithfulUnder}
 use Rattle.mini_peephole.specs.declared.minify.Minified.{Minified}
-use Rattle.mini_peephole.proofs.Chains.{EachKnown, known_more, each_known, Any, any_lawful, any_reach, open_in}
+use Rattle.mini_peephole.proofs.Chains.{within_through, begins_more, declared_after, known_after, Any, any_lawful, any_reach, open_in}
 use Rattle.mini_peephole.proofs.Known.{known_is_so}
 use Rattle.mini_peephole.proofs.Repeats.{no_repeat}
 use Rattle.mini_peephole.proofs.Written.{is_read, free_of, read_again}
@@ -96,10 +96,10 @@ none_asks n [] e c i below at = absurd (omega (arith, below))
 none_asks n (b ∷ bs) e c zero below at = ap (asks_as n) (sym at) ∙ (or_parts (asks_as n b) (list_any (asks_as n) bs) e).0
 none_asks n (b ∷ bs) e c (suc i) below at = none_asks n bs (or_parts (asks_as n b) (list_any (asks_as n) bs) e).1 c i (omega (arith, below)) at
 
--- what is known of a body of a program is so where it runs
-steadies : (u : Tree) (b c : Body) → Contains (bodies_in u) c → b.number ≡ c.number → b.asks_this ≡ c.asks_this → (fixed : Variable → Writing) → Steadies (steady_in u b.number) (record { shared = shared_by u c; foreign = foreign_to u c; fixed = fixed; asks_this = b.asks_this })
-steadies u b c (i, below, at) e asks fixed =
-    let known : Within (steady_in u b.number) (steady_in u c.number) = subst (λ n. Within (steady_in u b.number) (steady_in u n)) e (within_itself (steady_in u b.number)) in
+-- what is known of a body of a program, and so by Shared and Foreign, is so where it runs
+steadies : (u : Tree) (S : BodySets) → PartEach S (steady_in u) → (b c : Body) → Contains (bodies_in u) c → b.number ≡ c.number → b.asks_this ≡ c.asks_this → (fixed : Variable → Writing) → Steadies (S b.number) (record { shared = shared_by u c; foreign = foreign_to u c; fixed = fixed; asks_this = b.asks_this })
+steadies u S so b c (i, below, at) e asks fixed =
+    let known : Within (S b.number) (steady_in u c.number) = subst (λ n. Within (S b.number) (steady_in u n)) e (so b.number) in
     record {
       steady = λ x h. untold (is_declared x) (is_foreign u c.number (name_of x)) (known.steady x h);
       unshared = λ x h. untold (is_declared x) (is_shared u c.number (name_of x)) (known.unshared x h);
@@ -110,12 +110,12 @@ steadies u b c (i, below, at) e asks fixed =
     asked h = sym (ap (λ g. g && c.asks_this) (equal_itself c.number)) ∙ h
 
 -- and it starts where those are initialised
-begun : (u : Tree) (b c : Body) → b.number ≡ c.number → Begins (steady_in u b.number) (initialised_for u c)
-begun u b c e x h = subst (λ n. initialised_at u n x ≡ true) e h
+begun : (u : Tree) (S : BodySets) → PartEach S (steady_in u) → (b c : Body) → b.number ≡ c.number → Begins (S b.number) (initialised_for u c)
+begun u S so b c e x h = (subst (λ n. Within (S b.number) (steady_in u n)) e (so b.number)).initial x h
 
-module _ (K : Shape → Bool) where
-  same_body : (t u : Tree) → ProgramIsKeptUnder K (writable_by t) (steady_in u) t u → Scoped Read [] t → Distinct (declared_symbols t) → Scoped Read [] u → (b c : Body) → Contains (bodies_in u) c → AlikeUnder (writable_by t) (steady_in u) (undeclared u) b c → IsSameBody t u b c
-  same_body t u kept vt d v b c there a =
+module _ (K : Shape → Bool) (S : BodySets) where
+  same_body : (t u : Tree) → ProgramIsKeptUnder K (writable_by t) S t u → PartEach S (steady_in u) → Scoped Read [] t → Distinct (declared_symbols t) → Scoped Read [] u → (b c : Body) → Contains (bodies_in u) c → AlikeUnder (writable_by t) S (undeclared u) b c → IsSameBody t u b c
+  same_body t u kept so vt d v b c there a =
       let e = environment_with t (shared_by u c) (foreign_to u c) b in
       let f = environment_with u (shared_by u c) (foreign_to u c) c in
       let X = initialised_for u c in
@@ -128,25 +128,26 @@ module _ (K : Shape → Bool) where
         same = record {
           by = λ vars this answers turns i.
               let again = refixed e f.fixed (undeclared u) (λ x h. (λ k. fixed_in (a.strict k) t x) ∙ kept.fixities vt d c.strict x h) c.kind c.root root vars this answers turns ∙ (λ k. Run (modes k) c.kind c.root vars this answers turns) in
-              subst (λ r. (Run e b.kind b.root vars this answers turns ≡ None) ⊎ (Run e b.kind b.root vars this answers turns ≡ r)) again ((a.same e (record { unseen = record { shared = seen.shared; foreign = seen.foreign }; writable = λ x h. open_in b.strict t x h }) (steadies u b c there a.number a.asks_this (fixed_in b.strict t)) X (begun u b c a.number)).by vars this answers turns i);
+              subst (λ r. (Run e b.kind b.root vars this answers turns ≡ None) ⊎ (Run e b.kind b.root vars this answers turns ≡ r)) again ((a.same e (record { unseen = record { shared = seen.shared; foreign = seen.foreign }; writable = λ x h. open_in b.strict t x h }) (steadies u S so b c there a.number a.asks_this (fixed_in b.strict t)) X (begun u S so b c a.number)).by vars this answers turns i);
         };
       }
 
-  bodies_same : (t u : Tree) → ProgramIsKeptUnder K (writable_by t) (steady_in u) t u → IsWellShaped t → Scoped Read [] t → Distinct (declared_symbols t) → BodiesAreSame t u
-  bodies_same t u kept e v d c there =
-      let (b, stands, alike) = kept_stands (writable_by t) (steady_in u) (undeclared u) (bodies_in t) (bodies_in u) (kept.bodies v d) c there in
-      (b, stands, same_body t u kept v d (kept.names.scoped e v) b c there alike)
+  bodies_same : (t u : Tree) → ProgramIsKeptUnder K (writable_by t) S t u → PartEach S (steady_in u) → IsWellShaped t → Scoped Read [] t → Distinct (declared_symbols t) → BodiesAreSame t u
+  bodies_same t u kept so e v d c there =
+      let (b, stands, alike) = kept_stands (writable_by t) S (undeclared u) (bodies_in t) (bodies_in u) (kept.bodies v d) c there in
+      (b, stands, same_body t u kept so v d (kept.names.scoped e v) b c there alike)
 
 -- ---- the whole
 
--- t is read, its resolved form becomes v, and u is v read again
-pub record Made (G : Tree → Position → Tree → Tree → Type 0) (D : Tree → Position → Tree → Type 0) (o : CompressOptions) (m : Minified) (t v u : Tree) : Type 0 where
+-- t is read, its resolved form becomes v, of whose bodies S is known, and u is v read again
+pub record Made (S : Facts) (G : Tree → Position → Tree → Tree → Type 0) (D : Tree → Position → Tree → Type 0) (o : CompressOptions) (m : Minified) (t v u : Tree) : Type 0 where
   pub passes : MakesPasses G D (resolved_program t) v o.passes m.passes m.settled
   pub kept : m.kept ≡ 0 ∷ numbers v
   pub symbols : m.symbols ≡ symbol_numbers (declared_symbols v)
   pub back : IsReadBack t v u
   pub shaped : IsWellShaped (resolved_program t)
-  pub rewritten : ProgramIsKeptUnder (let_go (switches o)) (writable_by (resolved_program t)) (steady_in v) (resolved_program t) v
+  pub rewritten : ProgramIsKeptUnder (let_go (switches o)) (writable_by (resolved_program t)) (S v) (resolved_program t) v
+  pub so : PartEach (S v) (steady_in v)
 
 named : (m : Minified) (t v u : Tree) → IsReadBack t v u → m.kept ≡ 0 ∷ numbers v → m.symbols ≡ symbol_numbers (declared_symbols v) → AreNamed m.kept m.symbols t u
 named m t v u r kept symbols = record {
@@ -158,12 +159,12 @@ named m t v u r kept symbols = record {
   symbols_once = subst HasNoRepeat (sym symbols) (no_repeat (symbol_numbers (declared_symbols v)) r.symbols_once);
 }
 
-module _ (G : Tree → Position → Tree → Tree → Type 0) (D : Tree → Position → Tree → Type 0) where
+module _ (S : Facts) (G : Tree → Position → Tree → Tree → Type 0) (D : Tree → Position → Tree → Type 0) where
   -- the later program, in the earlier one's numbers and symbols, is what rewriting gave
-  pub later_is : (o : CompressOptions) (m : Minified) (t v u : Tree) → Made G D o m t v u → faith.later m u ≡ v
+  pub later_is : (o : CompressOptions) (m : Minified) (t v u : Tree) → Made S G D o m t v u → faith.later m u ≡ v
   later_is o m t v u made = (λ k. carried (made.kept k) (symbols_of (made.symbols k)) (resolved_program u)) ∙ made.back.later
 
-  pub faithful_trees : (o : CompressOptions) (m : Minified) (t v u : Tree) → early_fault t ≡ None → Made G D o m t v u → IsFaithfulWith (NothingLeft D) o m t u
+  pub faithful_trees : (o : CompressOptions) (m : Minified) (t v u : Tree) → early_fault t ≡ None → Made S G D o m t v u → IsFaithfulUnder S (NothingLeft D) o m t u
   faithful_trees o m t v u free made =
       let kept = made.rewritten in
       let whole = later_is o m t v u made in
@@ -174,8 +175,8 @@ module _ (G : Tree → Position → Tree → Tree → Type 0) (D : Tree → Posi
         jumps = made.back.jumps (free_of t free).1;
         named = named m t v u made.back made.kept made.symbols;
         spelled = λ x c. kept.declared x (subst (λ w. Contains (declared w) x) whole c);
-        frames = subst (λ w. FramesShown (gone_from (let_go (switches o)) (undeclared w)) (KeyGivenUnder (writable_by (resolved_program t)) (steady_in w) (undeclared w) (bodies_in (resolved_program t))) (frames_in (resolved_program t)) (frames_in w)) (sym whole) (kept.frames (scoped Read [] 0 t) (resolved_distinct t));
-        bodies = subst (BodiesAreSame (resolved_program t)) (sym whole) (bodies_same (let_go (switches o)) (resolved_program t) v kept made.shaped (scoped Read [] 0 t) (resolved_distinct t));
+        frames = subst (λ w. FramesShown (gone_from (let_go (switches o)) (undeclared w)) (KeyGivenUnder (writable_by (resolved_program t)) (S w) (undeclared w) (bodies_in (resolved_program t))) (frames_in (resolved_program t)) (frames_in w)) (sym whole) (kept.frames (scoped Read [] 0 t) (resolved_distinct t));
+        bodies = subst (BodiesAreSame (resolved_program t)) (sym whole) (bodies_same (let_go (switches o)) (S v) (resolved_program t) v kept made.so made.shaped (scoped Read [] 0 t) (resolved_distinct t));
         weight = subst (λ w. program_weight w ≤ program_weight (resolved_program t)) (sym whole) (omega (arith, some, less));
         some_pass = some;
         within = made.passes.within;
@@ -183,39 +184,28 @@ module _ (G : Tree → Position → Tree → Tree → Type 0) (D : Tree → Posi
         unsettled = λ e. let (same, fell) = made.passes.stopped e in subst (λ w. program_weight w + max o.passes 1 ≤ program_weight (resolved_program t)) (sym whole) (omega (arith, same, fell));
       }
 
--- what is lawful by what is known of the bodies of each program, and keeps that
-module _ (G : Tree → Position → Tree → Tree → Type 0) (D : Tree → Position → Tree → Type 0) (o : CompressOptions) (l : (q : Tree) → DeclaresOnce q → LawfulRooted (let_go (switches o)) (writable_in q) (exactly_of q) (G q)) (stay : (q : Tree) → KeepsKnown (G q)) (d : Data) (m : Minified) (t : Tree) (read : Accepts d t) (free : early_fault t ≡ None) (r : IsWritten G D (resolved_program t) o.passes m) where
+-- a program that is accepted and has no early error
+module _ (d : Data) (t : Tree) (read : Accepts d t) (free : early_fault t ≡ None) where
   pub start : IsRead t read.1
   start = is_read d read.0 read.1 t read.2
 
-  shaped : IsWellShaped (resolved_program t)
-  shaped = shaped_resolved t start.shaped
+  pub resolved : DeclaresOnce (resolved_program t)
+  resolved = record { shaped = shaped_resolved t start.shaped; scoped = scoped Read [] 0 t; distinct = resolved_distinct t; once = names_resolved [] t ∙ (free_of t free).0 }
 
-  abbrev S : BodySets
-  S = steady_in r.output
+-- what is lawful by S, where T says of the last program all that S says as any pass begins
+module _ (S T : Facts) (G : Tree → Position → Tree → Tree → Type 0) (D : Tree → Position → Tree → Type 0) (o : CompressOptions) (l : (q : Tree) → DeclaresOnce q → LawfulRooted (let_go (switches o)) (writable_in q) (S q) (G q)) (so : AreSo T) (d : Data) (m : Minified) (t : Tree) (read : Accepts d t) (free : early_fault t ≡ None) (r : IsWritten G D (resolved_program t) o.passes m) (begins : EachBegins (λ q. PartEach (S q) (T r.output)) r.passes.reached) where
+  abbrev first : DeclaresOnce (resolved_program t)
+  first = resolved d t read free
 
-  resolved : DeclaresOnce (resolved_program t)
-  resolved = record { shaped = shaped; scoped = scoped Read [] 0 t; distinct = resolved_distinct t; once = names_resolved [] t ∙ (free_of t free).0 }
-
-  -- the names of each program at which a pass began are resolved
-  pub began : {k : ℕ} {w : Tree} → PassesReach G k (resolved_program t) w → DeclaresOnce w
-  began reach = (each_known G (let_go (switches o)) l stay reach resolved).0
-
-  -- all that was known as a pass began is so of the last program
-  begins : EachKnown G (let_go (switches o)) l stay S r.passes.reached
-  begins =
-      let K = let_go (switches o) in
-      let (e, known) = each_known G K l stay r.passes.reached resolved in
-      known_more G K l stay (exactly_of r.output) S (known_is_so r.output e) r.passes.reached known
-
-  kept : ProgramIsKeptUnder (let_go (switches o)) (writable_by (resolved_program t)) S (resolved_program t) r.output
+  kept : ProgramIsKeptUnder (let_go (switches o)) (writable_by (resolved_program t)) (T r.output) (resolved_program t) r.output
   kept =
       let K = let_go (switches o) in
       let v = resolved_program t in
-      rooted_keeps (Any G K l stay S v) K (writable_by v) S (any_lawful G K l stay S v) v r.output (any_reach G K l stay S v shaped (scoped Read [] 0 t) (resolved_distinct t) r.passes.reached begins refl) shaped
+      let V = T r.output in
+      rooted_keeps (Any G K S l V v) K (writable_by v) V (any_lawful G K S l V v) v r.output (any_reach G K S l V v first r.passes.reached begins refl) first.shaped
 
   pub again : (u : Tree) × Accepts (program_data r.output) u × (text u ≡ text r.output)
-  again = read_again r.output (kept.names.shaped shaped)
+  again = read_again r.output (kept.names.shaped first.shaped)
 
   pub answer_read : IsRead again.0 again.1.1
   answer_read = is_read (program_data r.output) again.1.0 again.1.1 again.0 again.1.2
@@ -223,17 +213,48 @@ module _ (G : Tree → Position → Tree → Tree → Type 0) (D : Tree → Posi
   pub written : Accepts (view m.program) again.0
   written = subst (λ w. Accepts w again.0) (sym r.written) again.1
 
-  pub made : Made G D o m t r.output again.0
-  made = record { passes = r.passes; kept = r.kept; symbols = r.symbols; back = read_back t r.output again.0 read.1 again.1.1 start answer_read kept.names kept.root again.2; shaped = shaped; rewritten = kept }
+  pub made : Made T G D o m t r.output again.0
+  made = record {
+    passes = r.passes;
+    kept = r.kept;
+    symbols = r.symbols;
+    back = read_back t r.output again.0 read.1 again.1.1 (start d t read free) answer_read kept.names kept.root again.2;
+    shaped = first.shaped;
+    rewritten = kept;
+    so = so r.output (declared_after G (let_go (switches o)) S l r.passes.reached first);
+  }
 
   pub whole_is : faith.later m again.0 ≡ r.output
-  whole_is = later_is G D o m t r.output again.0 made
+  whole_is = later_is T G D o m t r.output again.0 made
 
-  pub faithful_there : IsFaithfulWith (NothingLeft D) o m t again.0
-  faithful_there = faithful_trees G D o m t r.output again.0 free made
+  pub faithful_there : IsFaithfulUnder T (NothingLeft D) o m t again.0
+  faithful_there = faithful_trees T G D o m t r.output again.0 free made
 
-  pub faithful_with : FaithfulWith (NothingLeft D) d o m
-  faithful_with = record { input = t; output = again.0; accepted = read; answered = written; faithful = faithful_there }
+  pub faithful_under : FaithfulUnder T (NothingLeft D) d o m
+  faithful_under = record { input = t; output = again.0; accepted = read; answered = written; faithful = faithful_there }
 
-pub passes_faithful : (G : CompressOptions → Tree → Position → Tree → Tree → Type 0) (D : CompressOptions → Tree → Position → Tree → Type 0) → PassesFaithful G D
-passes_faithful G D l stay d o m t read free r = faithful_with (G o) (D o) o (l o) (stay o) d m t read free r
+-- what each step leaves is so of the last program
+module _ (S T : Facts) (G : Tree → Position → Tree → Tree → Type 0) (D : Tree → Position → Tree → Type 0) (o : CompressOptions) (l : (q : Tree) → DeclaresOnce q → LawfulRooted (let_go (switches o)) (writable_in q) (S q) (G q)) (stay : (q : Tree) → KeepsKnown S (G q)) (among : AreAmong S T) (d : Data) (m : Minified) (t : Tree) (read : Accepts d t) (free : early_fault t ≡ None) (r : IsWritten G D (resolved_program t) o.passes m) where
+  pub begins : EachBegins (λ q. PartEach (S q) (T r.output)) r.passes.reached
+  begins =
+      let K = let_go (switches o) in
+      let first = resolved d t read free in
+      let V = r.output in
+      let last = among V (declared_after G K S l r.passes.reached first) in
+      begins_more (λ q. PartEach (S q) (S V)) (λ q. PartEach (S q) (T V)) (λ q f b. within_through (S q b) (S V b) (T V b) (f b) (last b)) r.passes.reached (known_after G K S l stay r.passes.reached first)
+
+-- ---- the laws
+
+module _ (G : CompressOptions → Tree → Position → Tree → Tree → Type 0) (D : CompressOptions → Tree → Position → Tree → Type 0) where
+  pub passes_faithful : PassesFaithful G D
+  passes_faithful S T l so d o m t read free r known = faithful_under S T (G o) (D o) o (l o) so d m t read free r known
+
+  pub steps_faithful : StepsFaithful G D
+  steps_faithful S T l stay among so d o m t read free r = passes_faithful S T l so d o m t read free r (begins S T (G o) (D o) o (l o) (stay o) among d m t read free r)
+
+  -- nothing is known of bodies, before a step and after
+  pub plain_faithful : PlainFaithful G D
+  plain_faithful l = steps_faithful no_facts no_facts l (λ o q t u s e b. nothing_within nothing_assured) (λ q e b. nothing_within nothing_assured) (λ q e. none_part (steady_in q))
+
+  pub told_faithful : ToldFaithful G D
+  told_faithful l stay = steps_faithful exactly_of steady_in l stay known_is_so (λ q e. each_itself (steady_in q))

@@ -16,7 +16,6 @@ use Rattle.mini_laws.specs.State.{Fixed, Writable, Constant, KeepsOld, Writing, 
 use Rattle.mini_laws.specs.Substitution.{alone}
 use Rattle.mini_laws.specs.Symbols.{declared_symbols, times, Distinct}
 use Rattle.mini_laws.specs.Value.{Variable, Declared, Global, variable_eq, variables, is_in, choose}
-use Rattle.mini_shrink.specs.Exact.{exactly_of}
 use Rattle.mini_tree.specs.Passes.{PassesReach, no_pass, one_more}
 use Rattle.mini_tree.specs.Wider.{reaches_of}
 use Rattle.mini_tree.proofs.Reaching.{reaches_trans}
@@ -28,7 +27,7 @@ use Rattle.mini_kept.proofs.Gone.{avoids}
 use Rattle.mini_kept.proofs.Rooted.{step_on, step_of, rooted_keeps, rooted_wider}
 use Rattle.mini_kept.proofs.WithoutLists.{Part, PartEach, each_itself}
 use Rattle.mini_shrink.specs.SameForeign.{DeclaresOnce}
-use Rattle.mini_peephole.specs.AnyPasses.{KeepsKnown}
+use Rattle.mini_peephole.specs.AnyPasses.{Facts, KeepsKnown, EachBegins}
 
 -- ---- what a program that has its names' symbols mentions it declares
 
@@ -93,61 +92,59 @@ within_through U V W f g = record {
   has_this = λ h. g.has_this (f.has_this h);
 }
 
--- ---- what is known as passes begin
+-- ---- what holds as passes begin
 
-module _ (G : Tree → Position → Tree → Tree → Type 0) (K : Shape → Bool) (l : (q : Tree) → DeclaresOnce q → LawfulRooted K (writable_in q) (exactly_of q) (G q)) (stay : (q : Tree) → KeepsKnown (G q)) where
-  -- a step leads to a program whose names are resolved, of whose bodies no less is known
-  abbrev Leads : Tree → Tree → Type 0
-  Leads t u = DeclaresOnce u × PartEach (exactly_of t) (exactly_of u)
+pub begins_more : (P Q : Tree → Type 0) → ((q : Tree) → P q → Q q) → {G : Tree → Position → Tree → Tree → Type 0} {k : ℕ} {s u : Tree} (r : PassesReach G k s u) → EachBegins P r → EachBegins Q r
+begins_more P Q f (no_pass s) h = tt
+begins_more P Q f (one_more k s u v r others) h = (begins_more P Q f r h.0, f u h.1)
 
-  resolved_on : (q t u : Tree) → ProgramIsKeptUnder K (writable_in q) (exactly_of q) t u → DeclaresOnce t → DeclaresOnce u
-  resolved_on q t u k e = record { shaped = k.names.shaped e.shaped; scoped = k.names.scoped e.shaped e.scoped; distinct = k.names.distinct e.shaped e.scoped e.distinct; once = k.names.once e.shaped e.once }
+module _ (G : Tree → Position → Tree → Tree → Type 0) (K : Shape → Bool) (S : Facts) (l : (q : Tree) → DeclaresOnce q → LawfulRooted K (writable_in q) (S q) (G q)) where
+  -- steps lead to a program whose names are resolved
+  declared_on : (q : Tree) → DeclaresOnce q → (t u : Tree) → Reaches (G q) Elsewhere t u → DeclaresOnce t → DeclaresOnce u
+  declared_on q d t u r e =
+      let k : ProgramIsKeptUnder K (writable_in q) (S q) t u = rooted_keeps (G q) K (writable_in q) (S q) (l q d) t u r e.shaped in
+      record { shaped = k.names.shaped e.shaped; scoped = k.names.scoped e.shaped e.scoped; distinct = k.names.distinct e.shaped e.scoped e.distinct; once = k.names.once e.shaped e.once }
 
-  steps_lead : (q : Tree) → DeclaresOnce q → {p : Position} {t u : Tree} → Reaches (G q) p t u → p ≡ Elsewhere → DeclaresOnce t → Leads t u
-  steps_lead q d (done p t) f e = (e, each_itself (exactly_of t))
-  steps_lead q d (more p t u v s r) f e =
-      let st : Step (G q) Elsewhere t u = subst (λ o. Step (G q) o t u) f s in
-      let kept = rooted_keeps (G q) K (writable_in q) (exactly_of q) (l q d) t u (more Elsewhere t u u st (done Elsewhere u)) e.shaped in
-      let (after, further) = steps_lead q d r f (resolved_on q t u kept e) in
-      (after, λ b. within_through (exactly_of t b) (exactly_of u b) (exactly_of v b) (stay q t u st e b) (further b))
+  -- and so do passes
+  pub declared_after : {k : ℕ} {s u : Tree} → PassesReach G k s u → DeclaresOnce s → DeclaresOnce u
+  declared_after (no_pass s) e = e
+  declared_after (one_more k s u v r others) e = let there = declared_after r e in declared_on u there u v others there
 
-  -- what holds of each program at which a pass begins: its names are resolved, and all that is
-  -- known of its bodies is in S
-  abbrev pub EachKnown : BodySets → {k : ℕ} {s u : Tree} → PassesReach G k s u → Type 0
-  EachKnown S (no_pass s) = Unit {0}
-  EachKnown S (one_more k s u v r others) = EachKnown S r × (DeclaresOnce u × PartEach (exactly_of u) S)
+  module _ (stay : (q : Tree) → KeepsKnown S (G q)) where
+    known_on : (q : Tree) → DeclaresOnce q → {p : Position} {t u : Tree} → Reaches (G q) p t u → p ≡ Elsewhere → DeclaresOnce t → PartEach (S t) (S u)
+    known_on q d (done p t) f e = each_itself (S t)
+    known_on q d (more p t u v s r) f e =
+        let st : Step (G q) Elsewhere t u = subst (λ o. Step (G q) o t u) f s in
+        let further = known_on q d r f (declared_on q d t u (more Elsewhere t u u st (done Elsewhere u)) e) in
+        λ b. within_through (S t b) (S u b) (S v b) (stay q t u st e b) (further b)
 
-  pub known_more : (Q S : BodySets) → PartEach Q S → {k : ℕ} {s u : Tree} (r : PassesReach G k s u) → EachKnown Q r → EachKnown S r
-  known_more Q S f (no_pass s) h = tt
-  known_more Q S f (one_more k s u v r others) h = (known_more Q S f r h.0, (h.1.0, λ b. within_through (exactly_of u b) (Q b) (S b) (h.1.1 b) (f b)))
-
-  -- so all that is known of bodies as a pass begins is known of those of the last program
-  pub each_known : {k : ℕ} {s u : Tree} (r : PassesReach G k s u) → DeclaresOnce s → DeclaresOnce u × EachKnown (exactly_of u) r
-  each_known (no_pass s) e = (e, tt)
-  each_known (one_more k s u v r others) e =
-      let (there, before) = each_known r e in
-      let (after, known) = steps_lead u there others refl there in
-      (after, (known_more (exactly_of u) (exactly_of v) known r before, (there, known)))
+    -- all that is known of bodies as a pass begins is known of those of the last program
+    pub known_after : {k : ℕ} {s u : Tree} (r : PassesReach G k s u) → DeclaresOnce s → EachBegins (λ q. PartEach (S q) (S u)) r
+    known_after (no_pass s) e = tt
+    known_after (one_more k s u v r others) e =
+        let there = declared_after r e in
+        let known = known_on u there others refl there in
+        (begins_more (λ q. PartEach (S q) (S u)) (λ q. PartEach (S q) (S v)) (λ q f b. within_through (S q b) (S u b) (S v b) (f b) (known b)) r (known_after r e), known)
 
 -- ---- passes as steps of one relation
 
-module _ (G : Tree → Position → Tree → Tree → Type 0) (K : Shape → Bool) (l : (q : Tree) → DeclaresOnce q → LawfulRooted K (writable_in q) (exactly_of q) (G q)) (stay : (q : Tree) → KeepsKnown (G q)) (S : BodySets) (t : Tree) where
+module _ (G : Tree → Position → Tree → Tree → Type 0) (K : Shape → Bool) (S : Facts) (l : (q : Tree) → DeclaresOnce q → LawfulRooted K (writable_in q) (S q) (G q)) (V : BodySets) (t : Tree) where
   -- a program whose names are resolved, in which nothing can be written that the first forbids to
-  -- write, and of whose bodies nothing is known but S
+  -- write, and of whose bodies nothing is known but V
   abbrev Over : Type 0
-  Over = (q : Tree) × DeclaresOnce q × Part (writable_in q) (writable_by t) × PartEach (exactly_of q) S
+  Over = (q : Tree) × DeclaresOnce q × Part (writable_in q) (writable_by t) × PartEach (S q) V
 
   -- what is made of a tree over such a program
   abbrev pub Any : Position → Tree → Tree → Type 0
   Any p n w = (i : Over) × G i.0 p n w
 
-  at_first : (i : Over) → LawfulRooted K (writable_by t) S (G i.0)
-  at_first (q, e, f, g) = rooted_wider (G q) K (writable_in q) (writable_by t) (exactly_of q) S f g (l q e)
+  at_first : (i : Over) → LawfulRooted K (writable_by t) V (G i.0)
+  at_first (q, e, f, g) = rooted_wider (G q) K (writable_in q) (writable_by t) (S q) V f g (l q e)
 
   each : {X : Position → Tree → Tree → Type 0} → ((i : Over) (p : Position) (n w : Tree) → Inner (G i.0) p n w → X p n w) → (p : Position) (n w : Tree) → Inner Any p n w → X p n w
   each f p n w r = f r.0.0 p n w (r.0.1, r.1)
 
-  inner_lawful : LawfulUnder K (writable_by t) S (Inner Any)
+  inner_lawful : LawfulUnder K (writable_by t) V (Inner Any)
   inner_lawful = record {
     shapes = record { fitting = each (λ i. (at_first i).inner.shapes.fitting); asked = each (λ i. (at_first i).inner.shapes.asked) };
     places = record {
@@ -166,29 +163,30 @@ module _ (G : Tree → Position → Tree → Tree → Type 0) (K : Shape → Boo
   one_over : (p : Position) (n w : Tree) → Outer Any p n w → (i : Over) × Outer (G i.0) p n w
   one_over p n w r = (r.0.0, (r.0.1, r.1))
 
-  whole_kept : (n w : Tree) → Step (Outer Any) Elsewhere n w → IsWellShaped n → ProgramIsKeptUnder K (writable_by t) S n w
+  whole_kept : (n w : Tree) → Step (Outer Any) Elsewhere n w → IsWellShaped n → ProgramIsKeptUnder K (writable_by t) V n w
   whole_kept n w s e = let (i, o) = step_of Over (λ i. Outer (G i.0)) (step_on one_over s) in (at_first i).whole n w o e
 
   -- what is lawful over every program is lawful over all together
-  pub any_lawful : LawfulRooted K (writable_by t) S Any
+  pub any_lawful : LawfulRooted K (writable_by t) V Any
   any_lawful = record { inner = inner_lawful; whole = whole_kept }
 
-  module _ (shaped : IsWellShaped t) (scoped : Scoped Read [] t) (distinct : Distinct (declared_symbols t)) where
+  module _ (first : DeclaresOnce t) where
     -- what can be written in a later program can be in the first
     writable_still : (u : Tree) → Reaches Any Elsewhere t u → Part (writable_in u) (writable_by t)
     writable_still u r = by
       where
-        kept : ProgramIsKeptUnder K (writable_by t) S t u
-        kept = rooted_keeps Any K (writable_by t) S any_lawful t u r shaped
+        kept : ProgramIsKeptUnder K (writable_by t) V t u
+        kept = rooted_keeps Any K (writable_by t) V any_lawful t u r first.shaped
 
         by : Part (writable_in u) (writable_by t)
         by (Declared k) h =
             let (m, f) = and_parts (mentions u (Declared k)) (writable_by u (Declared k)) h in
-            sym (written_open k (fixed_by t (Declared k))) ∙ ap is_written (kept.fixities scoped distinct false (Declared k) (mentioned_is_declared u (kept.names.scoped shaped scoped) k m)) ∙ written_open k (fixed_by u (Declared k)) ∙ f
+            sym (written_open k (fixed_by t (Declared k))) ∙ ap is_written (kept.fixities first.scoped first.distinct false (Declared k) (mentioned_is_declared u (kept.names.scoped first.shaped first.scoped) k m)) ∙ written_open k (fixed_by u (Declared k)) ∙ f
         by (Global s) h = absurd (true≢false (sym h))
 
-    pub any_reach : {k : ℕ} {s u : Tree} (r : PassesReach G k s u) → EachKnown G K l stay S r → s ≡ t → Reaches Any Elsewhere t u
+    pub any_reach : {k : ℕ} {s u : Tree} (r : PassesReach G k s u) → EachBegins (λ q. PartEach (S q) V) r → s ≡ t → Reaches Any Elsewhere t u
     any_reach (no_pass s) f e = subst (Reaches Any Elsewhere t) (sym e) (done Elsewhere t)
     any_reach (one_more k s u v r others) f e =
         let before = any_reach r f.0 e in
-        reaches_trans Any before (reaches_of (G u) Any (λ p n w g. ((u, f.1.0, writable_still u before, f.1.1), g)) Elsewhere u v others)
+        let there = declared_after G K S l r (subst DeclaresOnce (sym e) first) in
+        reaches_trans Any before (reaches_of (G u) Any (λ p n w g. ((u, there, writable_still u before, f.1), g)) Elsewhere u v others)

@@ -19,6 +19,7 @@ use Rattle.mini_accept.specs.Accept.{Accepts}
 use Rattle.mini_accept.proofs.Depths.{one_tree}
 use Rattle.mini_kept.specs.Rooted.{LawfulRooted}
 use Rattle.mini_kept.specs.Without.{BodySets}
+use Rattle.mini_kept.proofs.WithoutLists.{PartEach, each_itself}
 use Rattle.mini_kept.proofs.InPreorder.{preorder_same}
 use Rattle.mini_kept.proofs.ReadBack.{IsRead, IsReadBack}
 use Rattle.mini_kept.proofs.Texts.{text, text_resolved}
@@ -28,16 +29,19 @@ use Rattle.mini_rows.specs.Switches.{let_go, Liberties}
 use Rattle.mini_rows.specs.Redex.{Rewrites, IsSettled}
 use Rattle.mini_steady.specs.Told.{told_in}
 use Rattle.mini_shrink.specs.SameForeign.{DeclaresOnce}
-use Rattle.mini_peephole.specs.AnyPasses.{KeepsKnown, NothingLeft}
+use Rattle.mini_peephole.specs.AnyPasses.{AreSo, EachBegins, NothingLeft}
+use Rattle.mini_peephole.specs.Environments.{steady_in}
 use Rattle.mini_peephole.specs.Minified.{IsRewriting}
 use Rattle.mini_peephole.specs.SteadyRows.{SteadyRewrites, IsSteadilySettled}
 use Rattle.mini_peephole.specs.Rules.{AllGives, AllRests}
 use Rattle.mini_peephole.specs.Faithful as faith
-use Rattle.mini_peephole.specs.Faithful.{earlier, switches, IsFaithfulWith, IsRewritten, IsFaithful, Faithful, PassesBounded}
+use Rattle.mini_peephole.specs.Faithful.{earlier, switches, IsFaithfulUnder, IsRewritten, IsFaithful, Faithful, PassesBounded}
 use Rattle.mini_peephole.specs.declared.minify.Minified.{Minified}
 use Rattle.mini_peephole.proofs.AnyPasses as any
+use Rattle.mini_peephole.proofs.Chains.{declared_after}
 use Rattle.mini_peephole.proofs.Everywhere.{everywhere_with}
 use Rattle.mini_peephole.proofs.Heaviest.{resolved_lighter}
+use Rattle.mini_peephole.proofs.Known.{known_is_so}
 use Rattle.mini_peephole.proofs.Lightest.{program_heavy}
 use Rattle.mini_peephole.proofs.Rules.{loose_contract, all_lawful, all_known, all_rest}
 use Rattle.mini_unused.specs.Allowed.{allowed_in}
@@ -109,7 +113,7 @@ module _ (o : CompressOptions) (t : Tree) (f : IsRewritten o t) where
       stays AnyRow (reaches_of (AllGives o t) AnyRow made_by_row Elsewhere t w over) nowhere
 
 -- where the rules have nothing to do, nothing is left to rewrite
-nothing_left : (o : CompressOptions) (m : Minified) (t u : Tree) → weight Elsewhere (resolved_program t) < 2 ^ 32 → IsFaithfulWith (NothingLeft (AllRests o)) o m t u → IsFaithful o m t u
+nothing_left : (o : CompressOptions) (m : Minified) (t u : Tree) → weight Elsewhere (resolved_program t) < 2 ^ 32 → IsFaithfulUnder steady_in (NothingLeft (AllRests o)) o m t u → IsFaithful o m t u
 nothing_left o m t u light f = record {
   names = f.names;
   jumps = f.jumps;
@@ -128,29 +132,32 @@ module _ (d : Data) (o : CompressOptions) (m : Minified) (t : Tree) (read : Acce
   pub lawful : (q : Tree) → DeclaresOnce q → LawfulRooted (let_go (switches o)) (writable_in q) (exactly_of q) (AllGives o q)
   lawful = all_lawful o
 
-  pub known : (q : Tree) → KeepsKnown (AllGives o q)
-  known = all_known o
+  pub so : AreSo steady_in
+  so q e = each_itself (steady_in q)
+
+  pub begins : EachBegins (λ q. PartEach (exactly_of q) (steady_in r.output)) r.passes.reached
+  begins = any.begins exactly_of steady_in (AllGives o) (AllRests o) o lawful (all_known o) known_is_so d m t read free r
 
   abbrev pub again : (u : Tree) × Accepts (program_data r.output) u × (text u ≡ text r.output)
-  again = any.again (AllGives o) (AllRests o) o lawful known d m t read free r
+  again = any.again exactly_of steady_in (AllGives o) (AllRests o) o lawful so d m t read free r begins
 
   start : IsRead t read.1
-  start = any.start (AllGives o) (AllRests o) o lawful known d m t read free r
+  start = any.start d t read free
 
   pub answer_read : IsRead again.0 again.1.1
-  answer_read = any.answer_read (AllGives o) (AllRests o) o lawful known d m t read free r
+  answer_read = any.answer_read exactly_of steady_in (AllGives o) (AllRests o) o lawful so d m t read free r begins
 
   pub written : Accepts (view m.program) again.0
-  written = any.written (AllGives o) (AllRests o) o lawful known d m t read free r
+  written = any.written exactly_of steady_in (AllGives o) (AllRests o) o lawful so d m t read free r begins
 
   pub whole_is : faith.later m again.0 ≡ r.output
-  whole_is = any.whole_is (AllGives o) (AllRests o) o lawful known d m t read free r
+  whole_is = any.whole_is exactly_of steady_in (AllGives o) (AllRests o) o lawful so d m t read free r begins
 
   pub back : IsReadBack t r.output again.0
-  back = (any.made (AllGives o) (AllRests o) o lawful known d m t read free r).back
+  back = (any.made exactly_of steady_in (AllGives o) (AllRests o) o lawful so d m t read free r begins).back
 
   pub faithful_there : weight Elsewhere t < 2 ^ 32 → IsFaithful o m t again.0
-  faithful_there light = nothing_left o m t again.0 (let a = resolved_lighter t start.unresolved in omega (arith, a, light)) (any.faithful_there (AllGives o) (AllRests o) o lawful known d m t read free r)
+  faithful_there light = nothing_left o m t again.0 (let a = resolved_lighter t start.unresolved in omega (arith, a, light)) (any.faithful_there exactly_of steady_in (AllGives o) (AllRests o) o lawful so d m t read free r begins)
 
   pub faithful : weight Elsewhere t < 2 ^ 32 → Faithful d o m
   faithful light = record { input = t; output = again.0; accepted = read; answered = written; faithful = faithful_there light }
@@ -176,7 +183,7 @@ module _ (d : Data) (o : CompressOptions) (m : Minified) (t : Tree) (read : Acce
       let all = (r.passes.stopped s).0 in
       let (w, (k, reach), near, fell) = r.passes.last s in
       -- the program at which the last pass began is no empty one, so that it weighs more than 1
-      let heavy = program_heavy w (any.began (AllGives o) (AllRests o) o lawful known d m t read free r reach).shaped (omega (arith, fell)) in
+      let heavy = program_heavy w (declared_after (AllGives o) (let_go (switches o)) exactly_of lawful reach (any.resolved d t read free)).shaped (omega (arith, fell)) in
       let x = input_weight v a in
       omega (arith, all, near, heavy, x, h))
 

@@ -41,13 +41,13 @@ module _ (Q : Position → Tree → Tree → Type 0) (places : KeepsPlaces Q) (s
 
 module _ (K : Shape → Bool) (W : VariableSet) (S : BodySets) where
   -- of a lawful relation whose steps are steps of one that keeps places and shapes and reads less
-  pub known_by_less : (R Q : Position → Tree → Tree → Type 0) → LawfulRooted K W S R → ((t u : Tree) → Step R Elsewhere t u → Step Q Elsewhere t u) → KeepsPlaces Q → KeepsShapes Q → ReadsLess Q → KeepsKnown R
+  pub known_by_less : (R Q : Position → Tree → Tree → Type 0) → LawfulRooted K W S R → ((t u : Tree) → Step R Elsewhere t u → Step Q Elsewhere t u) → KeepsPlaces Q → KeepsShapes Q → ReadsLess Q → KeepsKnown exactly_of R
   known_by_less R Q l of places shapes reads t u s e b =
       let kept : ProgramIsKeptUnder K W S t u = rooted_keeps R K W S l t u (more Elsewhere t u u s (done Elsewhere u)) e.shaped in
       let bodies = kept.bodies e.scoped e.distinct in
       known_after Q places shapes reads t u (more Elsewhere t u u (of t u s) (done Elsewhere u)) e (λ n f. asks_less W (undeclared u) S n (bodies_in t) (bodies_in u) bodies f) b
 
-  pub less_is_known : (R : Position → Tree → Tree → Type 0) → LawfulUnder K W S R → ReadsLess R → KeepsKnown R
+  pub less_is_known : (R : Position → Tree → Tree → Type 0) → LawfulUnder K W S R → ReadsLess R → KeepsKnown exactly_of R
   less_is_known R l reads = known_by_less R R (steady_is_rooted R K W S l) (λ t u s. s) l.places l.shapes reads
 
 -- ---- it is so

@@ -11,6 +11,7 @@ use Rattle.mini_kept.specs.KeepsFrames.{KeepsPlaces}
 use Rattle.mini_kept.specs.KeepsShapes.{KeepsShapes}
 use Rattle.mini_kept.specs.Rooted.{LawfulRooted}
 use Rattle.mini_kept.specs.Without.{Assured, BodySets}
+use Rattle.mini_shrink.specs.Exact.{exactly_of}
 use Rattle.mini_shrink.specs.Facts.{ReadsLess}
 use Rattle.mini_rows.specs.PastBlocks.{PastBlocks}
 use Rattle.mini_rows.specs.Steady.{OwnRows, LexicalRows, SteadyRow}
@@ -46,7 +47,7 @@ module _ (F : OwnRows) (S : BodySets) where
   in_code p n w (inl (inr r)) = program_step F S p n w r
   in_code p n w (inr r) = part_step F S p n w r
 
-  pub code_known : (K : Shape → Bool) (W : VariableSet) → LawfulRooted K W S (AnyCode F S) → ((V : Assured) → KeepsPlaces (F V)) → ((V : Assured) → KeepsShapes (F V)) → ((V : Assured) → ReadsLess (F V)) → KeepsKnown (AnyCode F S)
+  pub code_known : (K : Shape → Bool) (W : VariableSet) → LawfulRooted K W S (AnyCode F S) → ((V : Assured) → KeepsPlaces (F V)) → ((V : Assured) → KeepsShapes (F V)) → ((V : Assured) → ReadsLess (F V)) → KeepsKnown exactly_of (AnyCode F S)
   code_known K W l places shapes reads =
       let names = λ (V : Assured). (places V).names in
       known_by_less K W S (AnyCode F S) (AnyRow F) l (λ t u s. deeper (AnyCode F S) (AnyRow F) in_code s) (any_places F places) (any_shapes F names shapes reads) (any_reads F names shapes reads)

@@ -197,7 +197,7 @@ steady_lawful K L S =
 
 -- ---- all rules
 
-pub all_lawful : LawfulFor AllGives
+pub all_lawful : LawfulFor exactly_of AllGives
 all_lawful o q e =
     let K = let_go (switches o) in
     let W = writable_in q in
@@ -206,7 +206,7 @@ all_lawful o q e =
     (rooted_wider (SteadyGives o q) K W W (told_in q) S (λ x k. k) (told_within q e) (steady_lawful K (allowed_in o q) (told_in q)))
 
 -- they keep what is known of bodies
-pub all_known : KnownStays AllGives
+pub all_known : KnownStays exactly_of AllGives
 all_known o q =
     let K = let_go (switches o) in
     let W = writable_in q in

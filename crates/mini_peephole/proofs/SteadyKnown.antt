@@ -42,12 +42,13 @@ use Rattle.mini_peephole.proofs.Placing.{places_join, shapes_join, places_narrow
 use Rattle.mini_less.proofs.Joined.{reads_less_joins}
 use Rattle.mini_less.proofs.LexicalLess.{lexical_names_read_less}
 use Rattle.mini_less.proofs.OwnLess.{steady_rows_read_less}
+use Rattle.mini_shrink.specs.Exact.{exactly_of}
 
 -- of two relations that keep it
-pub known_join : (R Q : Position → Tree → Tree → Type 0) → KeepsKnown R → KeepsKnown Q → KeepsKnown (Either R Q)
+pub known_join : (R Q : Position → Tree → Tree → Type 0) → KeepsKnown exactly_of R → KeepsKnown exactly_of Q → KeepsKnown exactly_of (Either R Q)
 known_join R Q f g t u s e b = elim (step_either R Q s) [ inl x ↦ f t u x e b | inr y ↦ g t u y e b ]
 
-pub known_narrowed : (R Q : Position → Tree → Tree → Type 0) → ((p : Position) (n w : Tree) → R p n w → Q p n w) → KeepsKnown Q → KeepsKnown R
+pub known_narrowed : (R Q : Position → Tree → Tree → Type 0) → ((p : Position) (n w : Tree) → R p n w → Q p n w) → KeepsKnown exactly_of Q → KeepsKnown exactly_of R
 known_narrowed R Q f g t u s e b = g t u (step_on f s) e b
 
 module _ (K : Shape → Bool) (S : BodySets) (L : Liberties) where
@@ -56,32 +57,32 @@ module _ (K : Shape → Bool) (S : BodySets) (L : Liberties) where
 
   -- ---- in the own code of whatever has a body
 
-  own_known : KeepsKnown (Either (AnyCode SteadyRow S) (AnyCode LexicalRows S))
+  own_known : KeepsKnown exactly_of (Either (AnyCode SteadyRow S) (AnyCode LexicalRows S))
   own_known =
       known_join (AnyCode SteadyRow S) (AnyCode LexicalRows S) (code_known SteadyRow S K W (steady_code K W S) steady_places steady_shapes steady_rows_read_less)
       (code_known LexicalRows S K W (lexical_code K W S) lexical_places lexical_shapes lexical_names_read_less)
 
   -- ---- of names that are read past others
 
-  code_past : KeepsKnown (Either (PastFunction S L) (PastArrow S L))
+  code_past : KeepsKnown exactly_of (Either (PastFunction S L) (PastArrow S L))
   code_past = less_is_known K W S (Either (PastFunction S L) (PastArrow S L)) (past_code_lawful K L S) (reads_less_joins (PastFunction S L) (PastArrow S L) (past_read_less.functions S L) (past_read_less.arrows S L))
 
-  modules_past : KeepsKnown (PastModule S L)
+  modules_past : KeepsKnown exactly_of (PastModule S L)
   modules_past =
       let R = PastModule S L in
       let Q = ModulesBehind S W in
       known_by_less K W S R R (past_modules_are_lawful K L S) (λ t u s. s) (places_narrowed R Q (modules_behind S L) (module_places S W)) (shapes_narrowed R Q (modules_behind S L) (module_shapes S W)) (past_read_less.modules S L)
 
-  statics_past : KeepsKnown (PastStatic S L)
+  statics_past : KeepsKnown exactly_of (PastStatic S L)
   statics_past =
       let R = PastStatic S L in
       let Q = StaticsBehind S W in
       known_by_less K W S R R (past_statics_are_lawful K L S) (λ t u s. s) (places_narrowed R Q (statics_behind S L) (static_places S W)) (shapes_narrowed R Q (statics_behind S L) (static_shapes S W)) (past_read_less.statics S L)
 
-  blocks_past : KeepsKnown (AnyCode (PastBlocks L.switches) S)
+  blocks_past : KeepsKnown exactly_of (AnyCode (PastBlocks L.switches) S)
   blocks_past = code_known (PastBlocks L.switches) S K W (block_code L.switches K W S) (block_places L.switches) (blocks_shapes L.switches) (block_rows_read_less L.switches)
 
-  past_known : KeepsKnown (PastCode S L)
+  past_known : KeepsKnown exactly_of (PastCode S L)
   past_known =
       let Code = Either (PastFunction S L) (PastArrow S L) in
       let Others = Either (PastModule S L) (PastStatic S L) in
@@ -111,16 +112,16 @@ module _ (K : Shape → Bool) (S : BodySets) (L : Liberties) where
       shapes_join (Either Functions Arrows) (Either Modules Statics) (shapes_join Functions Arrows (functions_behind_lawful S W K).shapes (arrows_lawful S W K).shapes)
       (shapes_join Modules Statics (module_shapes S W) (static_shapes S W))
 
-  inside_past : KeepsKnown (PastInside S L)
+  inside_past : KeepsKnown exactly_of (PastInside S L)
   inside_past =
       let R = PastInside S L in
       known_by_less K W S R R (past_inside_is_lawful K L S) (λ t u s. s) (places_narrowed R (Holds S L) (held S L) holds_places) (shapes_narrowed R (Holds S L) (held S L) holds_shapes) (past_inside_reads_less S L)
 
-  inside_known : KeepsKnown (InsideCode S L)
+  inside_known : KeepsKnown exactly_of (InsideCode S L)
   inside_known =
       known_join (InsideContracts L) (PastInside S L) (less_is_known K W none_steady (InsideContracts L) (loose_is_steady (InsideContracts L) K W none_steady (inside_loose K L)) (inside_reads_less L)) inside_past
 
   -- ---- all that rest on what is known of bodies
 
-  pub steady_known : KeepsKnown (SteadyRewrites S L)
+  pub steady_known : KeepsKnown exactly_of (SteadyRewrites S L)
   steady_known = known_join (Either (AnyCode SteadyRow S) (AnyCode LexicalRows S)) (Either (PastCode S L) (InsideCode S L)) own_known (known_join (PastCode S L) (InsideCode S L) past_known inside_known)

@@ -27,6 +27,7 @@ use Rattle.mini_kept.specs.Declaring.{declared}
 use Rattle.mini_kept.specs.Frames.{frames_in}
 use Rattle.mini_kept.specs.Loosely.{undeclared}
 use Rattle.mini_kept.specs.ShownFrames.{KeyGivenUnder, gone_from, FramesShown}
+use Rattle.mini_kept.specs.Without.{BodySets}
 use Rattle.mini_rows.specs.Switches.{Switches, let_go}
 use Rattle.mini_again.specs.Carrying.{HasNoRepeat}
 use Rattle.mini_rows.specs.Redex.{HasNoRedex}
@@ -92,8 +93,9 @@ pass_bound o = max o.passes 1
 abbrev pub switches : CompressOptions → Switches
 switches o = record { sequences = o.sequences; join_vars = o.join_vars; keep_function_names = o.keep_names.function; keep_class_names = o.keep_names.class }
 
--- what is said of the two trees, where Rests says of the later one that nothing is left to do
-pub record IsFaithfulWith (Rests : Tree → Type 0) (o : CompressOptions) (m : Minified) (t u : Tree) : Type 0 where
+-- what is said of the two trees, where S is known of the bodies of the later one, and Rests says of
+-- it that nothing is left to do
+pub record IsFaithfulUnder (S : Tree → BodySets) (Rests : Tree → Type 0) (o : CompressOptions) (m : Minified) (t u : Tree) : Type 0 where
   -- the answer has no early error
   pub names : early_names [] u ≡ []
   pub jumps : early_jumps no_targets [] u ≡ []
@@ -104,10 +106,10 @@ pub record IsFaithfulWith (Rests : Tree → Type 0) (o : CompressOptions) (m : M
   -- what stands outside bodies is kept: each of its nodes with a number has the frame that the one
   -- had which it was, but for the brackets of keys which give one property and do nothing else,
   -- where the variables can be written that the earlier program lets be written, and that is so
-  -- which is known of the bodies of the later one, and for the name of a function or a class
+  -- which S says of the bodies of the later one, and for the name of a function or a class
   -- expression that the later program doesn't declare, so that nothing in it refers to that, where
   -- the options let it go
-  pub frames : FramesShown (gone_from (let_go (switches o)) (undeclared (later m u))) (KeyGivenUnder (writable_by (earlier t)) (steady_in (later m u)) (undeclared (later m u)) (bodies_in (earlier t))) (frames_in (earlier t)) (frames_in (later m u))
+  pub frames : FramesShown (gone_from (let_go (switches o)) (undeclared (later m u))) (KeyGivenUnder (writable_by (earlier t)) (S (later m u)) (undeclared (later m u)) (bodies_in (earlier t))) (frames_in (earlier t)) (frames_in (later m u))
   -- each body does what the one does that it was
   pub bodies : BodiesAreSame (earlier t) (later m u)
   -- it is no heavier
@@ -119,24 +121,24 @@ pub record IsFaithfulWith (Rests : Tree → Type 0) (o : CompressOptions) (m : M
   pub unsettled : m.settled ≡ false → program_weight (later m u) + pass_bound o ≤ program_weight (earlier t)
 
 -- the value is a program, the answer's value is one, and the later one is faithful to the earlier
-pub record FaithfulWith (Rests : Tree → Type 0) (d : Data) (o : CompressOptions) (m : Minified) : Type 0 where
+pub record FaithfulUnder (S : Tree → BodySets) (Rests : Tree → Type 0) (d : Data) (o : CompressOptions) (m : Minified) : Type 0 where
   pub input : Tree
   pub output : Tree
   pub accepted : Accepts d input
   pub answered : Accepts (view m.program) output
-  pub faithful : IsFaithfulWith Rests o m input output
+  pub faithful : IsFaithfulUnder S Rests o m input output
 
 -- nothing is left to rewrite in a program: neither by what it mentions and lets be written, nor by
 -- what is known of its bodies
 abbrev pub IsRewritten : CompressOptions → Tree → Type 0
 IsRewritten o u = HasNoRedex (switches o) (writable_in u) Elsewhere u × IsSteadilyRewritten o u
 
--- of rewrites
+-- of rewrites, where that is known of bodies which Shared and Foreign say
 abbrev pub IsFaithful : CompressOptions → Minified → Tree → Tree → Type 0
-IsFaithful o m t u = IsFaithfulWith (IsRewritten o) o m t u
+IsFaithful o m t u = IsFaithfulUnder steady_in (IsRewritten o) o m t u
 
 abbrev pub Faithful : Data → CompressOptions → Minified → Type 0
-Faithful d o m = FaithfulWith (IsRewritten o) d o m
+Faithful d o m = FaithfulUnder steady_in (IsRewritten o) d o m
 
 -- bounds on the passes, which tell more than Faithful does
 pub record PassesBounded (d : Data) (o : CompressOptions) (m : Minified) : Type 0 where

@@ -35,10 +35,13 @@ pub record IsWritten (G : Tree → Position → Tree → Tree → Type 0) (D : T
 abbrev pub IsRewriting : Tree → CompressOptions → Minified → Type 0
 IsRewriting input o m = IsWritten (AllGives o) (AllRests o) input o.passes m
 
--- the tree has no early error, and is resolved and rewritten
-pub record IsAnswer (input : Tree) (o : CompressOptions) (m : Minified) : Type 0 where
+-- the tree has no early error, and is resolved and rewritten by a rule
+pub record IsAnswerOf (G : CompressOptions → Tree → Position → Tree → Tree → Type 0) (D : CompressOptions → Tree → Position → Tree → Type 0) (input : Tree) (o : CompressOptions) (m : Minified) : Type 0 where
   pub free : early_fault input ≡ None
-  pub rewriting : IsRewriting (resolved_program input) o m
+  pub rewriting : IsWritten (G o) (D o) (resolved_program input) o.passes m
+
+abbrev pub IsAnswer : Tree → CompressOptions → Minified → Type 0
+IsAnswer = IsAnswerOf AllGives AllRests
 
 -- and both weigh this, up to the greatest number that is told
 pub record IsWeighedAnswer (input : Tree) (o : CompressOptions) (w : Weighed) : Type 0 where
@@ -47,10 +50,13 @@ pub record IsWeighedAnswer (input : Tree) (o : CompressOptions) (w : Weighed) : 
   pub after : w.after ≡ capped (program_weight answer.rewriting.output)
 
 -- the value is accepted with a tree for which this is the answer
-pub record IsMinified (d : Data) (o : CompressOptions) (m : Minified) : Type 0 where
+pub record IsMinifiedBy (G : CompressOptions → Tree → Position → Tree → Tree → Type 0) (D : CompressOptions → Tree → Position → Tree → Type 0) (d : Data) (o : CompressOptions) (m : Minified) : Type 0 where
   pub input : Tree
   pub accepted : Accepts d input
-  pub answer : IsAnswer input o m
+  pub answer : IsAnswerOf G D input o m
+
+abbrev pub IsMinified : Data → CompressOptions → Minified → Type 0
+IsMinified = IsMinifiedBy AllGives AllRests
 
 -- reading the value to the depth of the options ends with this fault
 pub record IsUnread (d : Data) (o : CompressOptions) (f : Fault) : Type 0 where

@@ -13,7 +13,7 @@ ghost use Rattle.mini_model.specs.Faults.{fault_of};
 ghost use Rattle.mini_peephole.specs.ComesBack.{ComesBack};
 ghost use Rattle.mini_peephole.specs.Faithful.{Faithful, PassesBounded};
 ghost use Rattle.mini_peephole.specs.Answer.{IsWeighed};
-ghost use Rattle.mini_peephole.specs.Minified.{IsAnswer, IsWeighedAnswer, IsMinified, IsRewriting, IsRefusal};
+ghost use Rattle.mini_peephole.specs.Minified.{IsWeighedAnswer, IsWritten, IsAnswerOf, IsMinified, IsMinifiedBy, IsRefusal};
 
 use crate::named::{numbers_of, symbols_of};
 use mini_choices::{MinimizeChoices, MinimizeWrites};
@@ -38,8 +38,8 @@ use mini_syntax::{
     SubstituteReturns, SubstituteSpellings,
 };
 use mini_tree::{
-    CompressOptions, Numbers, OutOfMemory, Passes, Position, Program, Then, discard, run_passes,
-    weight,
+    CompressOptions, Numbers, OutOfMemory, Passes, Position, Program, Rule, Then, discard,
+    run_passes, weight,
 };
 use mini_unused::{RemoveUnusedNames, SubstituteCatches};
 use mini_writer::write_program;
@@ -335,19 +335,20 @@ const RULES: Then<Loose, Steady> = Then {
     second: STEADY_RULES,
 };
 
-// The answer for a resolved tree, which is rewritten in place.
-fn rewritten(
+// The answer of passes of a rule for a resolved tree, which is rewritten in place.
+fn rewritten<R: Rule<TraverseCtx>>(
+    rule: &R,
     alloc: Global,
     tree: &mut Program,
     options: &CompressOptions,
     context: &mut TraverseCtx,
 ) -> Result<Minified, OutOfMemory>
     requires { Knows context.old options.now tree.old }
-    ensures ok { IfOk result (λ m. IsRewriting tree.old options.now m) }
-    ensures made { IfOk result (λ m. (r : IsRewriting tree.old options.now m) × (r.output ≡ tree.new)) }
+    ensures ok { IfOk result (λ m. IsWritten (R.gives options.now) (R.rests options.now) tree.old options.now.passes m) }
+    ensures made { IfOk result (λ m. (r : IsWritten (R.gives options.now) (R.rests options.now) tree.old options.now.passes m) × (r.output ≡ tree.new)) }
     ensures plain { IfOk result (λ m. has_float (view m.program) ≡ false) }
 {
-    let Passes { passes, settled } = run_passes(&RULES, alloc, tree, options.passes, context)?;
+    let Passes { passes, settled } = run_passes(rule, alloc, tree, options.passes, context)?;
     let program = write_program(alloc, tree)?;
     let kept = numbers_of(alloc, tree)?;
     let symbols = symbols_of(alloc, tree)?;
@@ -361,38 +362,63 @@ fn rewritten(
 }
 
 // The answer for a tree as it was read, which is resolved and rewritten in place.
-fn answer(
+fn answer<R: Rule<TraverseCtx>>(
+    rule: &R,
     alloc: Global,
     tree: &mut Program,
     options: &CompressOptions,
 ) -> Result<Minified, MinifyError>
     requires symbols { symbols variant.Read tree.old < 2 ^ 32 }
     requires references { length (references variant.Read tree.old) + 1 < 2 ^ 32 }
-    ensures ok { IfOk result (λ m. IsAnswer tree.old options.now m) }
+    ensures ok { IfOk result (λ m. IsAnswerOf R.gives R.rests tree.old options.now m) }
     ensures plain { IfOk result (λ m. has_float (view m.program) ≡ false) }
     ensures refused { IfErr result (λ e. IfSome (fault_of e) (λ f. early_fault tree.old ≡ Some f)) }
 {
     let scopes = resolve(alloc, tree)?;
     let mut context = TraverseCtx::new(scopes, *options);
-    Ok(rewritten(alloc, tree, options, &mut context)?)
+    Ok(rewritten(rule, alloc, tree, options, &mut context)?)
 }
 
 // The answer for a program as it was read, which is let go.
-fn minify_read(
+fn minify_read<R: Rule<TraverseCtx>>(
+    rule: &R,
     alloc: Global,
     read: Numbered,
     options: &CompressOptions,
 ) -> Result<Minified, MinifyError>
     requires symbols { symbols variant.Read read.root < 2 ^ 32 }
     requires references { length (references variant.Read read.root) + 1 < 2 ^ 32 }
-    ensures ok { IfOk result (λ m. IsAnswer read.root options.now m) }
+    ensures ok { IfOk result (λ m. IsAnswerOf R.gives R.rests read.root options.now m) }
     ensures plain { IfOk result (λ m. has_float (view m.program) ≡ false) }
     ensures refused { IfErr result (λ e. IfSome (fault_of e) (λ f. early_fault read.root ≡ Some f)) }
 {
     let Numbered { mut root, .. } = read;
-    let made = answer(alloc, &mut root, options);
+    let made = answer(rule, alloc, &mut root, options);
     discard(root);
     made
+}
+
+/// Reads a program from its ESTree value, gives each name in it its symbol, makes passes of a rule
+/// over it, until the rule has nothing left to do or the passes of the options are made, and writes
+/// it. Where the rule is lawful the answer is faithful (`lawful_passes_are_faithful`).
+///
+/// A value is refused exactly where it is no program that is read to the depth of the options, or
+/// where its program has an early error, with the first defect and its pointer. `OutOfMemory` may
+/// come in place of any answer. The value has to fit (`mini_writer::fits`).
+#[tactic(auto, using(crate::proofs::Refused::refused_by_table))]
+pub fn minify_with<R: Rule<TraverseCtx>>(
+    rule: &R,
+    alloc: Global,
+    program: &Value,
+    options: &CompressOptions,
+) -> Result<Minified, MinifyError>
+    requires { Fits (view program.now) }
+    ensures rewritten { IfOk result (λ m. IsMinifiedBy R.gives R.rests (view program.now) options.now m) }
+    ensures plain { IfOk result (λ m. has_float (view m.program) ≡ false) }
+    ensures refused { IfErr result (λ e. IsRefusal (view program.now) options.now e) }
+{
+    let read = read_program(alloc, program, options.max_depth)?;
+    minify_read(rule, alloc, read, options)
 }
 
 /// Reads a program from its ESTree value, gives each name in it its symbol, rewrites it until
@@ -404,7 +430,6 @@ fn minify_read(
 /// with the first and its pointer. `OutOfMemory` may come in place of any answer.
 ///
 /// The value has to fit: `mini_writer::fits` tells, and what 16,777,216 bytes of JSON say does.
-#[tactic(auto, using(crate::proofs::Refused::refused_by_table))]
 pub fn minify_estree(
     alloc: Global,
     program: &Value,
@@ -418,8 +443,7 @@ pub fn minify_estree(
     ensures plain { IfOk result (λ m. has_float (view m.program) ≡ false) }
     ensures refused { IfErr result (λ e. IsRefusal (view program.now) options.now e) }
 {
-    let read = read_program(alloc, program, options.max_depth)?;
-    minify_read(alloc, read, options)
+    minify_with(&RULES, alloc, program, options)
 }
 
 /// Minifies a value that is given away, as `minify_estree` minifies one that is borrowed. It is
@@ -441,7 +465,7 @@ pub fn minify_value(
     let made = read_program(alloc, &program, options.max_depth);
     drop(program);
     let read = made?;
-    minify_read(alloc, read, options)
+    minify_read(&RULES, alloc, read, options)
 }
 
 // The answer for a tree as it was read, with what it weighs before and after.
@@ -458,7 +482,7 @@ fn weighed_answer(
     let resolved = resolve(alloc, tree)?;
     let before = weight(tree, Position::Elsewhere);
     let mut context = TraverseCtx::new(resolved, *options);
-    let minified = rewritten(alloc, tree, options, &mut context)?;
+    let minified = rewritten(&RULES, alloc, tree, options, &mut context)?;
     let after = weight(tree, Position::Elsewhere);
     Ok(Weighed {
         minified,

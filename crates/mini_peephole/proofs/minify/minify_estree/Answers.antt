@@ -1,18 +1,11 @@
-use Rattle.mini_writer.proofs.Few.{fitting_is_countable}
-use Rattle.mini_peephole.proofs.Answered.{answer_is_faithful, answer_is_bounded, answer_comes_back}
+use Rattle.mini_peephole.proofs.Answered.{minified_is_faithful, minified_is_bounded, minified_comes_back}
 use Rattle.mini_peephole.proofs.minify.minify_estree.Goals as goal
 
-pub minify_read-requires-clause-symbols : goal.minify_read-requires-clause-symbols
-minify_read-requires-clause-symbols c = (fitting_is_countable _ _ _ _ c.requires c.in_ok-read.ensures.tree).symbols
-
-pub minify_read-requires-clause-references : goal.minify_read-requires-clause-references
-minify_read-requires-clause-references c = (fitting_is_countable _ _ _ _ c.requires c.in_ok-read.ensures.tree).references
-
 pub returns-clause-faithful : goal.returns-clause-faithful
-returns-clause-faithful c = answer_is_faithful _ _ _ _ _ c.requires c.in_ok-read.ensures.tree c.minify_read.ensures.ok
+returns-clause-faithful c = minified_is_faithful _ _ _ c.requires c.minify_with.ensures.rewritten
 
 pub returns-clause-passes : goal.returns-clause-passes
-returns-clause-passes c = answer_is_bounded _ _ _ _ _ c.in_ok-read.ensures.tree c.minify_read.ensures.ok
+returns-clause-passes c = minified_is_bounded _ _ _ c.minify_with.ensures.rewritten
 
 pub returns-clause-again : goal.returns-clause-again
-returns-clause-again c = answer_comes_back _ _ _ _ _ c.requires c.in_ok-read.ensures.tree c.minify_read.ensures.ok
+returns-clause-again c = minified_comes_back _ _ _ c.requires c.minify_with.ensures.rewritten
