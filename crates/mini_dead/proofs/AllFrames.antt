@@ -1,8 +1,8 @@
 -- All frames of a program that lost dead items. No program stands below its root, so every frame
 -- there has a number but 0.
-use Rattle.std.proofs.Common.{◌≡◌, ℕ, zero, suc, true, List, [], ◌∷◌, ◌++◌, Option, None, refl, sym, ap, ◌∙◌, subst, true≢false, inl, inr, arith}
+use Rattle.std.proofs.Common.{◌≡◌, ℕ, zero, suc, true, List, Option, None, refl, sym, ap, ◌∙◌, subst, true≢false, inl, inr, arith}
 use Rattle.std.specs.Prelude.{◌⊎◌, Contains}
-use Rattle.std.proofs.lemmas.List.Elements.{Contains-append_left, Contains-append_right, Contains-append_cases}
+use Rattle.std.proofs.lemmas.List.Elements.{Contains-append_left, Contains-append_cases}
 use Rattle.mini_model.specs.declared.kind.PropertyKind.{PropertyKind}
 use Rattle.mini_model.specs.declared.name.Name.{Name}
 use Rattle.mini_model.specs.declared.place.Position.{Position}
@@ -13,12 +13,9 @@ use Rattle.mini_model.specs.Tree.{Tree, Trees, node, none, ◌▸◌, count, sha
 use Rattle.mini_model.specs.Position.{child_position}
 use Rattle.mini_model.specs.Rewriting.{Step, here, inside, StepIn, first, later}
 use Rattle.mini_accept.specs.WellShaped.{IsWellShaped}
-use Rattle.mini_laws.specs.declared.names.Use.TheVariants.{Read}
-use Rattle.mini_laws.specs.Scoped.{Scoped}
 use Rattle.mini_kept.specs.Frames.{outline, globals, Frame, property_below, frame_of, frames, frames_from, frames_in}
 use Rattle.mini_kept.specs.Rooted.{is_program}
 use Rattle.mini_kept.proofs.ProgramPlaces.{NoProgram, below_program}
-use Rattle.mini_dead.specs.Drops.{DropsAgain}
 use Rattle.mini_dead.specs.Frames as law
 use Rattle.mini_dead.specs.Frames.{root_frame}
 use Rattle.mini_dead.proofs.Frames.{drops_keep_frames}

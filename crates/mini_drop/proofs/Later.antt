@@ -1,14 +1,14 @@
 -- The code's test is that of `may_go`.
-use Rattle.std.proofs.Common.{◌≡◌, ℕ, zero, suc, ◌+◌, ◌<◌, ◌≤◌, Bool, true, false, List, [], ◌∷◌, ◌++◌, Option, Some, None, refl, sym, ap, ◌∙◌, subst, add-one, arith}
-use Rattle.std.specs.Prelude.{not, ◌&&◌, ◌||◌, map}
+use Rattle.std.proofs.Common.{◌≡◌, ℕ, zero, suc, Bool, true, false, List, [], ◌∷◌, ◌++◌, Some, None, refl, sym, ap, ◌∙◌}
+use Rattle.std.specs.Prelude.{not, ◌&&◌, map}
 use Rattle.std.specs.List.{list_any}
 use Rattle.mini_model.specs.declared.name.Name.{Name}
 use Rattle.mini_model.specs.declared.shape.Shape.{Shape}
 use Rattle.mini_model.specs.declared.shape.Shape.TheVariants as shape
-use Rattle.mini_model.specs.Tree.{Tree, Trees, node, none, ◌▸◌, count, children, child_or_absent, shape_of, absent}
+use Rattle.mini_model.specs.Tree.{Tree, Trees, node, none, ◌▸◌, children, child_or_absent, shape_of, absent}
 use Rattle.mini_model.specs.Paths.{child_at}
 use Rattle.mini_node.specs.Children.{names_of, rest_children}
-use Rattle.mini_node.specs.Walks.{next_child, no_rest, from_first}
+use Rattle.mini_node.specs.Walks.{from_first}
 use Rattle.mini_laws.specs.declared.names.Use.{Use}
 use Rattle.mini_laws.specs.declared.names.Use.TheVariants.{Read}
 use Rattle.mini_laws.specs.Scopes.{use_of}
@@ -18,8 +18,7 @@ use Rattle.mini_dead.specs.Dead.{has_name}
 use Rattle.mini_dead.specs.Drops.{round_of, item_count}
 use Rattle.mini_dead.specs.Marked.{Mark, no_item, an_item, a_declarator, mark, refers_later, declarator_may_go, declarators_may_go, item_may_go, mark_may_go, may_go, all_may_go}
 use Rattle.mini_dead.proofs.Marking.{MarkStands, mark_stands}
-use Rattle.mini_drop.specs.Asked.{items_of}
-use Rattle.mini_drop.specs.Going.{first_round, name_later, names_later, own_later, later_in, all_later, declarator_later, declarators_later, item_later, part_later, part_may_go, part_goes}
+use Rattle.mini_drop.specs.Going.{name_later, names_later, own_later, later_in, all_later, declarator_later, declarators_later, part_later, part_may_go, part_goes}
 use Rattle.mini_drop.proofs.Told.{mark_count, items_told}
 use Rattle.mini_drop.proofs.Every.{Every}
 

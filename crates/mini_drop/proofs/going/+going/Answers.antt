@@ -1,4 +1,4 @@
-use Rattle.std.proofs.Common.{ap, sym, ◌∙◌, refl, ◌<◌, ◌≤◌, arith}
+use Rattle.std.proofs.Common.{ap, ◌∙◌, refl, ◌<◌, ◌≤◌, arith}
 use Rattle.std.specs.Prelude.{slice_index, not, ◌&&◌}
 use Rattle.std.specs.List.{list_any}
 use Rattle.mini_node.specs.Children.{names}

@@ -1,4 +1,4 @@
-use Rattle.std.proofs.Common.{ap, sym, ◌∙◌, refl, ◌<◌, ◌≤◌, arith}
+use Rattle.std.proofs.Common.{ap, ◌∙◌, refl, ◌<◌, ◌≤◌, arith}
 use Rattle.std.specs.Prelude.{slice_index, ◌&&◌}
 use Rattle.mini_model.specs.Tree.{count}
 use Rattle.mini_context.specs.Tables.{mark_at}
