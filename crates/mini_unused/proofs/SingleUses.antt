@@ -123,10 +123,10 @@ no_constant (node h ys n (t ▸ none)) e f = absurd (f (omega arith))
 no_constant (node h ys n (t ▸ (u ▸ ts))) e f = e
 
 -- where the first of them mentions the name, and where it doesn't
-place_here : (x : Name) (t : Tree) (ts : Trees) → names x t ≡ true → mention_place x (t ▸ ts) ≡ 0
+pub place_here : (x : Name) (t : Tree) (ts : Trees) → names x t ≡ true → mention_place x (t ▸ ts) ≡ 0
 place_here x t ts e = ap (λ c. if c then 0 else suc (mention_place x ts)) e
 
-place_later : (x : Name) (t : Tree) (ts : Trees) → names x t ≡ false → mention_place x (t ▸ ts) ≡ suc (mention_place x ts)
+pub place_later : (x : Name) (t : Tree) (ts : Trees) → names x t ≡ false → mention_place x (t ▸ ts) ≡ suc (mention_place x ts)
 place_later x t ts e = ap (λ c. if c then 0 else suc (mention_place x ts)) e
 
 each_bool : (P : Bool → Type 0) (b : Bool) → (b ≡ true → P true) → (b ≡ false → P false) → P b
@@ -395,7 +395,7 @@ put_one x r t ts c = if c then put_first x r t ▸ ts else t ▸ put_among x r t
 abbrev put_there : Name → Tree → Trees → ℕ → Trees
 put_there x r us p = with_child us p (put_first x r (child_or_absent us p))
 
-put_at : (x : Name) (r : Tree) (ts : Trees) → mention_place x ts < count ts → put_among x r ts ≡ with_child ts (mention_place x ts) (put_first x r (child_or_absent ts (mention_place x ts)))
+pub put_at : (x : Name) (r : Tree) (ts : Trees) → mention_place x ts < count ts → put_among x r ts ≡ with_child ts (mention_place x ts) (put_first x r (child_or_absent ts (mention_place x ts)))
 put_at x r none l = absurd (omega (arith, l))
 put_at x r (t ▸ ts) l = by (names x t) refl l (put_at x r ts)
   where
