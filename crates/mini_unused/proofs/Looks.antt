@@ -1,6 +1,6 @@
 -- One walk for a name: what it tells of a tree, and what it puts there.
-use Rattle.std.proofs.Common.{◌≡◌, ℕ, zero, suc, ◌+◌, ◌<◌, ◌≤◌, Bool, true, false, List, [], ◌∷◌, refl, sym, ap, subst₂, ◌∙◌, true≢false, add-one, arith}
-use Rattle.std.specs.Prelude.{not, ◌&&◌, ◌||◌, if◌then◌else◌, Option, Some, None}
+use Rattle.std.proofs.Common.{◌≡◌, ℕ, zero, suc, ◌+◌, ◌<◌, ◌≤◌, Bool, true, false, [], ◌∷◌, refl, sym, ap, subst₂, ◌∙◌, true≢false, add-one, arith}
+use Rattle.std.specs.Prelude.{not, ◌&&◌, ◌||◌, Option, Some, None}
 use Rattle.mini_model.specs.declared.name.Name.{Name}
 use Rattle.mini_model.specs.declared.shape.Shape.{Shape}
 use Rattle.mini_model.specs.Tree.{Tree, Trees, node, none, ◌▸◌, shape_of, children, count, node_count, node_counts, child_or_absent}
@@ -11,7 +11,7 @@ use Rattle.mini_node.specs.Kinds.{is_identifier}
 use Rattle.mini_node.specs.Lends.{with_children}
 use Rattle.mini_node.specs.Walks.{all_first, with_same}
 use Rattle.mini_rows.specs.declared.gathered.Gathered.{Gathered}
-use Rattle.mini_rows.specs.Unused.{gathered_below, are_passed_in, is_like_one, names, any_names, in_full, holds_list, has_symbol_of, reads, is_first, put_first, put_among}
+use Rattle.mini_rows.specs.Unused.{gathered_below, are_passed_in, is_like_one, names, any_names, in_full, holds_list, is_first, put_first, put_among}
 use Rattle.mini_unused.specs.Looks.{Looked, LookedAlong, Put, PutAlong}
 use Rattle.mini_unused.specs.SubstituteSingleUse.{written_in_full, mention_place, may_lead, may_reach}
 use Rattle.mini_unused.proofs.Standing.{before_step}
@@ -89,9 +89,10 @@ looked_some x l t h ts i b p f g (w, e, q) r =
     let within : i < count (children t) = omega (arith, w, same) in
     let place : i ≡ mention_place x (children t) = e ∙ ap (mention_place x) g in
     let lead = may_lead l t i in
-    let rest = any_names x (rest_children (i + 1) (children t)) in
-    ( named_below x t (named_by x (children t) (omega (arith, within, place)))
-    , r ∙ turned b lead (not rest) ∙ sym (first_by x l t i lead b rest place within refl (q ∙ (λ k. is_first x (holds_list (f k) i) (child_or_absent (g k) i))) (ap (λ j. any_names x (rest_children j (children t))) (add-one i))) )
+    let rest = any_names x (rest_children (i + 1) (children t)) in (
+      named_below x t (named_by x (children t) (omega (arith, within, place))),
+      r ∙ turned b lead (not rest) ∙ sym (first_by x l t i lead b rest place within refl (q ∙ (λ k. is_first x (holds_list (f k) i) (child_or_absent (g k) i))) (ap (λ j. any_names x (rest_children j (children t))) (add-one i))),
+    )
 
 -- of the first part that mentions the name, whatever is told of it
 module _ (f : ℕ → Tree → Bool) (x : Name) (ts : Trees) where
@@ -112,9 +113,10 @@ module _ (x : Name) (m : Gathered) (r t : Tree) where
   looked_passed h ts i b p f g (w, e, q) o =
       let same = ap count g in
       let within : i < count (children t) = omega (arith, w, same) in
-      let place : i ≡ mention_place x (children t) = e ∙ ap (mention_place x) g in
-      ( named_below x t (named_by x (children t) (omega (arith, within, place)))
-      , o ∙ passed_by i b (may_reach x m r t i) place within (q ∙ (λ k. are_passed_in x (gathered_below m (f k) i) r (child_or_absent (g k) i))) refl )
+      let place : i ≡ mention_place x (children t) = e ∙ ap (mention_place x) g in (
+        named_below x t (named_by x (children t) (omega (arith, within, place))),
+        o ∙ passed_by i b (may_reach x m r t i) place within (q ∙ (λ k. are_passed_in x (gathered_below m (f k) i) r (child_or_absent (g k) i))) refl,
+      )
 
   passed_end : (i : ℕ) (c : Bool) → i ≡ mention_place x (children t) → count (children t) ≤ i → may_reach x m r t i ≡ c → c ≡ are_passed_in x m r t
   passed_end i true e w f = sym (passed_all x m r t i e w f)
@@ -162,16 +164,18 @@ module _ (x : Name) (r : Tree) (ts : Trees) where
   put_there ns us i l t u w f e g h (n, p) q =
       let there = h ∙ ap (λ vs. child_or_absent vs i) e in
       let place = place_found x ts i t w f there n in
-      let put : u ≡ put_first x r (child_or_absent ts (mention_place x ts)) = p ∙ (λ k. put_first x (g k) (there k)) ∙ ap (λ j. put_first x r (child_or_absent ts j)) place in
-      ( named_by x ts (omega (arith, w, place))
-      , q ∙ (λ k. with_child (e k) (place k) (put k)) ∙ sym (put_at x r ts (omega (arith, w, place))) )
+      let put : u ≡ put_first x r (child_or_absent ts (mention_place x ts)) = p ∙ (λ k. put_first x (g k) (there k)) ∙ ap (λ j. put_first x r (child_or_absent ts j)) place in (
+        named_by x ts (omega (arith, w, place)),
+        q ∙ (λ k. with_child (e k) (place k) (put k)) ∙ sym (put_at x r ts (omega (arith, w, place))),
+      )
 
   pub put_on : (ns us : Trees) (i k : ℕ) (l t u s : Tree) → k ≡ suc i → i < count ts → any_names x (first_children i ts) ≡ false → ns ≡ ts → l ≡ r → t ≡ child_or_absent ns i → Put x l t u (Some s) → us ≡ with_child ns i u → (any_names x (first_children k ts) ≡ false) × (us ≡ ts) × (s ≡ r)
   put_on ns us i k l t u s m w f e g h (n, p, o) q =
-      let there = h ∙ ap (λ vs. child_or_absent vs i) e in
-      ( before_step x ts i k t m w there n f
-      , q ∙ (λ j. with_child (e j) i ((p ∙ there) j)) ∙ with_same ts i
-      , o ∙ g )
+      let there = h ∙ ap (λ vs. child_or_absent vs i) e in (
+        before_step x ts i k t m w there n f,
+        q ∙ (λ j. with_child (e j) i ((p ∙ there) j)) ∙ with_same ts i,
+        o ∙ g,
+      )
 
   pub put_end : (ns : Trees) (i : ℕ) (l : Tree) → count ts ≤ i → any_names x (first_children i ts) ≡ false → ns ≡ ts → l ≡ r → PutAlong x r ts ns (Some l)
   put_end ns i l h f e g = (none_there x ts i h f, e, g)

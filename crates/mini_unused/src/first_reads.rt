@@ -234,8 +234,7 @@ fn reads_at(is_read: bool, name: &Name, in_list: bool, node: &Node, at: usize) -
     if at >= node.children().len() {
         return false;
     }
-    is_read
-        && (may_lead(in_list, node, at) && !is_mentioned_from(name, node.children(), at + 1))
+    is_read && (may_lead(in_list, node, at) && !is_mentioned_from(name, node.children(), at + 1))
 }
 
 // None where a node without parts doesn't mention the name, and else whether it reads it.

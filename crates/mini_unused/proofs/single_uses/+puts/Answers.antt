@@ -1,4 +1,4 @@
-use Rattle.std.proofs.Common.{◌<◌, ◌≤◌, ◌∙◌, refl, sym, ap, arith}
+use Rattle.std.proofs.Common.{◌<◌, ◌≤◌, ◌∙◌, refl, ap, arith}
 use Rattle.mini_model.specs.Tree.{children, count}
 use Rattle.mini_rows.specs.Unused.{any_names}
 use Rattle.mini_unused.proofs.Looks.{children_with, put_still, put_whole, part_smaller, put_there, put_on, put_end}
