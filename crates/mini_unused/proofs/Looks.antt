@@ -15,7 +15,7 @@ use Rattle.mini_rows.specs.Unused.{gathered_below, are_passed_in, is_like_one, n
 use Rattle.mini_unused.specs.Looks.{Looked, LookedAlong, Put, PutAlong}
 use Rattle.mini_unused.specs.SubstituteSingleUse.{written_in_full, mention_place, may_lead, may_reach}
 use Rattle.mini_unused.proofs.Standing.{before_step}
-use Rattle.mini_unused.proofs.SingleUses.{place_later, place_found, place_end, first_by, not_mentioned, passed_none, passed_all, passed_below, put_none, put_at}
+use Rattle.mini_unused.proofs.SingleUses.{and_false, or_left, or_right, place_later, place_found, place_end, first_by, not_mentioned, passed_none, passed_all, passed_below, put_none, put_at}
 
 or_true : (b : Bool) → (b || true) ≡ true
 or_true true = refl
@@ -28,18 +28,6 @@ or_false false = refl
 and_true : (b : Bool) → (b && true) ≡ b
 and_true true = refl
 and_true false = refl
-
-and_false : (b : Bool) → (b && false) ≡ false
-and_false true = refl
-and_false false = refl
-
-or_left : (a b : Bool) → (a || b) ≡ false → a ≡ false
-or_left true b e = absurd (true≢false e)
-or_left false b e = refl
-
-or_right : (a b : Bool) → (a || b) ≡ false → b ≡ false
-or_right true b e = absurd (true≢false e)
-or_right false b e = e
 
 turned : (a b c : Bool) → (a && (b && c)) ≡ (b && (a && c))
 turned true true c = refl
@@ -150,8 +138,8 @@ put_still x r s t u ts us o e (n, f, g) h = subst₂ (λ v w. Put x v w u o) g (
 pub put_whole : (x : Name) (r t u : Tree) (ts us : Trees) → 0 < count (children t) → ts ≡ children t → PutAlong x r ts us None → u ≡ written_in_full (with_children t us) → Put x r t u None
 put_whole x r t u ts us some e (n, f) g = (named_below x t (sym (ap (any_names x) e) ∙ n), put_below x r t u us some (f ∙ ap (put_among x r) e) g)
 
-pub part_smaller : (ts ns : Trees) (i : ℕ) (t : Tree) → i < count ts → ns ≡ ts → t ≡ child_or_absent ns i → node_count t ≤ node_counts ts
-part_smaller ts ns i t w e f = let same = ap node_count (f ∙ ap (λ vs. child_or_absent vs i) e) in let less = go ts i w in omega (arith, same, less)
+pub child_smaller : (ts ns : Trees) (i : ℕ) (t : Tree) → i < count ts → ns ≡ ts → t ≡ child_or_absent ns i → node_count t ≤ node_counts ts
+child_smaller ts ns i t w e f = let same = ap node_count (f ∙ ap (λ vs. child_or_absent vs i) e) in let less = go ts i w in omega (arith, same, less)
   where
     go : (ts : Trees) (i : ℕ) → i < count ts → node_count (child_or_absent ts i) ≤ node_counts ts
     go none i w = absurd (omega (arith, w))

@@ -1,7 +1,7 @@
 use Rattle.std.proofs.Common.{◌<◌, ◌≤◌, ◌∙◌, refl, ap, arith}
 use Rattle.mini_model.specs.Tree.{children, count}
 use Rattle.mini_rows.specs.Unused.{any_names}
-use Rattle.mini_unused.proofs.Looks.{children_with, put_still, put_whole, part_smaller, put_there, put_on, put_end}
+use Rattle.mini_unused.proofs.Looks.{children_with, put_still, put_whole, child_smaller, put_there, put_on, put_end}
 use Rattle.mini_unused.proofs.SingleUses.{place_start}
 use Rattle.mini_unused.proofs.single_uses.+puts.Goals as goal
 
@@ -28,7 +28,7 @@ put_along-loop-at-init t c = (place_start c.args.name.now c.args.nodes.now, refl
 pub put_along-put_inside-requires : goal.put_along-put_inside-requires
 put_along-put_inside-requires t c =
     let (f, e, g) = c.loop-at.invariant in
-    let less = part_smaller c.args.nodes.now c.loop-at.nodes c.loop-at.at c.child_mut.result.now (omega arith) e c.child_mut.ensures.value in
+    let less = child_smaller c.args.nodes.now c.loop-at.nodes c.loop-at.at c.child_mut.result.now (omega arith) e c.child_mut.ensures.value in
     (omega (arith, c.decreases, less), tt)
 
 pub put_along-returns-in-None : goal.put_along-returns-in-None
