@@ -10,7 +10,8 @@ use Rattle.mini_node.specs.Children.{names as names_in, names_of, first_children
 use Rattle.mini_rows.specs.Past.{Kept, passes_any_at, is_certain, are_past_in, all_past, all_of}
 use Rattle.mini_rows.specs.declared.gathered.Gathered.{Gathered}
 use Rattle.mini_rows.specs.Unused.{names, any_names, begins_with, gathered_below}
-use Rattle.mini_past.specs.Looks.{FirstAt, Looked}
+use Rattle.mini_unused.specs.Looks.{Looked}
+use Rattle.mini_past.specs.Looks.{FirstAt}
 use Rattle.mini_past.proofs.PassedParts.{opened}
 
 or_left : (a b : Bool) → (a || b) ≡ false → a ≡ false

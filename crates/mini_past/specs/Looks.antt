@@ -15,11 +15,6 @@ pub record FirstAt (x : Name) (ts : Trees) (i : ℕ) : Type 0 where
   pub before : any_names x (first_children i ts) ≡ false
   pub there : names x (child_or_absent ts i) ≡ true
 
--- of a tree that mentions the name or not, and in which the initializer may be put there or not
-abbrev pub Looked : Option Bool → Bool → Bool → Type 0
-Looked (Some b) named past = (named ≡ true) × (b ≡ past)
-Looked None named past = named ≡ false
-
 -- of some parts of a node of such a shape
 abbrev pub LookedAlong : Kept → Name → Gathered → Tree → Shape → Trees → Option (ℕ × Bool) → Type 0
 LookedAlong H x m r s ts (Some (i, b)) = FirstAt x ts i × (b ≡ are_past_in H x (gathered_below m s i) r (child_or_absent ts i))

@@ -6,8 +6,9 @@ ghost use Rattle.mini_model.specs.Tree.{children, count, shape_of};
 ghost use Rattle.mini_node.specs.Children.{first_children};
 ghost use Rattle.mini_rows.specs.Past as reading;
 ghost use Rattle.mini_rows.specs.Unused.{begins_with as it_begins_with, is_placed as is_it_placed, is_sure as is_it_sure, names};
+ghost use Rattle.mini_unused.specs.Looks.{Looked};
 ghost use Rattle.mini_past.specs.LetPlaces.{Told};
-ghost use Rattle.mini_past.specs.Looks.{FirstAt, Looked, LookedAlong};
+ghost use Rattle.mini_past.specs.Looks.{FirstAt, LookedAlong};
 ghost use Rattle.mini_past.specs.SubstitutePast.{held_at};
 
 use crate::let_places::LetPlaces;

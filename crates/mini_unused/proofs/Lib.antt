@@ -4,6 +4,7 @@ pub mod Evaluating
 pub mod Standing
 pub mod Unused
 pub mod SingleUses
+pub mod Looks
 pub mod NextUses
 pub mod Uneval
 pub mod Rare

@@ -123,10 +123,10 @@ no_constant (node h ys n (t ▸ none)) e f = absurd (f (omega arith))
 no_constant (node h ys n (t ▸ (u ▸ ts))) e f = e
 
 -- where the first of them mentions the name, and where it doesn't
-place_here : (x : Name) (t : Tree) (ts : Trees) → names x t ≡ true → mention_place x (t ▸ ts) ≡ 0
+pub place_here : (x : Name) (t : Tree) (ts : Trees) → names x t ≡ true → mention_place x (t ▸ ts) ≡ 0
 place_here x t ts e = ap (λ c. if c then 0 else suc (mention_place x ts)) e
 
-place_later : (x : Name) (t : Tree) (ts : Trees) → names x t ≡ false → mention_place x (t ▸ ts) ≡ suc (mention_place x ts)
+pub place_later : (x : Name) (t : Tree) (ts : Trees) → names x t ≡ false → mention_place x (t ▸ ts) ≡ suc (mention_place x ts)
 place_later x t ts e = ap (λ c. if c then 0 else suc (mention_place x ts)) e
 
 each_bool : (P : Bool → Type 0) (b : Bool) → (b ≡ true → P true) → (b ≡ false → P false) → P b
@@ -160,7 +160,7 @@ leads_nowhere x b h i (t ▸ ts) l = by (names x t) refl l (leads_nowhere x b h 
     by true e l f = let here = place_here x t ts e in absurd (omega (arith, l, here))
     by false e l f = let later = place_later x t ts e in ap (λ c. if c then (leads b h i t && (is_first x (holds_list h i) t && not (any_names x ts))) else leads_to x b h (suc i) ts) e ∙ f (omega (arith, l, later))
 
-and_false : (a : Bool) → (a && false) ≡ false
+pub and_false : (a : Bool) → (a && false) ≡ false
 and_false true = refl
 and_false false = refl
 
@@ -187,26 +187,17 @@ pub not_mentioned : (x : Name) (b : Bool) (t : Tree) (p : ℕ) → 0 < count (ch
 not_mentioned x b (node h xs n none) p s e l = absurd (omega (arith, s))
 not_mentioned x b (node h xs n (t ▸ ts)) p s e l = ap (λ c. may_hold (node h xs n (t ▸ ts)) && c) (leads_nowhere x b h 0 (t ▸ ts) (omega (arith, e, l))) ∙ and_false (may_hold (node h xs n (t ▸ ts)))
 
-pub not_begun : (x : Name) (b : Bool) (t : Tree) (p : ℕ) → p ≡ mention_place x (children t) → p < count (children t) → may_lead b t p ≡ false → is_first x b t ≡ false
-not_begun x b t p s l e = first_by x b t p false (is_first x (holds_list (shape_of t) p) (part t p)) (any_names x (rest_children (suc p) (children t))) s l (sym e) refl refl
-
-pub not_read : (x : Name) (b : Bool) (t : Tree) (p : ℕ) → p ≡ mention_place x (children t) → p < count (children t) → is_first x (holds_list (shape_of t) p) (part t p) ≡ false → is_first x b t ≡ false
-not_read x b t p s l e = first_by x b t p (may_lead b t p) false (any_names x (rest_children (suc p) (children t))) s l refl (sym e) refl ∙ and_false (may_lead b t p)
-
-pub read_by : (x : Name) (b : Bool) (t : Tree) (p : ℕ) (a : Bool) → p ≡ mention_place x (children t) → p < count (children t) → may_lead b t p ≡ true → is_first x (holds_list (shape_of t) p) (part t p) ≡ true → a ≡ any_names x (rest_children (p + 1) (children t)) → is_first x b t ≡ not a
-read_by x b t p a s l e f g = first_by x b t p true true a s l (sym e) (sym f) (g ∙ ap (λ j. any_names x (rest_children j (children t))) (add-one p))
-
 -- ---- the place of a mention
 
 pub place_start : (x : Name) (ts : Trees) → any_names x (first_children 0 ts) ≡ false
 place_start x none = refl
 place_start x (t ▸ ts) = refl
 
-or_left : (a b : Bool) → (a || b) ≡ false → a ≡ false
+pub or_left : (a b : Bool) → (a || b) ≡ false → a ≡ false
 or_left true b e = absurd (true≢false e)
 or_left false b e = refl
 
-or_right : (a b : Bool) → (a || b) ≡ false → b ≡ false
+pub or_right : (a b : Bool) → (a || b) ≡ false → b ≡ false
 or_right true b e = absurd (true≢false e)
 or_right false b e = e
 
@@ -220,7 +211,7 @@ place_end x none i l f = refl
 place_end x (t ▸ ts) zero l f = absurd (omega (arith, l))
 place_end x (t ▸ ts) (suc i) l f = ap suc (place_end x ts i (omega (arith, l)) (or_right (names x t) (any_names x (first_children i ts)) f)) ∙ sym (place_later x t ts (or_left (names x t) (any_names x (first_children i ts)) f))
 
-pub place_within : (x : Name) (ts : Trees) → mention_place x ts ≤ count ts
+place_within : (x : Name) (ts : Trees) → mention_place x ts ≤ count ts
 place_within x none = omega arith
 place_within x (t ▸ ts) = by (names x t) refl (place_within x ts)
   where
@@ -395,7 +386,7 @@ put_one x r t ts c = if c then put_first x r t ▸ ts else t ▸ put_among x r t
 abbrev put_there : Name → Tree → Trees → ℕ → Trees
 put_there x r us p = with_child us p (put_first x r (child_or_absent us p))
 
-put_at : (x : Name) (r : Tree) (ts : Trees) → mention_place x ts < count ts → put_among x r ts ≡ with_child ts (mention_place x ts) (put_first x r (child_or_absent ts (mention_place x ts)))
+pub put_at : (x : Name) (r : Tree) (ts : Trees) → mention_place x ts < count ts → put_among x r ts ≡ with_child ts (mention_place x ts) (put_first x r (child_or_absent ts (mention_place x ts)))
 put_at x r none l = absurd (omega (arith, l))
 put_at x r (t ▸ ts) l = by (names x t) refl l (put_at x r ts)
   where
@@ -410,10 +401,6 @@ put_nowhere x r (t ▸ ts) l = by (names x t) refl l (put_nowhere x r ts)
     by : (c : Bool) → names x t ≡ c → count (t ▸ ts) ≤ mention_place x (t ▸ ts) → (count ts ≤ mention_place x ts → put_among x r ts ≡ ts) → put_among x r (t ▸ ts) ≡ t ▸ ts
     by true e l f = let here = place_here x t ts e in absurd (omega (arith, l, here))
     by false e l f = let later = place_later x t ts e in ap (λ c. if c then put_first x r t ▸ ts else t ▸ put_among x r ts) e ∙ ap (λ us. t ▸ us) (f (omega (arith, l, later)))
-
-pub put_step : (x : Name) (r t : Tree) (p : ℕ) → p ≡ mention_place x (children t) → p < count (children t) → put_first x r t ≡ written_in_full (with_part t p (put_first x r (part t p)))
-put_step x r (node h xs n none) p e l = absurd (omega (arith, l))
-put_step x r (node h xs n (t ▸ ts)) p e l = ap (node (in_full h) xs n) (put_at x r (t ▸ ts) (omega (arith, e, l)) ∙ sym (ap (λ j. with_child (t ▸ ts) j (put_first x r (child_or_absent (t ▸ ts) j))) e))
 
 pub put_none : (x : Name) (r t : Tree) (p : ℕ) → 0 < count (children t) → p ≡ mention_place x (children t) → count (children t) ≤ p → put_first x r t ≡ written_in_full t
 put_none x r (node h xs n none) p s e l = absurd (omega (arith, s))

@@ -4,6 +4,7 @@ pub mod RemoveUnusedDeclaration
 pub mod Lighter
 pub mod SubstituteNext
 pub mod SubstituteSingleUse
+pub mod Looks
 pub mod RemoveUnusedName
 pub mod SubstituteCatchClause
 pub mod Tallies

@@ -1,15 +1,17 @@
 //! Where a variable is read before all else, for 71: in `x + b`, in `a(x)` behind `a`, in `[1, x]`,
 //! and nowhere in `() => x`.
 
-ghost use Rattle.std.specs.Prelude.{◌≡◌, ◌+◌, ◌<◌, ◌≤◌, true, false, None};
+ghost use Rattle.std.specs.Prelude.{◌≡◌, ◌&&◌, ◌+◌, ◌<◌, ◌≤◌, not, true, false, None};
 ghost use Rattle.mini_model.specs.Tree.{children, count};
-ghost use Rattle.mini_node.specs.Children.{names};
+ghost use Rattle.mini_node.specs.Children.{names, rest_children};
 ghost use Rattle.mini_node.specs.Kinds.{is_listed_shape as is_it_listed_shape};
 ghost use Rattle.mini_rows.specs.Unused as reading;
+ghost use Rattle.mini_rows.specs.Unused.{any_names, names as names_like};
+ghost use Rattle.mini_unused.specs.Looks.{Looked, LookedAlong};
 ghost use Rattle.mini_unused.specs.SubstituteSingleUse as row;
 
 use crate::evals::is_eval_callee;
-use crate::mentions::{is_mentioned, is_mentioned_from, is_same_symbol};
+use crate::mentions::{is_like, is_mentioned, is_mentioned_from, is_same_symbol};
 use mini_model::{Name, PropertyKind, Shape, UnaryOperator};
 use mini_node::{Node, Nodes, is_identifier};
 
@@ -170,19 +172,6 @@ pub fn is_childless(node: &Node) -> bool
     node.children().len() == 0
 }
 
-/// The place of the first of some nodes that mentions the name, or how many they are.
-pub fn mention_place(name: &Name, nodes: &Nodes) -> usize
-    ensures place { result ≡ row.mention_place name.now nodes.now }
-    ensures within { result ≤ count nodes.now }
-{
-    for at in 0..nodes.len() {
-        if is_mentioned(name, nodes.child(at)) {
-            return at;
-        }
-    }
-    nodes.len()
-}
-
 // A name other than `__proto__`.
 fn is_own_name(shape: &Shape) -> bool
     ensures { result ≡ row.is_own_name shape.now }
@@ -236,26 +225,80 @@ fn may_lead(in_list: bool, node: &Node, at: usize) -> bool
     leads(in_list, node.shape(), at, node.child(at)) && may_hold(node)
 }
 
-/// An expression, or a list of parts, reads the variable after the parts that stand before, and
-/// nothing else in it mentions the name.
-#[tactic(auto, using(crate::proofs::SingleUses::first_leaf))]
-pub fn is_first(name: &Name, in_list: bool, node: &Node) -> bool
-    ensures { result ≡ reading.is_first name.now in_list node.now }
+// Whether the part at the place leads to the read, as the flag says of the part itself, and nothing
+// after it mentions the name.
+fn reads_at(is_read: bool, name: &Name, in_list: bool, node: &Node, at: usize) -> bool
+    requires { at < count (children node.now) }
+    ensures { result ≡ (is_read && (row.may_lead in_list node.now at && not (any_names name.now (rest_children (at + 1) (children node.now))))) }
 {
-    if node.children().len() == 0 {
-        return !in_list && reads(name, node);
-    }
-    let at = mention_place(name, node.children());
     if at >= node.children().len() {
         return false;
     }
-    if !may_lead(in_list, node, at) {
-        return false;
+    is_read && (may_lead(in_list, node, at) && !is_mentioned_from(name, node.children(), at + 1))
+}
+
+// None where a node without parts doesn't mention the name, and else whether it reads it.
+#[tactic(auto, using(crate::proofs::SingleUses::first_leaf))]
+fn look_at_leaf(name: &Name, in_list: bool, node: &Node) -> Option<bool>
+    requires { count (children node.now) ≡ 0 }
+    ensures { Looked result (names_like name.now node.now) (reading.is_first name.now in_list node.now) }
+{
+    if !is_mentioned(name, node) {
+        return None;
     }
-    if !is_first(name, holds_list(node.shape(), at), node.child(at)) {
-        return false;
+    Some(!in_list && reads(name, node))
+}
+
+// None where the name isn't a node's own, and else false, of a node whose parts don't mention it.
+fn look_at_own(name: &Name, in_list: bool, node: &Node) -> Option<bool>
+    requires some { 0 < count (children node.now) }
+    requires none { any_names name.now (children node.now) ≡ false }
+    ensures { Looked result (names_like name.now node.now) (reading.is_first name.now in_list node.now) }
+{
+    if is_like(name, node.name()) {
+        Some(false)
+    } else {
+        None
     }
-    !is_mentioned_from(name, node.children(), at + 1)
+}
+
+// None where the node doesn't mention the name, and else whether it reads it first: one walk.
+#[cycle(looks)]
+fn look(name: &Name, in_list: bool, node: &Node) -> Option<bool>
+    ensures { Looked result (names_like name.now node.now) (reading.is_first name.now in_list node.now) }
+{
+    if node.children().len() == 0 {
+        return look_at_leaf(name, in_list, node);
+    }
+    match look_along(name, node.shape(), node.children()) {
+        Some((at, is_read)) => Some(reads_at(is_read, name, in_list, node, at)),
+        None => look_at_own(name, in_list, node),
+    }
+}
+
+// The place of the first of some parts that mentions the name, in a node of such a shape, and
+// whether that part reads it first. None where no part mentions it.
+#[cycle(looks)]
+fn look_along(name: &Name, shape: &Shape, nodes: &Nodes) -> Option<(usize, bool)>
+    ensures { LookedAlong (λ i. reading.is_first name.now (reading.holds_list shape.now i)) name.now nodes.now result }
+{
+    for at in 0..nodes.len() {
+        if let Some(is_read) = look(name, holds_list(shape, at), nodes.child(at)) {
+            return Some((at, is_read));
+        }
+    }
+    None
+}
+
+/// An expression, or a list of parts, reads the variable after the parts that stand before, and
+/// nothing else in it mentions the name.
+pub fn is_first(name: &Name, in_list: bool, node: &Node) -> bool
+    ensures { result ≡ reading.is_first name.now in_list node.now }
+{
+    match look(name, in_list, node) {
+        Some(is_read) => is_read,
+        None => false,
+    }
 }
 
 /// `y.b` and `y[b]`.

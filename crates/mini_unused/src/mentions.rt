@@ -28,9 +28,9 @@ pub fn is_same_symbol(left: Option<SymbolId>, right: Option<SymbolId>) -> bool
     }
 }
 
-// Whether the other has the spelling of the name, or its symbol.
+/// Whether the other has the spelling of the name, or its symbol.
 #[tactic(auto, using(crate::proofs::Standing::or_none))]
-fn is_like(name: &Name, other: &Option<Name>) -> bool
+pub fn is_like(name: &Name, other: &Option<Name>) -> bool
     ensures { result ≡ is_like_one name.now (names_in other.now) }
 {
     match other {

@@ -1,18 +1,20 @@
 //! What is evaluated before a variable is read, for 71, and whether the initializer may be
 //! evaluated behind that: `a() + x` has `a()`, which only a constant passes.
 
-ghost use Rattle.std.specs.Prelude.{◌≡◌, ◌≤◌, true, false};
+ghost use Rattle.std.specs.Prelude.{◌≡◌, ◌≤◌, ◌&&◌, true, false};
 ghost use Rattle.mini_model.specs.Tree.{children, count, shape_of};
 ghost use Rattle.mini_node.specs.Children.{first_children};
 ghost use Rattle.mini_terms.specs.Folds.{is_effect_free as is_it_effect_free};
 ghost use Rattle.mini_rows.specs.Unused as reading;
+ghost use Rattle.mini_rows.specs.Unused.{any_names, names as names_like};
+ghost use Rattle.mini_unused.specs.Looks.{Looked, LookedAlong};
 ghost use Rattle.mini_unused.specs.SubstituteNext.{reads_in as it_reads_in};
 ghost use Rattle.mini_unused.specs.SubstituteSingleUse as row;
 
 use crate::calm::is_calm;
 use crate::evals::is_eval_name;
-use crate::first_reads::{is_childless, is_first, is_listed_shape, is_member, mention_place};
-use crate::mentions::is_mentioned;
+use crate::first_reads::{is_childless, is_first, is_listed_shape, is_member};
+use crate::mentions::{is_like, is_mentioned};
 use mini_model::{AssignmentOperator, Name, PropertyKind, Shape, UnaryOperator};
 use mini_node::{Node, Nodes, is_identifier};
 use mini_rows::{Gathered, fits_in};
@@ -359,26 +361,86 @@ pub fn gathered_below(gathered: Gathered, shape: &Shape, at: usize) -> Gathered
     }
 }
 
-// Each part that is evaluated before the variable is read may be evaluated before the initializer,
-// the read is reached whatever they are, or nothing is lost where it isn't, and the initializer may
-// stand in its place.
-#[tactic(auto, using(crate::proofs::SingleUses::smaller_at))]
+// Whether the initializer may be put into the part at the place, as the flag says of the part
+// itself.
+fn reaches_at(
+    passes: bool,
+    name: &Name,
+    gathered: Gathered,
+    init: &Node,
+    node: &Node,
+    at: usize,
+) -> bool
+    requires { at ≤ count (children node.now) }
+    ensures { result ≡ (passes && row.may_reach name.now gathered init.now node.now at) }
+{
+    passes && may_reach(name, gathered, init, node, at)
+}
+
+// Whether all parts of a node may be evaluated before the initializer, of which none mentions the
+// name.
+fn are_all_passed(name: &Name, gathered: Gathered, init: &Node, node: &Node) -> bool
+    requires { any_names name.now (children node.now) ≡ false }
+    ensures { result ≡ reading.are_passed_in name.now gathered init.now node.now }
+{
+    may_reach(name, gathered, init, node, node.children().len())
+}
+
+// None where the name isn't a node's own, and else whether all parts are passed, of which none
+// mentions it.
+fn look_at_own(name: &Name, gathered: Gathered, init: &Node, node: &Node) -> Option<bool>
+    requires { any_names name.now (children node.now) ≡ false }
+    ensures { Looked result (names_like name.now node.now) (reading.are_passed_in name.now gathered init.now node.now) }
+{
+    if is_like(name, node.name()) {
+        Some(are_all_passed(name, gathered, init, node))
+    } else {
+        None
+    }
+}
+
+// None where the node doesn't mention the name, and else whether each part that is evaluated before
+// the variable is read may be evaluated before the initializer, the read is reached whatever they
+// are, or nothing is lost where it isn't, and the initializer may stand in its place: one walk.
+#[cycle(looks)]
+fn look(name: &Name, gathered: Gathered, init: &Node, node: &Node) -> Option<bool>
+    ensures { Looked result (names_like name.now node.now) (reading.are_passed_in name.now gathered init.now node.now) }
+{
+    match look_along(name, gathered, init, node.shape(), node.children()) {
+        Some((at, passes)) => Some(reaches_at(passes, name, gathered, init, node, at)),
+        None => look_at_own(name, gathered, init, node),
+    }
+}
+
+// The place of the first of some parts that mentions the name, in a node of such a shape, and
+// whether that is so of the part. None where no part mentions it.
+#[cycle(looks)]
+fn look_along(
+    name: &Name,
+    gathered: Gathered,
+    init: &Node,
+    shape: &Shape,
+    nodes: &Nodes,
+) -> Option<(usize, bool)>
+    ensures { LookedAlong (λ i. reading.are_passed_in name.now (reading.gathered_below gathered shape.now i) init.now) name.now nodes.now result }
+{
+    for at in 0..nodes.len() {
+        let below = gathered_below(gathered, shape, at);
+        if let Some(passes) = look(name, below, init, nodes.child(at)) {
+            return Some((at, passes));
+        }
+    }
+    None
+}
+
+// Whether the initializer may be put where the node reads the name, if it does.
 fn are_passed_in(name: &Name, gathered: Gathered, init: &Node, node: &Node) -> bool
     ensures { result ≡ reading.are_passed_in name.now gathered init.now node.now }
 {
-    let at = mention_place(name, node.children());
-    if !may_reach(name, gathered, init, node, at) {
-        return false;
+    match look(name, gathered, init, node) {
+        Some(passes) => passes,
+        None => are_all_passed(name, gathered, init, node),
     }
-    if at >= node.children().len() {
-        return true;
-    }
-    are_passed_in(
-        name,
-        gathered_below(gathered, node.shape(), at),
-        init,
-        node.child(at),
-    )
 }
 
 /// Whether the initializer may be put where an expression, of which the value is asked, reads the

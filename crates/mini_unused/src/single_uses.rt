@@ -9,7 +9,9 @@ ghost use Rattle.mini_model.specs.Tree.{child_or_absent, children, count, empty_
 ghost use Rattle.mini_node.specs.Children.{names, part, with_part};
 ghost use Rattle.mini_node.specs.Kinds.{is_absent_part as is_it_absent, is_listed as is_it_listed};
 ghost use Rattle.mini_rows.specs.Unused as reading;
+ghost use Rattle.mini_rows.specs.Unused.{any_names, names as names_like};
 ghost use Rattle.mini_unused.specs.Allowed.{switches_of};
+ghost use Rattle.mini_unused.specs.Looks.{Put, PutAlong};
 ghost use Rattle.mini_unused.specs.RemoveUnusedDeclaration.{list_at, allowed, open_in, UnusedAt};
 ghost use Rattle.mini_unused.specs.SubstituteNext.{put_named as it_put_named};
 ghost use Rattle.mini_unused.specs.SubstituteSingleUse as row;
@@ -19,17 +21,18 @@ use crate::declarations::{
     declares_name, is_lexical, may_declare, may_lose, put_child, take_child, take_declarator,
 };
 use crate::evals::either_has_eval;
-use crate::first_reads::{is_short, mention_place};
+use crate::first_reads::is_short;
 use crate::heads::takes;
-use crate::mentions::{is_mentioned, is_mentioned_before, is_mentioned_from};
+use crate::mentions::{is_like, is_mentioned, is_mentioned_before, is_mentioned_from};
 use crate::next_uses::substitute_next_uses;
 use crate::sweeping::sweep;
 use mini_context::TraverseCtx;
 use mini_model::{Name, OutOfMemory, PropertyKind, Shape};
-use mini_node::{Node, Nodes, discard, empty_statement, is_absent_part, two};
+use mini_node::{Node, Nodes, discard, empty_statement, is_absent_part, taken, two};
 use mini_terms::is_plain_part;
 use mini_tree::CompressOptions;
 use std::alloc::Global;
+use std::mem;
 
 // It is absent, or there is none.
 #[tactic(auto, using(crate::proofs::SingleUses::no_name))]
@@ -216,25 +219,101 @@ fn in_full(node: Node) -> Node
     Node::with(shape, name, number, children)
 }
 
-/// What a name becomes that is read: another tree stands in its place, and `{ x }` becomes
-/// `{ x: a() }`.
-#[tactic(auto, using(crate::proofs::SingleUses::put_leaf, crate::proofs::SingleUses::put_step, crate::proofs::SingleUses::put_none, crate::proofs::SingleUses::smaller_at, crate::proofs::Unused::same_parts, crate::proofs::Unused::part_twice))]
-fn put_first(name: &Name, value: Node, mut node: Node) -> Node
-    ensures { result ≡ reading.put_first name.now value node }
+// `x: a` of `x`, in place.
+fn spell_in_full(node: &mut Node)
+    ensures { node.new ≡ row.written_in_full node.old }
+{
+    if !is_short(node.shape()) {
+        return;
+    }
+    let alloc = node.children().allocator();
+    let whole = taken(alloc, node);
+    *node = in_full(whole);
+}
+
+// The value stands in the place of a node without parts that mentions the name.
+#[tactic(auto, using(crate::proofs::SingleUses::put_leaf))]
+fn put_at_leaf(name: &Name, value: Node, node: &mut Node) -> Option<Node>
+    requires { count (children node.old) ≡ 0 }
+    ensures { Put name.now value node.old node.new result }
+{
+    if !is_mentioned(name, node) {
+        return Some(value);
+    }
+    discard(mem::replace(node, value));
+    None
+}
+
+// Where the name is a node's own, whose parts don't mention it, the value goes.
+fn put_at_own(name: &Name, value: Node, node: &mut Node) -> Option<Node>
+    requires some { 0 < count (children node.old) }
+    requires none { any_names name.now (children node.old) ≡ false }
+    ensures { Put name.now value node.old node.new result }
+{
+    if !is_like(name, node.name()) {
+        return Some(value);
+    }
+    discard(value);
+    spell_in_full(node);
+    None
+}
+
+// The value stands in the place of what the node reads first of the name, and `{ x }` becomes
+// `{ x: a() }`; it comes back where the node doesn't mention the name.
+#[cycle(puts)]
+fn put_inside(name: &Name, value: Node, node: &mut Node) -> Option<Node>
+    ensures { Put name.now value node.old node.new result }
+{
+    if node.children().len() == 0 {
+        return put_at_leaf(name, value, node);
+    }
+    match put_along(name, value, node.children_mut()) {
+        Some(value) => put_at_own(name, value, node),
+        None => {
+            spell_in_full(node);
+            None
+        }
+    }
+}
+
+// So it stands in the first of some parts that mentions the name.
+#[cycle(puts)]
+fn put_along(name: &Name, value: Node, nodes: &mut Nodes) -> Option<Node>
+    ensures { PutAlong name.now value nodes.old nodes.new result }
+{
+    let mut left = value;
+    for at in 0..nodes.len() {
+        match put_inside(name, left, nodes.child_mut(at)) {
+            Some(value) => left = value,
+            None => return None,
+        }
+    }
+    Some(left)
+}
+
+// So it stands in the place of a node without parts, though that doesn't mention the name.
+#[tactic(auto, using(crate::proofs::SingleUses::put_leaf))]
+fn put_unmentioned(_name: &Name, value: Node, node: Node) -> Node
+    requires { names_like _name.now node ≡ false }
+    ensures { result ≡ reading.put_first _name.now value node }
 {
     if node.children().len() == 0 {
         discard(node);
         return value;
     }
-    let at = mention_place(name, node.children());
-    if at >= node.children().len() {
-        discard(value);
-        return in_full(node);
-    }
-    let part = take_child(&mut node, at);
-    let part = put_first(name, value, part);
-    put_child(&mut node, at, part);
+    discard(value);
     in_full(node)
+}
+
+/// What a name becomes that is read: another tree stands in its place, and `{ x }` becomes
+/// `{ x: a() }`.
+fn put_first(name: &Name, value: Node, mut node: Node) -> Node
+    ensures { result ≡ reading.put_first name.now value node }
+{
+    match put_inside(name, value, &mut node) {
+        Some(value) => put_unmentioned(name, value, node),
+        None => node,
+    }
 }
 
 /// A node with another tree in the place of what it reads first of a name, where there is a name.

@@ -1,0 +1,10 @@
+use Rattle.std.proofs.Common.{◌∙◌, sym, ap}
+use Rattle.mini_rows.specs.Unused.{is_like_one}
+use Rattle.mini_unused.proofs.Looks.{named_itself}
+use Rattle.mini_unused.proofs.passing.look_at_own.Goals as goal
+
+pub returns-then-is_like : goal.returns-then-is_like
+returns-then-is_like c = (sym (c.if-is_like.ensures ∙ ap (is_like_one c.args.name.now) c.name.ensures ∙ named_itself c.args.name.now c.args.node.now c.requires), c.are_all_passed.ensures)
+
+pub returns-else-is_like : goal.returns-else-is_like
+returns-else-is_like c = sym (c.if-is_like.ensures ∙ ap (is_like_one c.args.name.now) c.name.ensures ∙ named_itself c.args.name.now c.args.node.now c.requires)
