@@ -1,4 +1,4 @@
--- What a program loses with its dead items, and what it keeps.
+-- All that is said of a program that lost its dead items.
 use Rattle.mini_laws.proofs.Places.{renamed_again}
 use Rattle.mini_dead.specs.DeadDropped as law
 use Rattle.mini_dead.proofs.Again.{dropped_bodies_stay}

@@ -1,4 +1,4 @@
--- What a program loses with its dead items, and what it keeps, in one place.
+-- All that is said of a program that lost its dead items, in one place.
 use Rattle.std.specs.Prelude.{◌≡◌, ℕ, []}
 use Rattle.mini_model.specs.Tree.{Tree}
 use Rattle.mini_accept.specs.WellShaped.{IsWellShaped}
@@ -21,12 +21,12 @@ pub record DeadDropped (old new : Tree) (n : ℕ) : Type 0 where
   pub unchanged : n ≡ 0 → new ≡ old
   -- the last program is one of ESTree
   pub shaped : IsWellShaped new
-  -- Each body that is left is one that the program had, and does what that did, but for the creation
-  -- of the functions that went. What is shared and foreign is told by the last program, and each
-  -- creation that is left out is answered normally and changes no variable
+  -- Each body that is left is one that the program had, and does what that did, but for the
+  -- creation of the functions that went. The last program tells which variables are shared and
+  -- foreign, and each creation that is left out is answered normally and changes no variable
   pub bodies : NumbersOnce old → BodiesStay old new
-  -- What stands outside bodies is kept: each node with a number has the frame that it had, and so
-  -- has the program itself
+  -- All that stands outside bodies is kept: each node with a number has the frame that it had, and
+  -- so has the program itself
   pub frames : Scoped Read [] old → FramesKept (frames_in old) (frames_in new)
   -- the names that are left are resolved as before, and there is no early error
   pub names : NamesStay old new

@@ -73,8 +73,8 @@ pub fn drops_keep_shape()
 {}
 
 /// A program that lost dead items, any number of times, keeps its names: each that is left has the
-/// symbol that the scopes around it give, no symbol is declared twice, nothing else is declared, and
-/// it has no early error.
+/// symbol that the scopes around it give, no symbol is declared twice, nothing else is declared,
+/// and it has no early error.
 pub fn drops_keep_names()
     ensures { DropsKeepNames }
 {}

@@ -38,7 +38,7 @@ module _ (S : ℕ → Bool) (rounds : ℕ → ℕ) where
     all_later k none = true
     all_later k (t ▸ ts) = later_in k t && all_later k ts
 
-  -- what goes with a declarator, with several, and with an item, goes after it
+  -- the text of a declarator, of several, and of an item refers to later rounds
   abbrev pub declarator_later : Tree → Bool
   declarator_later t = later_in (first_round rounds (names_of (child_or_absent (children t) 0))) (child_or_absent (children t) 1)
 

@@ -99,7 +99,7 @@ fn later_at(set: &[bool], rounds: &[u32], round: u32, nodes: &Nodes, at: usize) 
     }
 }
 
-// What goes with a declarator goes after it.
+// A declarator's initializer refers to symbols of later rounds.
 fn declarator_later(set: &[bool], rounds: &[u32], node: &Node) -> bool
     ensures { result ≡ go.declarator_later (mark_at set.now) (slice_index rounds.now) node.now }
 {
@@ -138,7 +138,7 @@ fn item_later(set: &[bool], rounds: &[u32], shape: &Shape, nodes: &Nodes) -> boo
     }
 }
 
-// What goes with a part of a list goes after it.
+// An item that is a part of a list refers to symbols of later rounds.
 fn part_later(set: &[bool], rounds: &[u32], role: Role, node: &Node) -> bool
     ensures { result ≡ go.part_later (mark_at set.now) (slice_index rounds.now) (role_in role) node.now }
 {

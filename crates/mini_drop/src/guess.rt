@@ -157,7 +157,7 @@ fn count_out(
     Ok(())
 }
 
-// What goes with an item: its references, and the items inside.
+// An item's references are counted out, and the items inside go along.
 fn pass_item(
     work: &mut Work,
     texts: &Texts,
