@@ -1,25 +1,22 @@
 -- The machine begins the production that the next tokens are of.
-use Rattle.std.specs.Prelude.{ℕ, zero, suc, ◌≡◌, refl, ◌≤◌, ◌<◌, nat_le, Bool, true, false, not, List, [], ◌∷◌, codes, Option, Some, None, if◌then◌else◌, ◌||◌}
-use Rattle.std.proofs.Common.{◌∙◌, ap, sym, subst, arith, ◌⊎◌, inl, inr}
-use Rattle.std.proofs.lemmas.Bool.{lt-ltb, le-ltb, leb-true, false≢true}
+use Rattle.std.specs.Prelude.{ℕ, ◌≡◌, refl, ◌≤◌, Bool, true, false, not, List, [], ◌∷◌, codes, Option, Some, None, if◌then◌else◌, ◌||◌}
+use Rattle.std.proofs.Common.{◌∙◌, ap, sym, subst, arith}
+use Rattle.std.proofs.lemmas.Bool.{false≢true}
 use Rattle.mini_model.specs.declared.kind.VariableDeclarationKind.TheVariants.{Var, Let, Const}
 use Rattle.mini_model.specs.declared.operator.AssignmentOperator.TheVariants.{Assign}
-use Rattle.mini_model.specs.declared.operator.BinaryOperator.TheVariants as binary
 use Rattle.mini_model.specs.Weight.{same_text}
 use Rattle.mini_model.specs.declared.operator.UnaryOperator.TheVariants as unary
 use Rattle.mini_model.specs.declared.operator.UpdateOperator.TheVariants.{Increment, Decrement}
-use Rattle.mini_model.specs.declared.shape.Shape.TheVariants as shape
-use Rattle.mini_model.specs.Tree.{Tree, Trees, node, none, ◌▸◌, listed, absent}
-use Rattle.mini_print.specs.Token.{Token, Word, Punct, Punctuator, Comma, Semicolon, RightParen, RightBracket, RightBrace, Arrow as ArrowToken, LeftBrace, Times, Dot, Colon, LeftParen, Quoted, Number, OptionalDot, TemplateWhole, TemplateHead, TemplateMiddle, TemplateTail, LeftBracket, Private, Assigns, Ellipsis}
-use Rattle.mini_print.specs.Grammar.{Block as BlockRule, Goal, Anything, WithoutIn, Callee, AfterDot, Binding, Statement, Declared, Property, Body, Element, SpreadItem, ArrowBlock, FunctionBody, NoBrace, permits, is_left_brace, Binary, Sort, Values, Names, Bindings, Statements, Declarators, Properties, Bodies, sort, heir, Place, place, whole, Rule, Parenthesized, Arrow, Prefix, Unary, Variables, Least, Zero, One, Two, Gaps, silent_tree, Opener, Equals, Else, opener, opens, Part, token, left, part, commas, lookahead, form, level, is_of, excluded, built_before, NewTarget, Yield, YieldFrom, GeneratorExpression, GeneratorDeclaration, CatchParam, CatchBare, Cases, Catches, BlockParts, CaseItem, Catching, BlockOnly, LabelName, CaseEnd, Catch, Finally, ends_clause, is_allowed, same_sort, rule_sort, New, FunctionExpression, FunctionDeclaration, CatchParam, perhaps, option, statements, unwritten, BoundKeyValue, BoundShorthand, Shorthand, BoundProperties, Bound, Parameter, BoundProperty, KeyValue, has, ends_property, is_colon_next, ForIn, ForOf, ForDeclared, ForDeclaredIn, ForDeclaredOf, HeadVariables, HeadDeclarations, HeadDeclaration, HeadDeclared, fork, HeadEnd, For, ends_head, is_word_of, MethodProperty, Getter, Setter, GeneratorProperty, MethodFunction, GeneratorMethod, Methods, GeneratorMethods, MethodValue, GeneratorValue, Key, KeyWord, KeyText, KeyNumber, KeyNames, KeyName, WholeTemplate, Template, MiddlePiece, TailPiece, TaggedTemplate, TagWhole, TagParts, Chain, FirstMember, FirstIndex, FirstCall, LinkMember, LinkIndex, LinkCall, OptionalMember, OptionalIndex, OptionalCall, TemplateRest, TagTemplate, FirstLink, Link, TemplateRests, TagTemplates, FirstLinks, Links, Defaulted, BoundDefault, NamedDefault, ComputedMethod, ComputedGetter, ComputedSetter, ComputedGenerator, BoundElement, DefaultOf, BoundElements, DefaultsOf, Lookahead, Computed, Rest, same_flag, ClassPlain, ClassNamed, ClassDeclared, ClassBody, ClassMethod, ClassComputedMethod, ClassGenerator, ClassComputedGenerator, ClassGetter, ClassComputedGetter, ClassSetter, ClassComputedSetter, Field, ComputedField, StaticElement, StaticInit, PrivateKey, ClassBraces, ClassElement, PlainElement, ClassKey, ClassBodies, ClassElements, Extends, Leading, Leadings, Directive, starts_directive, NoDirective, ArrayTarget, ObjectTarget, PatternItem, ValueItem, PatternRest, ValueRest, TargetShorthand, TargetDefault, TargetKeyValue, TargetComputed, TargetPropertyRest, PatternAssignment, TargetPattern, Target, TargetElement, TargetProperty, Patterns, TargetElements, TargetProperties, Object, Array}
-use Rattle.mini_print.specs.Grammar as look
-use Rattle.mini_print.specs.Groups.{goal_of, one_is_enough, none_is_enough, behind_comma, Groups, by_rule, Row, end, a_token, a_left, a_part, a_list, a_lookahead, present, missing, with, without, a_block, a_silent, Statements as StatementList, no_more, more, Items, nothing, last, next, gap, a_fork, GroupsProgram, program}
+use Rattle.mini_model.specs.Tree.{Tree, Trees}
+use Rattle.mini_print.specs.Token.{Token, Word, Punct, Comma, Semicolon, RightParen, RightBracket, RightBrace, Arrow as ArrowToken, LeftBrace, Times, Dot, Colon, LeftParen, Quoted, Number, OptionalDot, LeftBracket, Private, Assigns, Ellipsis}
+use Rattle.mini_print.specs.Grammar.{Goal, Anything, WithoutIn, Callee, Body, Element, ArrowBlock, FunctionBody, NoBrace, permits, is_left_brace, Sort, Values, Names, Bindings, Statements, Declarators, Properties, Bodies, sort, heir, Place, Rule, Parenthesized, Arrow, Prefix, Unary, Variables, Least, Zero, One, Two, Gaps, Equals, Part, token, left, part, commas, lookahead, form, level, is_of, excluded, NewTarget, Yield, YieldFrom, GeneratorExpression, GeneratorDeclaration, CatchParam, CatchBare, Cases, Catches, BlockParts, is_allowed, same_sort, rule_sort, New, FunctionExpression, FunctionDeclaration, CatchParam, perhaps, option, statements, unwritten, BoundKeyValue, BoundShorthand, Shorthand, BoundProperties, KeyValue, has, ends_property, is_colon_next, ForIn, ForOf, ForDeclared, ForDeclaredIn, ForDeclaredOf, HeadVariables, HeadDeclarations, fork, For, is_word_of, MethodProperty, Getter, Setter, GeneratorProperty, MethodFunction, GeneratorMethod, Methods, GeneratorMethods, Key, KeyWord, KeyText, KeyNumber, KeyNames, KeyName, Chain, FirstMember, FirstCall, LinkCall, OptionalMember, Link, TemplateRests, TagTemplates, FirstLinks, Links, Defaulted, BoundDefault, ComputedMethod, ComputedGenerator, BoundElements, DefaultsOf, Computed, Rest, ClassPlain, ClassMethod, ClassComputedMethod, ClassGenerator, ClassComputedGenerator, ClassGetter, ClassComputedGetter, ClassSetter, ClassComputedSetter, Field, ComputedField, StaticElement, StaticInit, PrivateKey, ClassKey, ClassBodies, ClassElements, Leadings, ArrayTarget, ObjectTarget, PatternItem, ValueItem, PatternRest, ValueRest, TargetShorthand, TargetDefault, TargetKeyValue, PatternAssignment, TargetPattern, Target, Patterns, TargetElements, TargetProperties, Object, Array}
+use Rattle.mini_print.specs.Groups.{Groups, by_rule, Row, end, a_token, a_left, a_part, a_list, a_lookahead, present, missing, with, without, a_silent, a_fork}
 use Rattle.mini_print.specs.Printed.{is_statements}
-use Rattle.mini_print.proofs.Reader.{start_at, arrow_rule, is_brace_next, prefix, infix_punct, infix_rule, binding, bound_by, bound_in, strength, is_weak, power, next_power, goes_on, is_closing, closes, stops, ends, is_comma, is_comma_next, is_sequence, is_left_paren, is_arrow_next, Bracket, Opens, Closes, Neither, bracket, behind_bracket, onto, tail, Frame, waits, lists, gathers, State, expects, going, holds, picks, pick, is_separator, separates, begin, taken, after_item, after_statement, hold, begin_perhaps, begin_option, Reaches, now, and_then, joined, meet, bars, is_star_next, is_dot_next, is_paren_next, statement_at, is_right_brace, ends_at, property_at, bound_at, declares, end_words, behind_fork, is_word_next, accessor, first_link, optional_link, link_at, is_dots_next, is_equals_next, is_bracket_next, computed_accessor, is_name_end, class_rule, keyed_member, worded_member, member_at, opens_bracket, start_with, rest_element, element_at, target_property_at}
-use Rattle.mini_print.proofs.Told.{is_values, inner, inner_above, inner_grows, Led, ToldBy, Told, told, ToldByTwo, is_special, ToldUnless, is_forked, same_is, both, untrue, defaults_are}
-use Rattle.mini_print.proofs.Tidy.{Stops, Closed, Stopped, Ended, Block, Tidy, TidyBehind, tidy, Starting, starts_clause, brace_separates, starts_rest, starts_template, starts_link, is_name_next, is_chain, link_block, named_separates, StopsBefore, StopsLook, is_key_next, key_separates, opens_next, StopsOption}
-use Rattle.mini_print.proofs.Table.{is_small, small, Opening, opening, Balanced, balanced, bars_separate, Forks, forks, opens_separates, is_no_value, TargetOpening, target_opening}
-use Rattle.mini_print.proofs.Powers.{apart, IsTwo, first_open, first_row, first_item, target_open, target_row, target_item, bound_in_le, power_le, weak, heir_power, is_spread, no_spread_punct, no_spread, element_bound, value_power, power_is, goes, rests, rest_power, brace_power, stops_before, ended_power, target_power, look_stops, option_with, option_without, behind, template_led, template_power, goes_led, led_power, led_facts, closing_is_no_comma, Closing, head_rests, closed, stopped, clause_ends, brace_ends, ends_brace, ended, moved, opened, behind_commas, closing_now, separator_closes, separates_not, weak_is_no_comma, declares_separates, paren_separates, clause_separates, rest_separates, template_separates, link_separates, equals_separates, directive_separates, listed_start, perhaps_start, deep, token_neutral, opener_neutral, neutral, neutral_row, neutral_items, neutral_statements}
+use Rattle.mini_print.proofs.Reader.{start_at, arrow_rule, is_brace_next, prefix, power, next_power, ends, is_left_paren, is_arrow_next, behind_bracket, tail, bars, is_star_next, is_dot_next, is_paren_next, statement_at, property_at, bound_at, declares, end_words, is_word_next, accessor, first_link, optional_link, link_at, is_equals_next, is_bracket_next, computed_accessor, is_name_end, class_rule, keyed_member, worded_member, member_at, rest_element, element_at, target_property_at}
+use Rattle.mini_print.proofs.Told.{is_values, inner, ToldBy, Told, told, ToldByTwo, is_special, ToldUnless, is_forked, both, untrue, defaults_are}
+use Rattle.mini_print.proofs.Tidy.{Tidy, TidyBehind, Starting, is_name_next, is_key_next, opens_next}
+use Rattle.mini_print.proofs.Table.{is_no_value}
+use Rattle.mini_print.proofs.Powers.{first_open, target_open, neutral, neutral_items}
 
 -- ---- what begins a production
 
@@ -482,6 +479,7 @@ pub static_begins : {g : Goal} {ks : Trees} {ts r : List Token} → Row g (form 
 static_begins (a_token _ _ _ _ _ _ (a_part _ _ _ _ _ k _ ts _ _ c d)) =
     let f = first_open c in
     ap (λ b. Some (if b then keyed_member ts else worded_member (codes "static") ts)) f.1 ∙ ap (λ b. Some (if b then StaticInit else StaticElement)) f.2
+
 -- arrays and objects, and the patterns that are assigned to
 pub no_assignment : (g : Goal) (r : List Token) → is_values (sort g) ≡ true → excluded g Array ≡ false → next_power g r ≤ 18 → is_equals_next r ≡ false
 no_assignment g [] e x q = refl

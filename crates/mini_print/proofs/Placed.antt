@@ -1,33 +1,15 @@
 -- A production in its place, in parentheses or not, and goals that one thing serves.
-use Rattle.std.specs.Prelude.{ℕ, zero, suc, ◌≡◌, refl, ◌≤◌, nat_le, Bool, true, false, ◌&&◌, ◌||◌, not, List, [], ◌∷◌, pos, negsuc, Option, Some, None, if◌then◌else◌, codes}
+use Rattle.std.specs.Prelude.{ℕ, ◌≡◌, refl, ◌≤◌, nat_le, Bool, true, false, ◌&&◌, List, ◌∷◌}
 use Rattle.std.proofs.Common.{◌∙◌, ap, sym, subst, arith, ◌⊎◌, inl, inr}
-use Rattle.std.proofs.lemmas.Bool.{false≢true, leb-true, le-leb}
-use Rattle.mini_model.specs.declared.name.Name.{Name}
+use Rattle.std.proofs.lemmas.Bool.{false≢true, leb-true}
 use Rattle.mini_model.specs.declared.seat.Mix.{Mix}
 use Rattle.mini_model.specs.declared.seat.Mix.TheVariants as mix
-use Rattle.mini_model.specs.declared.operator.AssignmentOperator.TheVariants.{Assign}
-use Rattle.mini_model.specs.declared.operator.LogicalOperator.TheVariants.{Or, And, Coalesce}
-use Rattle.mini_model.specs.declared.kind.PropertyKind.TheVariants as kind
-use Rattle.mini_model.specs.declared.kind.MethodDefinitionKind.{MethodDefinitionKind}
-use Rattle.mini_model.specs.declared.kind.MethodDefinitionKind.TheVariants as method
-use Rattle.mini_model.specs.declared.shape.Shape.{Shape}
-use Rattle.mini_model.specs.declared.shape.Shape.TheVariants as shape
-use Rattle.mini_model.specs.declared.operator.UnaryOperator.TheVariants.{UnaryNegation}
-use Rattle.mini_print.proofs.Stated.{list_not_else}
-use Rattle.mini_print.proofs.Told.{is_values, operator, same_is, both, untrue, defaults_are, flag_is}
-use Rattle.mini_print.proofs.Tidy.{Starting, starts_clause, starts_link}
-use Rattle.mini_print.proofs.Reader.{is_right_brace, ends, is_brace_next}
-use Rattle.mini_print.proofs.Powers.{first_open}
-use Rattle.mini_print.proofs.Complete.{statement_ends}
-use Rattle.mini_model.specs.Weight.{same_text}
-use Rattle.mini_model.specs.Templates.{cooked}
-use Rattle.mini_model.specs.declared.kind.MetaPropertyKind.TheVariants as meta
-use Rattle.mini_model.specs.Tree.{Tree, Trees, node, none, ◌▸◌, count, listed, leaf, absent, unresolved, identifier}
-use Rattle.mini_model.specs.Position.{assignment_level, primary_level}
-use Rattle.mini_print.specs.Token.{Token, Punct, LeftParen, RightParen, RightBrace, Comma, Word, Semicolon, RightBracket, Quoted}
-use Rattle.mini_print.specs.Grammar.{Sort, Values, Names, Bindings, Statements, Declarators, sort, is_of, rule_sort, same_sort, is_allowed, excluded, WithoutIn, Callee, Statement, Declared, Arrow, BindingName, left, lookahead, perhaps, option, statements, permits, Lookahead, NoStatement, NoBrace, Goal, Anything, Place, place, whole, Rule, Reference, NumberLiteral, BigIntLiteral, TextLiteral, RegExpLiteral, Null, This, True, False, Parenthesized, Array, Member, Index, New, Import, Call, PropertyName, Postfix, Prefix, Unary, Binary, Logical, Conditional, Assignment, Sequence, Least, Zero, One, Two, Gaps, Silent, Nothing, NameOf, BindingOf, silent_tree, unwritten, Part, token, part, commas, form, level, has, mixes, built, built_before, opens, is_opener, Else, Equals, Block, Variables, Declarator, Empty, ExpressionStatement, If, DoWhile, While, For, Return, Throw, Debugger, Object, KeyValue, Computed, Spread, FunctionExpression, FunctionDeclaration, FunctionBody, SpreadItem, ArrowBlock, Element, Break, Continue, Property, Properties, Bodies, Key, Fits, SuperMember, SuperIndex, SuperCall, NewTarget, ImportMeta, PrivateName, PrivateIn, Yield, YieldFrom, GeneratorExpression, GeneratorDeclaration, Label, Switch, Case, DefaultCase, Try, CatchParam, CatchBare, BlockPart, Cases, Catches, BlockParts, BlockOnly, CaseEnd, Catch, Finally, ends_clause, PrivateOf, SuperHere, has_private, member_shape, Opener, opener, ObjectPattern, ArrayPattern, Rest, BoundKeyValue, BoundComputed, BoundShorthand, BoundRest, Shorthand, BoundProperties, BoundProperty, Ended, ReferenceOf, ends_property, ends_property_at, ForIn, ForOf, ForDeclared, ForDeclaredIn, ForDeclaredOf, HeadVariables, HeadDeclarations, HeadDeclaration, HeadDeclared, fork, HeadEnd, NotAsync, ends_head, ends_head_at, MethodProperty, Getter, Setter, GeneratorProperty, MethodFunction, GeneratorMethod, Methods, GeneratorMethods, MethodValue, GeneratorValue, KeyWord, KeyText, KeyNumber, KeyNames, KeyName, WholeTemplate, Template, MiddlePiece, TailPiece, TaggedTemplate, TagWhole, TagParts, Chain, FirstMember, FirstIndex, FirstCall, LinkMember, LinkIndex, LinkCall, OptionalMember, OptionalIndex, OptionalCall, TemplateRest, TagTemplate, FirstLink, Link, TemplateRests, TagTemplates, FirstLinks, Links, PieceOf, Defaulted, BoundDefault, NamedDefault, ComputedMethod, ComputedGetter, ComputedSetter, ComputedGenerator, BoundElement, DefaultOf, BoundElements, DefaultsOf, Bound, Parameter, same_flag, ClassPlain, ClassNamed, ClassDeclared, ClassBody, ClassMethod, ClassComputedMethod, ClassGenerator, ClassComputedGenerator, ClassGetter, ClassComputedGetter, ClassSetter, ClassComputedSetter, Field, ComputedField, StaticElement, StaticInit, PrivateKey, ClassBraces, ClassElement, PlainElement, ClassKey, ClassBodies, ClassElements, Extends, static_shape, first_shape, constructor_shape, method_kind, Leading, Leadings, Directive, starts_directive, NoDirective, ArrayTarget, ObjectTarget, PatternItem, ValueItem, PatternRest, ValueRest, TargetShorthand, TargetDefault, TargetKeyValue, TargetComputed, TargetPropertyRest, PatternAssignment, TargetPattern, Target, TargetElement, TargetProperty, Patterns, TargetElements, TargetProperties}
-use Rattle.mini_print.specs.Groups.{goal_of, a_left, a_lookahead, Groups, by_rule, Row, end, a_token, a_part, a_list, a_block, a_silent as a_silent_row, gap, has_gaps, none_is_enough, one_is_enough, behind_comma, present, missing, with, without, Items, nothing, last, next, Statements as StatementList, no_more, more, a_fork, GroupsProgram, program}
-use Rattle.mini_print.specs.Printed.{is_statements, else_behind, is_block, is_block_of, finished, settled, settled_parts, all_settled, braced, printed_statement, are_printable, is_positive_literal, rule_at, has_body, arrow_of, number_printer, Printer, lay, lay_items, lay_block, is_fit, parenthesized, by_production, parts_of, printer, printers, printed, bare_names, bare, enclosed, a_part as a_part_of, a_list as a_list_of, a_perhaps, sort_of, wants, wants_of, is_wanted, Want, a_block as a_block_of, a_silent, is_gap, is_silent, wanted_goal, plain, turned, turned_of, rule_in, ends_open, open_form, has_enough, is_sound, is_printable, fill, case_of, catch_of, first_is_absent, for_of, for_in_of, for_of_of, declares_first, method_of, second_generates, shown, all_shown, printed_list, expression_is_printable, statement_is_printable, list_is_printable, same_cooked, template_of, is_one, first_raw, core, has_core, seat, seated, stands, second_is_absent, bound_of, computed_method_of, has_default, first_spelling, class_of, class_method_of, class_computed_of, same_member, same_kind, undirected, printed_program, program_is_printable, bare_program, is_module_of, directives, Taker, ABinding, APattern, AValue, taker, element_of, rest_of, assignment_of, target_of, takes_values, value_seat, holds_head_in, holds_in}
+use Rattle.mini_print.proofs.Told.{is_values, both, defaults_are}
+use Rattle.mini_model.specs.Tree.{Tree, Trees, none, ◌▸◌}
+use Rattle.mini_print.specs.Token.{Token, Punct, LeftParen, RightParen}
+use Rattle.mini_print.specs.Grammar.{Sort, Values, Names, Bindings, Statements, Declarators, sort, is_of, rule_sort, same_sort, is_allowed, WithoutIn, Callee, Goal, Anything, Place, place, Rule, Parenthesized, Array, Import, Call, Binary, Logical, Assignment, Sequence, form, level, has, mixes, built, built_before, opens, Else, Block, Object, Spread, SpreadItem, Element, Properties, Bodies, Fits, SuperCall, PrivateIn, Cases, Catches, BlockParts, BoundProperties, HeadDeclarations, Methods, GeneratorMethods, KeyNames, Chain, TemplateRests, TagTemplates, FirstLinks, Links, BoundElements, DefaultsOf, ClassBodies, ClassElements, Leadings, PatternAssignment, Target, Patterns, TargetElements, TargetProperties}
+use Rattle.mini_print.specs.Groups.{Groups, by_rule, Row, end, a_token, a_part}
+use Rattle.mini_print.specs.Printed.{is_block, is_fit, parenthesized, plain, turned}
 
 -- ---- a production in its place, with parentheses where it doesn't fit
 

@@ -1,24 +1,20 @@
 -- What a tree begins with, what goes on it, and that its brackets match.
-use Rattle.std.specs.Prelude.{ℕ, zero, suc, ◌≡◌, refl, ◌≤◌, ◌<◌, nat_le, Bool, true, false, not, List, [], ◌∷◌, codes, Option, Some, None, if◌then◌else◌, ◌||◌}
+use Rattle.std.specs.Prelude.{ℕ, zero, suc, ◌≡◌, refl, ◌≤◌, ◌<◌, Bool, true, false, not, List, [], ◌∷◌, codes, Option, Some, None, if◌then◌else◌, ◌||◌}
 use Rattle.std.proofs.Common.{◌∙◌, ap, sym, subst, arith, ◌⊎◌, inl, inr}
-use Rattle.std.proofs.lemmas.Bool.{lt-ltb, le-ltb, leb-true, false≢true}
-use Rattle.mini_model.specs.declared.kind.VariableDeclarationKind.TheVariants.{Var, Let, Const}
+use Rattle.std.proofs.lemmas.Bool.{lt-ltb, le-ltb, false≢true}
 use Rattle.mini_model.specs.declared.operator.AssignmentOperator.TheVariants.{Assign}
 use Rattle.mini_model.specs.declared.operator.BinaryOperator.TheVariants as binary
 use Rattle.mini_model.specs.Weight.{same_text}
-use Rattle.mini_model.specs.declared.operator.UnaryOperator.TheVariants as unary
-use Rattle.mini_model.specs.declared.operator.UpdateOperator.TheVariants.{Increment, Decrement}
-use Rattle.mini_model.specs.declared.shape.Shape.TheVariants as shape
-use Rattle.mini_model.specs.Tree.{Tree, Trees, node, none, ◌▸◌, listed, absent}
-use Rattle.mini_print.specs.Token.{Token, Word, Punct, Punctuator, Comma, Semicolon, RightParen, RightBracket, RightBrace, Arrow as ArrowToken, LeftBrace, Times, Dot, Colon, LeftParen, Quoted, Number, OptionalDot, TemplateWhole, TemplateHead, TemplateMiddle, TemplateTail, LeftBracket, Private, Assigns, Ellipsis}
+use Rattle.mini_model.specs.Tree.{Tree, Trees}
+use Rattle.mini_print.specs.Token.{Token, Word, Punct, Punctuator, Comma, Semicolon, RightParen, RightBracket, RightBrace, LeftBrace, Dot, LeftParen, Quoted, OptionalDot, TemplateWhole, TemplateHead, TemplateMiddle, TemplateTail, LeftBracket, Assigns}
 use Rattle.mini_print.specs.Grammar.{Block as BlockRule, Goal, Anything, WithoutIn, Callee, AfterDot, Binding, Statement, Declared, Property, Body, Element, SpreadItem, ArrowBlock, FunctionBody, NoBrace, permits, is_left_brace, Binary, Sort, Values, Names, Bindings, Statements, Declarators, Properties, Bodies, sort, heir, Place, place, whole, Rule, Parenthesized, Arrow, Prefix, Unary, Variables, Least, Zero, One, Two, Gaps, silent_tree, Opener, Equals, Else, opener, opens, Part, token, left, part, commas, lookahead, form, level, is_of, excluded, built_before, NewTarget, Yield, YieldFrom, GeneratorExpression, GeneratorDeclaration, CatchParam, CatchBare, Cases, Catches, BlockParts, CaseItem, Catching, BlockOnly, LabelName, CaseEnd, Catch, Finally, ends_clause, is_allowed, same_sort, rule_sort, New, FunctionExpression, FunctionDeclaration, CatchParam, perhaps, option, statements, unwritten, BoundKeyValue, BoundShorthand, Shorthand, BoundProperties, Bound, Parameter, BoundProperty, KeyValue, has, ends_property, is_colon_next, ForIn, ForOf, ForDeclared, ForDeclaredIn, ForDeclaredOf, HeadVariables, HeadDeclarations, HeadDeclaration, HeadDeclared, fork, HeadEnd, For, ends_head, is_word_of, MethodProperty, Getter, Setter, GeneratorProperty, MethodFunction, GeneratorMethod, Methods, GeneratorMethods, MethodValue, GeneratorValue, Key, KeyWord, KeyText, KeyNumber, KeyNames, KeyName, WholeTemplate, Template, MiddlePiece, TailPiece, TaggedTemplate, TagWhole, TagParts, Chain, FirstMember, FirstIndex, FirstCall, LinkMember, LinkIndex, LinkCall, OptionalMember, OptionalIndex, OptionalCall, TemplateRest, TagTemplate, FirstLink, Link, TemplateRests, TagTemplates, FirstLinks, Links, Defaulted, BoundDefault, NamedDefault, ComputedMethod, ComputedGetter, ComputedSetter, ComputedGenerator, BoundElement, DefaultOf, BoundElements, DefaultsOf, Lookahead, Computed, Rest, same_flag, ClassPlain, ClassNamed, ClassDeclared, ClassBody, ClassMethod, ClassComputedMethod, ClassGenerator, ClassComputedGenerator, ClassGetter, ClassComputedGetter, ClassSetter, ClassComputedSetter, Field, ComputedField, StaticElement, StaticInit, PrivateKey, ClassBraces, ClassElement, PlainElement, ClassKey, ClassBodies, ClassElements, Extends, Leading, Leadings, Directive, starts_directive, NoDirective, ArrayTarget, ObjectTarget, PatternItem, ValueItem, PatternRest, ValueRest, TargetShorthand, TargetDefault, TargetKeyValue, TargetComputed, TargetPropertyRest, PatternAssignment, TargetPattern, Target, TargetElement, TargetProperty, Patterns, TargetElements, TargetProperties, Object, Array}
 use Rattle.mini_print.specs.Grammar as look
-use Rattle.mini_print.specs.Groups.{goal_of, one_is_enough, none_is_enough, behind_comma, Groups, by_rule, Row, end, a_token, a_left, a_part, a_list, a_lookahead, present, missing, with, without, a_block, a_silent, Statements as StatementList, no_more, more, Items, nothing, last, next, gap, a_fork, GroupsProgram, program}
+use Rattle.mini_print.specs.Groups.{goal_of, none_is_enough, behind_comma, Groups, by_rule, Row, end, a_token, a_left, a_part, a_list, a_lookahead, present, missing, with, without, a_block, a_silent, Statements as StatementList, no_more, more, Items, nothing, last, next, gap, a_fork}
 use Rattle.mini_print.specs.Printed.{is_statements}
-use Rattle.mini_print.proofs.Reader.{start_at, arrow_rule, is_brace_next, prefix, infix_punct, infix_rule, binding, bound_by, bound_in, strength, is_weak, power, next_power, goes_on, is_closing, closes, stops, ends, is_comma, is_comma_next, is_sequence, is_left_paren, is_arrow_next, Bracket, Opens, Closes, Neither, bracket, behind_bracket, onto, tail, Frame, waits, lists, gathers, State, expects, going, holds, picks, pick, is_separator, separates, begin, taken, after_item, after_statement, hold, begin_perhaps, begin_option, Reaches, now, and_then, joined, meet, bars, is_star_next, is_dot_next, is_paren_next, statement_at, is_right_brace, ends_at, property_at, bound_at, declares, end_words, behind_fork, is_word_next, accessor, first_link, optional_link, link_at, is_dots_next, is_equals_next, is_bracket_next, computed_accessor, is_name_end, class_rule, keyed_member, worded_member, member_at, opens_bracket, start_with, rest_element, element_at, target_property_at}
-use Rattle.mini_print.proofs.Told.{is_values, inner, inner_above, inner_grows, Led, ToldBy, Told, told, ToldByTwo, is_special, ToldUnless, is_forked, same_is, both, untrue, defaults_are}
-use Rattle.mini_print.proofs.Tidy.{Stops, Closed, Stopped, Ended, Block, Tidy, TidyBehind, tidy, Starting, starts_clause, brace_separates, starts_rest, starts_template, starts_link, is_name_next, is_chain, link_block, named_separates, StopsBefore, StopsLook, is_key_next, key_separates, opens_next, StopsOption}
-use Rattle.mini_print.proofs.Table.{is_small, small, Opening, opening, Balanced, balanced, bars_separate, Forks, forks, opens_separates, is_no_value, TargetOpening, target_opening}
+use Rattle.mini_print.proofs.Reader.{is_brace_next, infix_punct, infix_rule, binding, bound_by, bound_in, strength, is_weak, power, next_power, goes_on, is_closing, closes, stops, ends, is_comma, is_comma_next, is_sequence, Bracket, Opens, Closes, Neither, bracket, behind_bracket, State, is_separator, separates, Reaches, is_paren_next, is_right_brace, ends_at, declares, is_equals_next}
+use Rattle.mini_print.proofs.Told.{is_values, inner, Led, same_is, both}
+use Rattle.mini_print.proofs.Tidy.{Stops, Closed, Stopped, Ended, Starting, starts_clause, brace_separates, starts_rest, starts_template, starts_link, named_separates, StopsBefore, StopsLook, key_separates, StopsOption}
+use Rattle.mini_print.proofs.Table.{Opening, opening, Balanced, balanced, bars_separate, opens_separates, is_no_value, TargetOpening, target_opening}
 
 pub apart : {A : Type 0} {b : Bool} → b ≡ true → b ≡ false → A
 apart e f = absurd (false≢true (sym f ∙ e))
@@ -88,6 +84,7 @@ mutual
   target_item (gap g One is m r u d) q e = absurd e
   target_item (gap g Two is m r u d) q e = absurd (false≢true u)
   target_item (gap g Gaps is m r u d) q e = absurd e
+
 -- ---- powers
 
 pub bound_in_le : (g : Goal) (h : Option Rule) → bound_in g h ≤ bound_by h

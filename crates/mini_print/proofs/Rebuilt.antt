@@ -1,36 +1,21 @@
 -- The production of a node, over the node's parts, is the node.
-use Rattle.std.specs.Prelude.{ℕ, zero, suc, ◌≡◌, refl, ◌≤◌, nat_le, Bool, true, false, ◌&&◌, ◌||◌, not, List, [], ◌∷◌, pos, negsuc, Option, Some, None, if◌then◌else◌, codes}
-use Rattle.std.proofs.Common.{◌∙◌, ap, sym, subst, arith, ◌⊎◌, inl, inr}
-use Rattle.std.proofs.lemmas.Bool.{false≢true, leb-true, le-leb}
+use Rattle.std.specs.Prelude.{ℕ, zero, suc, ◌≡◌, refl, Bool, true, false, ◌&&◌, not, List, [], ◌∷◌, pos, negsuc, Option, Some, None}
+use Rattle.std.proofs.Common.{◌∙◌, ap, sym, subst}
+use Rattle.std.proofs.lemmas.Bool.{false≢true}
 use Rattle.mini_model.specs.declared.name.Name.{Name}
-use Rattle.mini_model.specs.declared.seat.Mix.{Mix}
-use Rattle.mini_model.specs.declared.seat.Mix.TheVariants as mix
 use Rattle.mini_model.specs.declared.operator.AssignmentOperator.TheVariants.{Assign}
-use Rattle.mini_model.specs.declared.operator.LogicalOperator.TheVariants.{Or, And, Coalesce}
 use Rattle.mini_model.specs.declared.kind.PropertyKind.TheVariants as kind
 use Rattle.mini_model.specs.declared.kind.MethodDefinitionKind.{MethodDefinitionKind}
 use Rattle.mini_model.specs.declared.kind.MethodDefinitionKind.TheVariants as method
 use Rattle.mini_model.specs.declared.shape.Shape.{Shape}
 use Rattle.mini_model.specs.declared.shape.Shape.TheVariants as shape
 use Rattle.mini_model.specs.declared.operator.UnaryOperator.TheVariants.{UnaryNegation}
-use Rattle.mini_print.proofs.Stated.{list_not_else}
-use Rattle.mini_print.proofs.Told.{is_values, operator, same_is, both, untrue, defaults_are, flag_is}
-use Rattle.mini_print.proofs.Tidy.{Starting, starts_clause, starts_link}
-use Rattle.mini_print.proofs.Reader.{is_right_brace, ends, is_brace_next}
-use Rattle.mini_print.proofs.Powers.{first_open}
-use Rattle.mini_print.proofs.Complete.{statement_ends}
-use Rattle.mini_model.specs.Weight.{same_text}
+use Rattle.mini_print.proofs.Told.{same_is, both, untrue, flag_is}
 use Rattle.mini_model.specs.Templates.{cooked}
 use Rattle.mini_model.specs.declared.kind.MetaPropertyKind.TheVariants as meta
-use Rattle.mini_model.specs.Tree.{Tree, Trees, node, none, ◌▸◌, count, listed, leaf, absent, unresolved, identifier}
-use Rattle.mini_model.specs.Position.{assignment_level, primary_level}
-use Rattle.mini_print.specs.Token.{Token, Punct, LeftParen, RightParen, RightBrace, Comma, Word, Semicolon, RightBracket, Quoted}
-use Rattle.mini_print.specs.Grammar.{Sort, Values, Names, Bindings, Statements, Declarators, sort, is_of, rule_sort, same_sort, is_allowed, excluded, WithoutIn, Callee, Statement, Declared, Arrow, BindingName, left, lookahead, perhaps, option, statements, permits, Lookahead, NoStatement, NoBrace, Goal, Anything, Place, place, whole, Rule, Reference, NumberLiteral, BigIntLiteral, TextLiteral, RegExpLiteral, Null, This, True, False, Parenthesized, Array, Member, Index, New, Import, Call, PropertyName, Postfix, Prefix, Unary, Binary, Logical, Conditional, Assignment, Sequence, Least, Zero, One, Two, Gaps, Silent, Nothing, NameOf, BindingOf, silent_tree, unwritten, Part, token, part, commas, form, level, has, mixes, built, built_before, opens, is_opener, Else, Equals, Block, Variables, Declarator, Empty, ExpressionStatement, If, DoWhile, While, For, Return, Throw, Debugger, Object, KeyValue, Computed, Spread, FunctionExpression, FunctionDeclaration, FunctionBody, SpreadItem, ArrowBlock, Element, Break, Continue, Property, Properties, Bodies, Key, Fits, SuperMember, SuperIndex, SuperCall, NewTarget, ImportMeta, PrivateName, PrivateIn, Yield, YieldFrom, GeneratorExpression, GeneratorDeclaration, Label, Switch, Case, DefaultCase, Try, CatchParam, CatchBare, BlockPart, Cases, Catches, BlockParts, BlockOnly, CaseEnd, Catch, Finally, ends_clause, PrivateOf, SuperHere, has_private, member_shape, Opener, opener, ObjectPattern, ArrayPattern, Rest, BoundKeyValue, BoundComputed, BoundShorthand, BoundRest, Shorthand, BoundProperties, BoundProperty, Ended, ReferenceOf, ends_property, ends_property_at, ForIn, ForOf, ForDeclared, ForDeclaredIn, ForDeclaredOf, HeadVariables, HeadDeclarations, HeadDeclaration, HeadDeclared, fork, HeadEnd, NotAsync, ends_head, ends_head_at, MethodProperty, Getter, Setter, GeneratorProperty, MethodFunction, GeneratorMethod, Methods, GeneratorMethods, MethodValue, GeneratorValue, KeyWord, KeyText, KeyNumber, KeyNames, KeyName, WholeTemplate, Template, MiddlePiece, TailPiece, TaggedTemplate, TagWhole, TagParts, Chain, FirstMember, FirstIndex, FirstCall, LinkMember, LinkIndex, LinkCall, OptionalMember, OptionalIndex, OptionalCall, TemplateRest, TagTemplate, FirstLink, Link, TemplateRests, TagTemplates, FirstLinks, Links, PieceOf, Defaulted, BoundDefault, NamedDefault, ComputedMethod, ComputedGetter, ComputedSetter, ComputedGenerator, BoundElement, DefaultOf, BoundElements, DefaultsOf, Bound, Parameter, same_flag, ClassPlain, ClassNamed, ClassDeclared, ClassBody, ClassMethod, ClassComputedMethod, ClassGenerator, ClassComputedGenerator, ClassGetter, ClassComputedGetter, ClassSetter, ClassComputedSetter, Field, ComputedField, StaticElement, StaticInit, PrivateKey, ClassBraces, ClassElement, PlainElement, ClassKey, ClassBodies, ClassElements, Extends, static_shape, first_shape, constructor_shape, method_kind, Leading, Leadings, Directive, starts_directive, NoDirective, ArrayTarget, ObjectTarget, PatternItem, ValueItem, PatternRest, ValueRest, TargetShorthand, TargetDefault, TargetKeyValue, TargetComputed, TargetPropertyRest, PatternAssignment, TargetPattern, Target, TargetElement, TargetProperty, Patterns, TargetElements, TargetProperties}
-use Rattle.mini_print.specs.Groups.{goal_of, a_left, a_lookahead, Groups, by_rule, Row, end, a_token, a_part, a_list, a_block, a_silent as a_silent_row, gap, has_gaps, none_is_enough, one_is_enough, behind_comma, present, missing, with, without, Items, nothing, last, next, Statements as StatementList, no_more, more, a_fork, GroupsProgram, program}
-use Rattle.mini_print.specs.Printed.{is_statements, else_behind, is_block, is_block_of, finished, settled, settled_parts, all_settled, braced, printed_statement, are_printable, is_positive_literal, rule_at, has_body, arrow_of, number_printer, Printer, lay, lay_items, lay_block, is_fit, parenthesized, by_production, parts_of, printer, printers, printed, bare_names, bare, enclosed, a_part as a_part_of, a_list as a_list_of, a_perhaps, sort_of, wants, wants_of, is_wanted, Want, a_block as a_block_of, a_silent, is_gap, is_silent, wanted_goal, plain, turned, turned_of, rule_in, ends_open, open_form, has_enough, is_sound, is_printable, fill, case_of, catch_of, first_is_absent, for_of, for_in_of, for_of_of, declares_first, method_of, second_generates, shown, all_shown, printed_list, expression_is_printable, statement_is_printable, list_is_printable, same_cooked, template_of, is_one, first_raw, core, has_core, seat, seated, stands, second_is_absent, bound_of, computed_method_of, has_default, first_spelling, class_of, class_method_of, class_computed_of, same_member, same_kind, undirected, printed_program, program_is_printable, bare_program, is_module_of, directives, Taker, ABinding, APattern, AValue, taker, element_of, rest_of, assignment_of, target_of, takes_values, value_seat, holds_head_in, holds_in}
-use Rattle.mini_print.proofs.Placed.{nat_le_is, fit, has_parentheses, fits_whole, any_before, produced, value_is_no_block, same_sort_is, rule_sort_is, serves_more, Serves, plain_sort, more_sort, serves_sort, more_turned, serves_turned, plain_has, more_has, serves_has, value_serves, limit, one_limit, limited, plain_level, plain_mixes, no_value, fits_plainly, only_bare, in_parentheses, in_place}
-use Rattle.mini_print.proofs.Low.{inherits, Heir, Ready, After, is_block_sort, Tail, IsPart, Seen, stands_in_rows, ShutBefore, Shut, LeftServes, InBlock, Low, value_left, is_if, no_catch, clause_ends, clause_opens, no_equals, low}
-use Rattle.mini_print.proofs.Laid.{flag, Good, AllGood, part_sort, part_goal, ready_comma, rows_no_statements, statements_ready, head_no_equals, ready, brace_ready, brace_no_else, tail_ready, else_after, value_unflagged, at, value_at, is_key, paren_permitted, is_property_name, no_other, begins_with_word, keyed, guarded, part_of, head_at, perhaps_laid, flagged, values_is, option_laid, opener_is, brace_opens, shut_before, part_opens, shut_opens, none_laid, gaps_need_none, gaps_enough, gaps_stay, enough_one, behind_enough, anything_values, text_statement, text_value, text_groups, enclosed_text, same_text_groups, undirect, no_directive, brace_begins_none, laid, part_is_present, gap_is_absent, ItemIs, item_is, no_gap, laid_items, unflagged, no_else_in, list_ready, laid_block}
+use Rattle.mini_model.specs.Tree.{Tree, Trees, node, none, ◌▸◌, leaf, absent}
+use Rattle.mini_print.specs.Grammar.{Rule, Unary, Part, form, built, has_private, member_shape, Defaulted, same_flag, StaticElement, static_shape, first_shape, constructor_shape, method_kind}
+use Rattle.mini_print.specs.Printed.{settled, settled_parts, is_positive_literal, rule_at, has_body, arrow_of, bare_names, wants, open_form, is_sound, case_of, catch_of, first_is_absent, for_of, for_in_of, for_of_of, declares_first, method_of, second_generates, same_cooked, template_of, is_one, first_raw, second_is_absent, bound_of, computed_method_of, has_default, first_spelling, class_of, class_method_of, class_computed_of, same_member, same_kind, Taker, ABinding, APattern, AValue, taker, element_of, rest_of, assignment_of, target_of}
 
 -- ---- the production of a node, over its parts, is the node
 

@@ -1,22 +1,15 @@
 -- Whatever may stand behind a part of a production doesn't go on that part.
-use Rattle.std.specs.Prelude.{ℕ, zero, suc, ◌+◌, ◌≡◌, refl, ◌≤◌, ◌<◌, nat_lt, nat_le, Bool, true, false, not, ◌&&◌, List, [], ◌∷◌, Option, Some, None, if◌then◌else◌, nat_eq, ◌||◌}
-use Rattle.std.proofs.Common.{ap, sym, subst, arith, ◌⊎◌, inl, inr, ◌∙◌}
-use Rattle.std.proofs.lemmas.Bool.{ltb-true, ltb-false, false≢true, le-leb, eqb-true}
-use Rattle.mini_model.specs.declared.kind.VariableDeclarationKind.TheVariants.{Var, Let, Const}
-use Rattle.mini_model.specs.declared.operator.BinaryOperator.{BinaryOperator}
-use Rattle.mini_model.specs.declared.operator.BinaryOperator.TheVariants as binary
+use Rattle.std.specs.Prelude.{ℕ, ◌≡◌, refl, ◌≤◌, Bool, true, false, not, List, [], ◌∷◌, Option, Some, None}
+use Rattle.std.proofs.Common.{ap, sym, arith}
+use Rattle.std.proofs.lemmas.Bool.{false≢true}
 use Rattle.mini_model.specs.declared.operator.LogicalOperator.TheVariants.{Or, And, Coalesce}
-use Rattle.mini_model.specs.declared.operator.UnaryOperator.TheVariants as unary
-use Rattle.mini_model.specs.declared.operator.UpdateOperator.TheVariants.{Increment, Decrement}
-use Rattle.mini_model.specs.Position.{binary_level, left_level, right_level}
-use Rattle.mini_model.specs.Weight.{same_text}
-use Rattle.mini_print.specs.Token.{Token, Word, Punct, RightBrace, Comma, binary_token, Colon, Times, Dot, LeftBrace, OptionalDot, TemplateWhole, TemplateHead, TemplateMiddle, TemplateTail, LeftParen, LeftBracket, Private, Quoted, Number, Ellipsis}
+use Rattle.mini_print.specs.Token.{Token, Word, Punct, RightBrace, LeftBrace, TemplateWhole, TemplateHead, TemplateMiddle, TemplateTail, Private, Quoted, Number}
 use Rattle.mini_print.specs.Grammar.{Goal, Sort, Values, Names, Bindings, Statements, Declarators, Properties, Bodies, sort, Rule, Reference, NumberLiteral, BigIntLiteral, TextLiteral, RegExpLiteral, Null, This, True, False, Parenthesized, Array, Member, Index, New, Import, Call, PropertyName, Postfix, Prefix, Unary, Binary, Logical, Conditional, Assignment, Sequence, Arrow, BindingName, Block as BlockRule, Variables, Declarator, Empty, ExpressionStatement, If, DoWhile, While, For, Return, Throw, Debugger, Object, KeyValue, Computed, Spread, FunctionExpression, FunctionDeclaration, FunctionBody, SpreadItem, ArrowBlock, Break, Continue, Two, NoStatement, permits, begins_statement, Part, token, left, part, commas, lookahead, perhaps, option, statements, unwritten, Statement, form, level, is_reserved, is_of, SuperMember, SuperIndex, SuperCall, NewTarget, ImportMeta, PrivateName, PrivateIn, Yield, YieldFrom, GeneratorExpression, GeneratorDeclaration, Label, Switch, Case, DefaultCase, Try, CatchParam, CatchBare, BlockPart, Cases, Catches, BlockParts, CaseItem, CaseEnd, begins_label, is_colon_next, is_word_of, clause_words, statement_words, ObjectPattern, ArrayPattern, Rest, BoundKeyValue, BoundComputed, BoundShorthand, BoundRest, Shorthand, BoundProperties, ForIn, ForOf, ForDeclared, ForDeclaredIn, ForDeclaredOf, HeadVariables, HeadDeclarations, HeadDeclared, fork, HeadEnd, Least, MethodProperty, Getter, Setter, GeneratorProperty, MethodFunction, GeneratorMethod, Methods, GeneratorMethods, KeyWord, KeyText, KeyNumber, KeyNames, WholeTemplate, Template, MiddlePiece, TailPiece, TaggedTemplate, TagWhole, TagParts, Chain, FirstMember, FirstIndex, FirstCall, LinkMember, LinkIndex, LinkCall, OptionalMember, OptionalIndex, OptionalCall, TemplateRest, TagTemplate, FirstLink, Link, TemplateRests, TagTemplates, FirstLinks, Links, Anything, AfterDot, Defaulted, BoundDefault, NamedDefault, ComputedMethod, ComputedGetter, ComputedSetter, ComputedGenerator, BoundElement, DefaultOf, BoundElements, DefaultsOf, Lookahead, same_flag, Bound, ClassPlain, ClassNamed, ClassDeclared, ClassBody, ClassMethod, ClassComputedMethod, ClassGenerator, ClassComputedGenerator, ClassGetter, ClassComputedGetter, ClassSetter, ClassComputedSetter, Field, ComputedField, StaticElement, StaticInit, PrivateKey, ClassBraces, ClassElement, PlainElement, ClassKey, ClassBodies, ClassElements, Leading, Leadings, Directive, starts_directive, NoDirective, ArrayTarget, ObjectTarget, PatternItem, ValueItem, PatternRest, ValueRest, TargetShorthand, TargetDefault, TargetKeyValue, TargetComputed, TargetPropertyRest, PatternAssignment, TargetPattern, Target, TargetElement, TargetProperty, Patterns, TargetElements, TargetProperties, Opener, Equals, has}
 use Rattle.mini_print.specs.Grammar as look
 use Rattle.mini_print.specs.Groups.{none_is_enough}
 use Rattle.mini_print.specs.Printed.{is_statements}
-use Rattle.mini_print.proofs.Reader.{prefix, statement_at, stops_at, is_paren_next, infix_rule, binding, strength, power, is_weak, is_closing, is_separator, separates, is_right_brace, ends_at, ends, is_sequence, is_left_paren, Opens, Closes, Neither, bracket, label_or_expression, statement_start, bars, is_barred, end_words, barred_words, is_brace_next, declares, forked, behind_fork, is_link_start, first_link, optional_link, link_at, is_dots_next, is_equals_next, is_name_end, class_rule, opens_bracket}
-use Rattle.mini_print.proofs.Told.{inner, Ranges, ranges_by, ranges, above, grows, inner_above, inner_grows, Led, is_values, ToldBy, ToldByTwo, is_special, is_forked, Told, both, are_all_reserved, same_is, unreserved_is_not, untrue, no_word, told_expression, told_label, operator, ToldUnless, told_value, told_statement, flag_is, default_is, defaults_are, told}
+use Rattle.mini_print.proofs.Reader.{stops_at, is_paren_next, strength, power, is_weak, is_closing, separates, is_right_brace, ends, bars, is_brace_next, declares, is_link_start, is_dots_next, is_equals_next, is_name_end, opens_bracket}
+use Rattle.mini_print.proofs.Told.{inner, operator}
 
 -- ---- what stands behind the parts of a production, behind which this power stands at most
 

@@ -1,7 +1,7 @@
 -- By what tokens each production is told from the others.
-use Rattle.std.specs.Prelude.{ℕ, zero, suc, ◌+◌, ◌≡◌, refl, ◌≤◌, ◌<◌, nat_lt, nat_le, Bool, true, false, not, ◌&&◌, List, [], ◌∷◌, Option, Some, None, if◌then◌else◌, nat_eq, ◌||◌}
-use Rattle.std.proofs.Common.{ap, sym, subst, arith, ◌⊎◌, inl, inr, ◌∙◌}
-use Rattle.std.proofs.lemmas.Bool.{ltb-true, ltb-false, false≢true, le-leb, eqb-true}
+use Rattle.std.specs.Prelude.{ℕ, suc, ◌+◌, ◌≡◌, refl, ◌≤◌, ◌<◌, nat_lt, Bool, true, false, not, ◌&&◌, List, [], ◌∷◌, Option, Some, None, if◌then◌else◌, nat_eq, ◌||◌}
+use Rattle.std.proofs.Common.{ap, sym, arith, ◌⊎◌, inl, inr, ◌∙◌}
+use Rattle.std.proofs.lemmas.Bool.{ltb-true, ltb-false, false≢true, eqb-true}
 use Rattle.mini_model.specs.declared.kind.VariableDeclarationKind.TheVariants.{Var, Let, Const}
 use Rattle.mini_model.specs.declared.operator.BinaryOperator.{BinaryOperator}
 use Rattle.mini_model.specs.declared.operator.BinaryOperator.TheVariants as binary
@@ -10,12 +10,9 @@ use Rattle.mini_model.specs.declared.operator.UnaryOperator.TheVariants as unary
 use Rattle.mini_model.specs.declared.operator.UpdateOperator.TheVariants.{Increment, Decrement}
 use Rattle.mini_model.specs.Position.{binary_level, left_level, right_level}
 use Rattle.mini_model.specs.Weight.{same_text}
-use Rattle.mini_print.specs.Token.{Token, Word, Punct, RightBrace, Comma, binary_token, Colon, Times, Dot, LeftBrace, OptionalDot, TemplateWhole, TemplateHead, TemplateMiddle, TemplateTail, LeftParen, LeftBracket, Private, Quoted, Number, Ellipsis}
-use Rattle.mini_print.specs.Grammar.{Goal, Sort, Values, Names, Bindings, Statements, Declarators, Properties, Bodies, sort, Rule, Reference, NumberLiteral, BigIntLiteral, TextLiteral, RegExpLiteral, Null, This, True, False, Parenthesized, Array, Member, Index, New, Import, Call, PropertyName, Postfix, Prefix, Unary, Binary, Logical, Conditional, Assignment, Sequence, Arrow, BindingName, Block as BlockRule, Variables, Declarator, Empty, ExpressionStatement, If, DoWhile, While, For, Return, Throw, Debugger, Object, KeyValue, Computed, Spread, FunctionExpression, FunctionDeclaration, FunctionBody, SpreadItem, ArrowBlock, Break, Continue, Two, NoStatement, permits, begins_statement, Part, token, left, part, commas, lookahead, perhaps, option, statements, unwritten, Statement, form, level, is_reserved, is_of, SuperMember, SuperIndex, SuperCall, NewTarget, ImportMeta, PrivateName, PrivateIn, Yield, YieldFrom, GeneratorExpression, GeneratorDeclaration, Label, Switch, Case, DefaultCase, Try, CatchParam, CatchBare, BlockPart, Cases, Catches, BlockParts, CaseItem, CaseEnd, begins_label, is_colon_next, is_word_of, clause_words, statement_words, ObjectPattern, ArrayPattern, Rest, BoundKeyValue, BoundComputed, BoundShorthand, BoundRest, Shorthand, BoundProperties, ForIn, ForOf, ForDeclared, ForDeclaredIn, ForDeclaredOf, HeadVariables, HeadDeclarations, HeadDeclared, fork, HeadEnd, Least, MethodProperty, Getter, Setter, GeneratorProperty, MethodFunction, GeneratorMethod, Methods, GeneratorMethods, KeyWord, KeyText, KeyNumber, KeyNames, WholeTemplate, Template, MiddlePiece, TailPiece, TaggedTemplate, TagWhole, TagParts, Chain, FirstMember, FirstIndex, FirstCall, LinkMember, LinkIndex, LinkCall, OptionalMember, OptionalIndex, OptionalCall, TemplateRest, TagTemplate, FirstLink, Link, TemplateRests, TagTemplates, FirstLinks, Links, Anything, AfterDot, Defaulted, BoundDefault, NamedDefault, ComputedMethod, ComputedGetter, ComputedSetter, ComputedGenerator, BoundElement, DefaultOf, BoundElements, DefaultsOf, Lookahead, same_flag, Bound, ClassPlain, ClassNamed, ClassDeclared, ClassBody, ClassMethod, ClassComputedMethod, ClassGenerator, ClassComputedGenerator, ClassGetter, ClassComputedGetter, ClassSetter, ClassComputedSetter, Field, ComputedField, StaticElement, StaticInit, PrivateKey, ClassBraces, ClassElement, PlainElement, ClassKey, ClassBodies, ClassElements, Leading, Leadings, Directive, starts_directive, NoDirective, ArrayTarget, ObjectTarget, PatternItem, ValueItem, PatternRest, ValueRest, TargetShorthand, TargetDefault, TargetKeyValue, TargetComputed, TargetPropertyRest, PatternAssignment, TargetPattern, Target, TargetElement, TargetProperty, Patterns, TargetElements, TargetProperties, Opener, Equals, has}
-use Rattle.mini_print.specs.Grammar as look
-use Rattle.mini_print.specs.Groups.{none_is_enough}
-use Rattle.mini_print.specs.Printed.{is_statements}
-use Rattle.mini_print.proofs.Reader.{prefix, statement_at, stops_at, is_paren_next, infix_rule, binding, strength, power, is_weak, is_closing, is_separator, separates, is_right_brace, ends_at, ends, is_sequence, is_left_paren, Opens, Closes, Neither, bracket, label_or_expression, statement_start, bars, is_barred, end_words, barred_words, is_brace_next, declares, forked, behind_fork, is_link_start, first_link, optional_link, link_at, is_dots_next, is_equals_next, is_name_end, class_rule, opens_bracket}
+use Rattle.mini_print.specs.Token.{Token, Word, Punct, Comma, binary_token, Colon, TemplateWhole, TemplateHead}
+use Rattle.mini_print.specs.Grammar.{Sort, Values, Names, Bindings, Statements, Declarators, Properties, Bodies, Rule, Reference, NumberLiteral, BigIntLiteral, TextLiteral, RegExpLiteral, Null, This, True, False, Parenthesized, Array, Member, Index, New, Import, Call, PropertyName, Postfix, Prefix, Unary, Binary, Logical, Conditional, Assignment, Sequence, Arrow, BindingName, Block as BlockRule, Variables, Declarator, Empty, ExpressionStatement, If, DoWhile, While, For, Return, Throw, Debugger, Object, KeyValue, Computed, Spread, FunctionExpression, FunctionDeclaration, FunctionBody, SpreadItem, ArrowBlock, Break, Continue, Two, NoStatement, permits, begins_statement, Part, token, left, part, commas, lookahead, form, level, is_reserved, is_of, SuperMember, SuperIndex, SuperCall, NewTarget, ImportMeta, PrivateName, PrivateIn, Yield, YieldFrom, GeneratorExpression, GeneratorDeclaration, Label, Switch, Case, DefaultCase, Try, CatchParam, CatchBare, BlockPart, Cases, Catches, BlockParts, begins_label, is_colon_next, is_word_of, statement_words, ObjectPattern, ArrayPattern, Rest, BoundKeyValue, BoundComputed, BoundShorthand, BoundRest, Shorthand, BoundProperties, ForIn, ForOf, ForDeclared, ForDeclaredIn, ForDeclaredOf, HeadVariables, HeadDeclarations, MethodProperty, Getter, Setter, GeneratorProperty, MethodFunction, GeneratorMethod, Methods, GeneratorMethods, KeyWord, KeyText, KeyNumber, KeyNames, WholeTemplate, Template, MiddlePiece, TailPiece, TaggedTemplate, TagWhole, TagParts, Chain, FirstMember, FirstIndex, FirstCall, LinkMember, LinkIndex, LinkCall, OptionalMember, OptionalIndex, OptionalCall, TagTemplate, TemplateRests, TagTemplates, FirstLinks, Links, Defaulted, BoundDefault, NamedDefault, ComputedMethod, ComputedGetter, ComputedSetter, ComputedGenerator, BoundElements, DefaultsOf, same_flag, ClassPlain, ClassNamed, ClassDeclared, ClassBody, ClassMethod, ClassComputedMethod, ClassGenerator, ClassComputedGenerator, ClassGetter, ClassComputedGetter, ClassSetter, ClassComputedSetter, Field, ComputedField, StaticElement, StaticInit, PrivateKey, ClassBodies, ClassElements, Leadings, Directive, ArrayTarget, ObjectTarget, PatternItem, ValueItem, PatternRest, ValueRest, TargetShorthand, TargetDefault, TargetKeyValue, TargetComputed, TargetPropertyRest, PatternAssignment, Patterns, TargetElements, TargetProperties}
+use Rattle.mini_print.proofs.Reader.{prefix, statement_at, infix_rule, binding, is_sequence, is_left_paren, Neither, bracket, label_or_expression, statement_start}
 
 -- what stands behind a part of this level is no operator that binds tighter: those of its own level
 -- may group to the left

@@ -7,7 +7,7 @@ use Rattle.mini_model.specs.declared.shape.Shape.TheVariants as shape
 use Rattle.mini_model.specs.Tree.{Tree, Trees, node, none, ◌▸◌, leaf, listed, identifier, unresolved, expression_statement}
 use Rattle.mini_model.specs.Paths.{Path, standing, by_standing, width}
 use Rattle.mini_print.specs.Grammar.{is_reserved}
-use Rattle.mini_print.specs.Text.{is_pattern, are_letters, is_line_end, has_no_line_end}
+use Rattle.mini_print.specs.Text.{is_pattern, are_letters, has_no_line_end}
 
 pub data Cause : Type 0 where
   -- an identifier that reads, writes, binds or labels is named by a reserved word
