@@ -8,8 +8,8 @@ use Rattle.mini_model.specs.Weight.{same_text}
 use Rattle.mini_model.specs.declared.operator.UnaryOperator.TheVariants as unary
 use Rattle.mini_model.specs.declared.operator.UpdateOperator.TheVariants.{Increment, Decrement}
 use Rattle.mini_model.specs.Tree.{Tree, Trees}
-use Rattle.mini_print.specs.Token.{Token, Word, Punct, Comma, Semicolon, RightParen, RightBracket, RightBrace, Arrow as ArrowToken, LeftBrace, Times, Dot, Colon, LeftParen, Quoted, Number, OptionalDot, LeftBracket, Private, Assigns, Ellipsis}
-use Rattle.mini_print.specs.Grammar.{Goal, Anything, WithoutIn, Callee, Body, Element, ArrowBlock, FunctionBody, NoBrace, permits, is_left_brace, Sort, Values, Names, Bindings, Statements, Declarators, Properties, Bodies, sort, heir, Place, Rule, Parenthesized, Arrow, Prefix, Unary, Variables, Least, Zero, One, Two, Gaps, Equals, Part, token, left, part, commas, lookahead, form, level, is_of, excluded, NewTarget, Yield, YieldFrom, GeneratorExpression, GeneratorDeclaration, CatchParam, CatchBare, Cases, Catches, BlockParts, is_allowed, same_sort, rule_sort, New, FunctionExpression, FunctionDeclaration, CatchParam, perhaps, option, statements, unwritten, BoundKeyValue, BoundShorthand, Shorthand, BoundProperties, KeyValue, has, ends_property, is_colon_next, ForIn, ForOf, ForDeclared, ForDeclaredIn, ForDeclaredOf, HeadVariables, HeadDeclarations, fork, For, is_word_of, MethodProperty, Getter, Setter, GeneratorProperty, MethodFunction, GeneratorMethod, Methods, GeneratorMethods, Key, KeyWord, KeyText, KeyNumber, KeyNames, KeyName, Chain, FirstMember, FirstCall, LinkCall, OptionalMember, Link, TemplateRests, TagTemplates, FirstLinks, Links, Defaulted, BoundDefault, ComputedMethod, ComputedGenerator, BoundElements, DefaultsOf, Computed, Rest, ClassPlain, ClassMethod, ClassComputedMethod, ClassGenerator, ClassComputedGenerator, ClassGetter, ClassComputedGetter, ClassSetter, ClassComputedSetter, Field, ComputedField, StaticElement, StaticInit, PrivateKey, ClassKey, ClassBodies, ClassElements, Leadings, ArrayTarget, ObjectTarget, PatternItem, ValueItem, PatternRest, ValueRest, TargetShorthand, TargetDefault, TargetKeyValue, PatternAssignment, TargetPattern, Target, Patterns, TargetElements, TargetProperties, Object, Array}
+use Rattle.mini_print.specs.Token.{Token, Word, Punct, Comma, Semicolon, RightParen, RightBracket, RightBrace, Arrow as ArrowToken, LeftBrace, Times, Dot, Colon, LeftParen, Quoted, Number, OptionalDot, LeftBracket, Private, Assigns, Ellipsis, TemplateMiddle, TemplateTail}
+use Rattle.mini_print.specs.Grammar.{Goal, Anything, WithoutIn, Callee, Body, Element, ArrowBlock, FunctionBody, NoBrace, permits, is_left_brace, Sort, Values, Names, Bindings, Statements, Declarators, Properties, Bodies, sort, heir, Place, Rule, Parenthesized, Arrow, Prefix, Unary, Variables, Least, Zero, One, Two, Gaps, Equals, Part, token, left, part, commas, lookahead, form, level, is_of, excluded, NewTarget, Yield, YieldFrom, GeneratorExpression, GeneratorDeclaration, CatchParam, CatchBare, Cases, Catches, BlockParts, is_allowed, same_sort, rule_sort, New, FunctionExpression, FunctionDeclaration, CatchParam, perhaps, option, statements, unwritten, BoundKeyValue, BoundShorthand, Shorthand, BoundProperties, KeyValue, has, ends_property, is_colon_next, ForIn, ForOf, ForDeclared, ForDeclaredIn, ForDeclaredOf, HeadVariables, HeadDeclarations, fork, For, is_word_of, MethodProperty, Getter, Setter, GeneratorProperty, MethodFunction, GeneratorMethod, Methods, GeneratorMethods, Key, KeyWord, KeyText, KeyNumber, KeyNames, KeyName, Chain, FirstMember, FirstCall, LinkCall, OptionalMember, Link, TemplateRests, TagTemplates, FirstLinks, Links, Defaulted, BoundDefault, ComputedMethod, ComputedGenerator, BoundElements, DefaultsOf, Computed, Rest, ClassPlain, ClassMethod, ClassComputedMethod, ClassGenerator, ClassComputedGenerator, ClassGetter, ClassComputedGetter, ClassSetter, ClassComputedSetter, Field, ComputedField, StaticElement, StaticInit, PrivateKey, ClassKey, ClassBodies, ClassElements, Leadings, ArrayTarget, ObjectTarget, PatternItem, ValueItem, PatternRest, ValueRest, TargetShorthand, TargetDefault, TargetKeyValue, PatternAssignment, TargetPattern, Target, Patterns, TargetElements, TargetProperties, Object, Array, YieldBare, YieldEnd, ends_yield}
 use Rattle.mini_print.specs.Groups.{Groups, by_rule, Row, end, a_token, a_left, a_part, a_list, a_lookahead, present, missing, with, without, a_silent, a_fork}
 use Rattle.mini_print.specs.Printed.{is_statements}
 use Rattle.mini_print.proofs.Reader.{start_at, arrow_rule, is_brace_next, prefix, power, next_power, ends, is_left_paren, is_arrow_next, behind_bracket, tail, bars, is_star_next, is_dot_next, is_paren_next, statement_at, property_at, bound_at, declares, end_words, is_word_next, accessor, first_link, optional_link, link_at, is_equals_next, is_bracket_next, computed_accessor, is_name_end, class_rule, keyed_member, worded_member, member_at, rest_element, element_at, target_property_at}
@@ -230,8 +230,40 @@ heir_values _ e = absurd (false≢true e)
 pub new_begins : {g : Goal} {ks : Trees} {ts r : List Token} → Row g (form New) ks ts r → is_values (sort g) ≡ true → prefix (sort g) ts ≡ Some New
 new_begins (a_token g x ps ks _ r (a_part _ _ _ _ _ k _ ts _ _ c d)) v = value_prefix g (x ∷ ts) v ∙ ap (λ b. Some (if b then NewTarget else New)) (not_dot ts (first_open c))
 
+pub yield_goes_on : (ts : List Token) → bars ts ≡ false → ends_yield ts ≡ false
+yield_goes_on [] e = absurd (false≢true (sym e))
+yield_goes_on (Punct RightParen ∷ ts) e = absurd (false≢true (sym e))
+yield_goes_on (Punct RightBracket ∷ ts) e = absurd (false≢true (sym e))
+yield_goes_on (Punct RightBrace ∷ ts) e = absurd (false≢true (sym e))
+yield_goes_on (Punct Comma ∷ ts) e = absurd (false≢true (sym e))
+yield_goes_on (Punct Semicolon ∷ ts) e = absurd (false≢true (sym e))
+yield_goes_on (Punct Colon ∷ ts) e = absurd (false≢true (sym e))
+yield_goes_on (TemplateMiddle s ∷ ts) e = absurd (false≢true (sym e))
+yield_goes_on (TemplateTail s ∷ ts) e = absurd (false≢true (sym e))
+yield_goes_on (Word s ∷ ts) e = by (is_word_of end_words s) (same_text s (codes "var")) (same_text s (codes "let")) (same_text s (codes "const")) (same_text s (codes "in")) e
+  where
+    by : (a b c d f : Bool) → (a || (b || (c || (d || (f || false))))) ≡ false → f ≡ false
+    by false false false false false e = refl
+    by true b c d f e = absurd (false≢true (sym e))
+    by false true c d f e = absurd (false≢true (sym e))
+    by false false true d f e = absurd (false≢true (sym e))
+    by false false false true f e = absurd (false≢true (sym e))
+    by false false false false true e = absurd (false≢true (sym e))
+yield_goes_on (x ∷ ts) e = refl
+
+pub yield_no_star : (ts : List Token) → ends_yield ts ≡ true → is_star_next ts ≡ false
+yield_no_star [] e = refl
+yield_no_star (Punct Times ∷ ts) e = absurd (false≢true e)
+yield_no_star (x ∷ ts) e = refl
+
 pub yield_begins : {g : Goal} {ks : Trees} {ts r : List Token} → Row g (form Yield) ks ts r → is_values (sort g) ≡ true → prefix (sort g) ts ≡ Some Yield
-yield_begins (a_token g x ps ks _ r (a_part _ _ _ _ _ k _ ts _ _ c d)) v = value_prefix g (x ∷ ts) v ∙ ap (λ b. Some (if b then YieldFrom else Yield)) (not_star ts (value_bars (heir g) ts (heir_values g v) (first_open c)))
+yield_begins (a_token g x ps ks _ r (a_part _ _ _ _ _ k _ ts _ _ c d)) v =
+    let f = value_bars (heir g) ts (heir_values g v) (first_open c) in
+    value_prefix g (x ∷ ts) v ∙ ap (λ b. Some (if b then YieldFrom else (if ends_yield ts then YieldBare else Yield))) (not_star ts f) ∙ ap (λ b. Some (if b then YieldBare else Yield)) (yield_goes_on ts f)
+
+pub yield_bare_begins : {g : Goal} {ks : Trees} {ts r : List Token} → Row g (form YieldBare) ks ts r → is_values (sort g) ≡ true → prefix (sort g) ts ≡ Some YieldBare
+yield_bare_begins (a_token g x _ _ _ _ (a_silent _ _ _ _ ts _ (a_lookahead _ _ _ _ _ _ p d))) v =
+    value_prefix g (x ∷ ts) v ∙ ap (λ b. Some (if b then YieldFrom else (if ends_yield ts then YieldBare else Yield))) (yield_no_star ts p) ∙ ap (λ b. Some (if b then YieldBare else Yield)) p
 
 pub function_begins : {g : Goal} {ks : Trees} {ts r : List Token} → Row g (form FunctionExpression) ks ts r → is_values (sort g) ≡ true → prefix (sort g) ts ≡ Some FunctionExpression
 function_begins (a_token g x ps ks _ r (present _ _ _ k _ ts _ _ c d)) v = value_prefix g (x ∷ ts) v ∙ ap (λ b. Some (if b then GeneratorExpression else FunctionExpression)) (not_star ts (first_open c).0)
@@ -575,6 +607,7 @@ specially Arrow e f {g} d v q X = arrow_begins d (of_values (sort g) (sorted (so
 specially ArrowBlock e f {g} d v q X = arrow_block_begins d (of_values (sort g) (sorted (sort g) ArrowBlock v))
 specially New e f {g} d v q X = new_begins d (of_values (sort g) (sorted (sort g) New v))
 specially Yield e f {g} d v q X = yield_begins d (of_values (sort g) (sorted (sort g) Yield v))
+specially YieldBare e f {g} d v q X = yield_bare_begins d (of_values (sort g) (sorted (sort g) YieldBare v))
 specially FunctionExpression e f {g} d v q X = function_begins d (of_values (sort g) (sorted (sort g) FunctionExpression v))
 specially FunctionDeclaration e f {g} {ks} {ts} d v q X = ap (λ s. prefix s ts) (of_sort (sort g) Statements (sorted (sort g) FunctionDeclaration v)) ∙ declared_begins d
 specially CatchParam e f {g} {ks} {ts} d v q X = ap (λ s. prefix s ts) (of_sort (sort g) Catches (sorted (sort g) CatchParam v)) ∙ catch_begins d
@@ -637,6 +670,7 @@ led_plainly Arrow e = absurd (false≢true e)
 led_plainly ArrowBlock e = absurd (false≢true e)
 led_plainly New e = absurd (false≢true e)
 led_plainly Yield e = absurd (false≢true e)
+led_plainly YieldBare e = absurd (false≢true e)
 led_plainly FunctionExpression e = absurd (false≢true e)
 led_plainly FunctionDeclaration e = absurd (false≢true e)
 led_plainly CatchParam e = absurd (false≢true e)

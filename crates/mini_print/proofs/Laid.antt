@@ -16,7 +16,7 @@ use Rattle.mini_print.proofs.Complete.{statement_ends}
 use Rattle.mini_model.specs.Tree.{Tree, Trees, node, none, ◌▸◌, count, listed, leaf, absent}
 use Rattle.mini_model.specs.Position.{assignment_level}
 use Rattle.mini_print.specs.Token.{Token, Punct, LeftParen, RightParen, RightBrace, Comma, Word, Semicolon, Quoted}
-use Rattle.mini_print.specs.Grammar.{Sort, Values, Statements, Declarators, sort, WithoutIn, Callee, Statement, Declared, left, lookahead, perhaps, option, statements, permits, Lookahead, NoStatement, NoBrace, Goal, Anything, Place, place, Rule, TextLiteral, Least, Zero, One, Two, Gaps, Silent, silent_tree, unwritten, Part, token, part, commas, has, opens, is_opener, Else, Equals, ExpressionStatement, Element, Property, Properties, Key, Cases, CaseEnd, Opener, opener, BoundProperties, Ended, HeadDeclarations, HeadDeclared, fork, HeadEnd, NotAsync, ends_head, KeyWord, KeyText, KeyNumber, KeyName, Link, BoundElements, DefaultsOf, ClassBraces, ClassElements, Extends, Leading, starts_directive, NoDirective, Target, TargetElements, TargetProperties}
+use Rattle.mini_print.specs.Grammar.{Sort, Values, Statements, Declarators, sort, WithoutIn, Callee, Statement, Declared, left, lookahead, perhaps, option, statements, permits, Lookahead, NoStatement, NoBrace, Goal, Anything, Place, place, Rule, TextLiteral, Least, Zero, One, Two, Gaps, Silent, silent_tree, unwritten, Part, token, part, commas, has, opens, is_opener, Else, Equals, ExpressionStatement, Element, Property, Properties, Key, Cases, CaseEnd, Opener, opener, BoundProperties, Ended, HeadDeclarations, HeadDeclared, fork, HeadEnd, NotAsync, ends_head, KeyWord, KeyText, KeyNumber, KeyName, Link, BoundElements, DefaultsOf, ClassBraces, ClassElements, Extends, Leading, starts_directive, NoDirective, Target, TargetElements, TargetProperties, YieldEnd}
 use Rattle.mini_print.specs.Groups.{goal_of, a_left, a_lookahead, Groups, by_rule, Row, end, a_token, a_part, a_list, a_block, a_silent as a_silent_row, gap, has_gaps, none_is_enough, one_is_enough, behind_comma, present, missing, with, without, Items, nothing, last, next, Statements as StatementList, no_more, more, a_fork}
 use Rattle.mini_print.specs.Printed.{is_statements, else_behind, settled, settled_parts, are_printable, Printer, lay, lay_items, lay_block, printer, printers, enclosed, a_part as a_part_of, a_list as a_list_of, a_perhaps, sort_of, wants, a_block as a_block_of, a_silent, is_gap, wanted_goal, plain, has_enough, is_printable, fill, core, has_core, stands, undirected, takes_values, holds_head_in, holds_in}
 use Rattle.mini_print.proofs.Placed.{fits_whole, produced, serves_more, Serves, plain_sort, serves_sort, value_serves, limit, one_limit, limited, in_parentheses}
@@ -185,6 +185,7 @@ is_key CaseEnd = true
 is_key HeadEnd = true
 is_key Ended = true
 is_key NoDirective = true
+is_key YieldEnd = true
 is_key _ = false
 
 pub paren_permitted : (c : Lookahead) (ts : List Token) → is_key c ≡ false → permits c (Punct LeftParen ∷ ts) ≡ true
@@ -194,6 +195,7 @@ paren_permitted HeadEnd ts e = absurd (false≢true (sym e))
 paren_permitted NotAsync ts e = refl
 paren_permitted Ended ts e = absurd (false≢true (sym e))
 paren_permitted NoDirective ts e = absurd (false≢true (sym e))
+paren_permitted YieldEnd ts e = absurd (false≢true (sym e))
 paren_permitted NoStatement ts e = refl
 paren_permitted NoBrace ts e = refl
 
@@ -322,6 +324,7 @@ none_laid (lookahead NotAsync ∷ part o n b ∷ ps) g r f k L y = absurd (false
 none_laid (lookahead NotAsync ∷ ps) g r f k L y = absurd L.0
 none_laid (lookahead NoDirective ∷ statements Statement ∷ ps) g r f k L y = absurd (false≢true f)
 none_laid (lookahead NoDirective ∷ ps) g r f k L y = absurd L.0
+none_laid (lookahead YieldEnd ∷ ps) g r f k L y = absurd L.0
 none_laid (fork ∷ ps) g r f k L y = a_fork g ps none _ r (none_laid ps g r f k L y)
 none_laid (lookahead NoStatement ∷ part o n b ∷ ps) g r f k L y = absurd (false≢true f)
 none_laid (lookahead NoStatement ∷ ps) g r f k L y = absurd L.0
@@ -457,6 +460,7 @@ laid (lookahead NoDirective ∷ statements Statement ∷ token x ∷ ps) (t ▸ 
     subst (λ v. Row g (lookahead NoDirective ∷ statements Statement ∷ token x ∷ ps) (v ▸ settled_parts (flag g r) (token x ∷ ps) ts) (undirected ((printer t).block Statement m)) r) (sym j.1)
     (a_lookahead g NoDirective _ _ _ r (no_directive ((printer t).block Statement m)) (a_block g Statement (token x ∷ ps) j.0 _ _ m r z (laid (token x ∷ ps) ts G.1 a.1 g k H L.1.1 r y)))
 laid (lookahead NoDirective ∷ ps) ts G f g k H L r y = absurd L.0
+laid (lookahead YieldEnd ∷ ps) ts G f g k H L r y = absurd L.0
 laid (fork ∷ ps) none G f g k H L r y = a_fork g ps none _ r (none_laid ps g r f k L y)
 laid (fork ∷ ps) (t ▸ ts) G f g k H L r y = a_fork g ps _ _ r (laid ps (t ▸ ts) G f g k H L r y)
 laid (lookahead NotAsync ∷ part o n b ∷ ps) none G f g k H L r y = absurd (false≢true f)

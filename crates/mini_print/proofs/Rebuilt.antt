@@ -15,7 +15,7 @@ use Rattle.mini_model.specs.Templates.{cooked}
 use Rattle.mini_model.specs.declared.kind.MetaPropertyKind.TheVariants as meta
 use Rattle.mini_model.specs.Tree.{Tree, Trees, node, none, ◌▸◌, leaf, absent}
 use Rattle.mini_print.specs.Grammar.{Rule, Unary, Part, form, built, has_private, member_shape, Defaulted, same_flag, StaticElement, static_shape, first_shape, constructor_shape, method_kind}
-use Rattle.mini_print.specs.Printed.{settled, settled_parts, is_positive_literal, rule_at, has_body, arrow_of, bare_names, wants, open_form, is_sound, case_of, catch_of, first_is_absent, for_of, for_in_of, for_of_of, declares_first, method_of, second_generates, same_cooked, template_of, is_one, first_raw, second_is_absent, bound_of, computed_method_of, has_default, first_spelling, class_of, class_method_of, class_computed_of, same_member, same_kind, Taker, ABinding, APattern, AValue, taker, element_of, rest_of, assignment_of, target_of}
+use Rattle.mini_print.specs.Printed.{settled, settled_parts, is_positive_literal, rule_at, has_body, arrow_of, bare_names, wants, open_form, is_sound, case_of, catch_of, first_is_absent, for_of, for_in_of, for_of_of, declares_first, method_of, second_generates, same_cooked, template_of, is_one, first_raw, second_is_absent, bound_of, computed_method_of, has_default, first_spelling, class_of, class_method_of, class_computed_of, same_member, same_kind, Taker, ABinding, APattern, AValue, taker, element_of, rest_of, assignment_of, target_of, yield_of}
 
 -- ---- the production of a node, over its parts, is the node
 
@@ -173,6 +173,10 @@ pub target_built : (b : Bool) (s : List ℕ) (ks : Trees) → built (target_of b
 target_built true s ks = refl
 target_built false s ks = refl
 
+pub yield_built : (b : Bool) (ks : Trees) → built (yield_of b) ks ≡ node (shape.YieldExpression false) [] 0 ks
+yield_built true ks = refl
+yield_built false ks = refl
+
 pub private_stays : (c : Bool) (ts : Trees) → has_private (settled_parts c [] ts) ≡ has_private ts
 private_stays c none = refl
 private_stays c (a ▸ none) = refl
@@ -243,7 +247,7 @@ rebuilt c (shape.BindingProperty true false) [] ts i n s f = bound_built (has_de
 rebuilt c (shape.ObjectProperty kind.Init false true false) [] ts i n s f = refl
 rebuilt c (shape.Function false true []) [] ts i n s f = refl
 rebuilt c (shape.Function true true []) [] ts i n s f = refl
-rebuilt c (shape.YieldExpression false) [] ts i n s f = refl
+rebuilt c (shape.YieldExpression false) [] ts i n s f = yield_built (first_is_absent ts) _
 rebuilt c (shape.YieldExpression true) [] ts i n s f = refl
 rebuilt c shape.SuperStaticMemberExpression [] ts i n s f = refl
 rebuilt c shape.SuperComputedMemberExpression [] ts i n s f = refl
