@@ -9,7 +9,7 @@ use Rattle.mini_model.specs.declared.operator.UnaryOperator.TheVariants as unary
 use Rattle.mini_model.specs.declared.operator.UpdateOperator.TheVariants.{Increment, Decrement}
 use Rattle.mini_model.specs.Tree.{Tree, Trees}
 use Rattle.mini_print.specs.Token.{Token, Word, Punct, Comma, Semicolon, RightParen, RightBracket, RightBrace, Arrow as ArrowToken, LeftBrace, Times, Dot, Colon, LeftParen, Quoted, Number, OptionalDot, LeftBracket, Private, Assigns, Ellipsis, TemplateMiddle, TemplateTail}
-use Rattle.mini_print.specs.Grammar.{Goal, Anything, WithoutIn, Callee, Body, Element, ArrowBlock, FunctionBody, NoBrace, permits, is_left_brace, Sort, Values, Names, Bindings, Statements, Declarators, Properties, Bodies, sort, heir, Place, Rule, Parenthesized, Arrow, Prefix, Unary, Variables, Least, Zero, One, Two, Gaps, Equals, Part, token, left, part, commas, lookahead, form, level, is_of, excluded, NewTarget, Yield, YieldFrom, GeneratorExpression, GeneratorDeclaration, CatchParam, CatchBare, Cases, Catches, BlockParts, is_allowed, same_sort, rule_sort, New, FunctionExpression, FunctionDeclaration, CatchParam, perhaps, option, statements, unwritten, BoundKeyValue, BoundShorthand, Shorthand, BoundProperties, KeyValue, has, ends_property, is_colon_next, ForIn, ForOf, ForDeclared, ForDeclaredIn, ForDeclaredOf, HeadVariables, HeadDeclarations, fork, For, is_word_of, MethodProperty, Getter, Setter, GeneratorProperty, MethodFunction, GeneratorMethod, Methods, GeneratorMethods, Key, KeyWord, KeyText, KeyNumber, KeyNames, KeyName, Chain, FirstMember, FirstCall, LinkCall, OptionalMember, Link, TemplateRests, TagTemplates, FirstLinks, Links, Defaulted, BoundDefault, ComputedMethod, ComputedGenerator, BoundElements, DefaultsOf, Computed, Rest, ClassPlain, ClassMethod, ClassComputedMethod, ClassGenerator, ClassComputedGenerator, ClassGetter, ClassComputedGetter, ClassSetter, ClassComputedSetter, Field, ComputedField, StaticElement, StaticInit, PrivateKey, ClassKey, ClassBodies, ClassElements, Leadings, ArrayTarget, ObjectTarget, PatternItem, ValueItem, PatternRest, ValueRest, TargetShorthand, TargetDefault, TargetKeyValue, PatternAssignment, TargetPattern, Target, Patterns, TargetElements, TargetProperties, Object, Array, YieldBare, YieldEnd, ends_yield}
+use Rattle.mini_print.specs.Grammar.{Goal, Anything, WithoutIn, Callee, Body, Element, ArrowBlock, FunctionBody, NoBrace, permits, is_left_brace, Sort, Values, Names, Bindings, Statements, Declarators, Properties, Bodies, sort, heir, Place, Rule, Parenthesized, Arrow, Prefix, Unary, Variables, Least, Zero, One, Two, Gaps, Equals, Part, token, left, part, commas, lookahead, form, level, is_of, excluded, NewTarget, Yield, YieldFrom, GeneratorExpression, GeneratorDeclaration, CatchParam, CatchBare, Cases, Catches, BlockParts, is_allowed, same_sort, rule_sort, New, FunctionExpression, FunctionDeclaration, CatchParam, perhaps, option, statements, unwritten, BoundKeyValue, BoundShorthand, Shorthand, BoundProperties, KeyValue, has, ends_property, is_colon_next, ForIn, ForOf, ForDeclared, ForDeclaredIn, ForDeclaredOf, HeadVariables, HeadDeclarations, fork, For, is_word_of, MethodProperty, Getter, Setter, GeneratorProperty, MethodFunction, GeneratorMethod, Methods, GeneratorMethods, Key, KeyWord, KeyText, KeyNumber, KeyNames, KeyName, Chain, FirstMember, FirstCall, LinkCall, OptionalMember, Link, TemplateRests, TagTemplates, FirstLinks, Links, Defaulted, BoundDefault, ComputedMethod, ComputedGenerator, BoundElements, DefaultsOf, Computed, Rest, ClassPlain, ClassMethod, ClassComputedMethod, ClassGenerator, ClassComputedGenerator, ClassGetter, ClassComputedGetter, ClassSetter, ClassComputedSetter, Field, ComputedField, StaticElement, StaticInit, PrivateKey, ClassKey, ClassBodies, ClassElements, Leadings, ArrayTarget, ObjectTarget, PatternItem, ValueItem, PatternRest, ValueRest, TargetShorthand, TargetDefault, TargetKeyValue, PatternAssignment, TargetPattern, Target, Patterns, TargetElements, TargetProperties, Object, Array, YieldBare, ends_yield}
 use Rattle.mini_print.specs.Groups.{Groups, by_rule, Row, end, a_token, a_left, a_part, a_list, a_lookahead, present, missing, with, without, a_silent, a_fork}
 use Rattle.mini_print.specs.Printed.{is_statements}
 use Rattle.mini_print.proofs.Reader.{start_at, arrow_rule, is_brace_next, prefix, power, next_power, ends, is_left_paren, is_arrow_next, behind_bracket, tail, bars, is_star_next, is_dot_next, is_paren_next, statement_at, property_at, bound_at, declares, end_words, is_word_next, accessor, first_link, optional_link, link_at, is_equals_next, is_bracket_next, computed_accessor, is_name_end, class_rule, keyed_member, worded_member, member_at, rest_element, element_at, target_property_at}
