@@ -1,0 +1,157 @@
+-- The nodes that have no text, and what keeps them from it: a name that is a reserved word, or a
+-- text that can't be written as it is.
+use Rattle.std.specs.Prelude.{ℕ, ◌+◌, ◌≡◌, refl, nat_eq, Bool, true, false, ◌&&◌, ◌||◌, not, List, [], ◌∷◌, ◌++◌, map, codes, Option, Some, None, if◌then◌else◌}
+use Rattle.mini_model.specs.declared.name.Name.{Name}
+use Rattle.mini_model.specs.declared.shape.Shape.{Shape}
+use Rattle.mini_model.specs.declared.shape.Shape.TheVariants as shape
+use Rattle.mini_model.specs.Tree.{Tree, Trees, node, none, ◌▸◌, leaf, listed, identifier, unresolved, expression_statement}
+use Rattle.mini_model.specs.Paths.{Path, standing, by_standing, width}
+use Rattle.mini_print.specs.Grammar.{is_reserved}
+use Rattle.mini_print.specs.Text.{is_pattern, are_letters, has_no_line_end}
+
+pub data Cause : Type 0 where
+  -- an identifier that reads, writes, binds or labels is named by a reserved word
+  Reserved : Cause
+  -- a regular expression, a directive or a piece of a template that can't be written
+  BadText : Cause
+
+-- ---- texts that are written as they are
+
+abbrev pub starts_with : ℕ → List ℕ → Bool
+starts_with k [] = false
+starts_with k (c ∷ s) = nat_eq c k
+
+-- the raw text of a template's piece, behind a backslash or not (12.9.6): no carriage return, and
+-- no backtick or `${` but behind a backslash, which escapes something
+abbrev pub is_raw : Bool → List ℕ → Bool
+is_raw false [] = true
+is_raw true [] = false
+is_raw true (c ∷ s) = not (nat_eq c 13) && is_raw false s
+is_raw false (c ∷ s) = not (nat_eq c 13) && (not (nat_eq c 96) && (not (nat_eq c 36 && starts_with 123 s) && is_raw (nat_eq c 92) s))
+
+-- whether a unit stands in a text with no backslash before it
+abbrev pub holds_bare : ℕ → Bool → List ℕ → Bool
+holds_bare k e [] = false
+holds_bare k true (c ∷ s) = holds_bare k false s
+holds_bare k false (c ∷ s) = nat_eq c k || holds_bare k (nat_eq c 92) s
+
+-- whether a backslash ends a text that no other one escapes
+abbrev pub ends_escaped : Bool → List ℕ → Bool
+ends_escaped e [] = e
+ends_escaped true (c ∷ s) = ends_escaped false s
+ends_escaped false (c ∷ s) = ends_escaped (nat_eq c 92) s
+
+-- a directive stands in double quotes or in single ones, so it holds one of them at most
+abbrev pub is_directive : List ℕ → Bool
+is_directive s = has_no_line_end s && (not (ends_escaped false s) && not (holds_bare 34 false s && holds_bare 39 false s))
+
+abbrev pub are_directives : List (List ℕ) → Bool
+are_directives [] = true
+are_directives (s ∷ ss) = is_directive s && are_directives ss
+
+abbrev pub are_raw : Trees → Bool
+are_raw none = true
+are_raw (node (shape.TemplateElement b s c) xs n us ▸ ts) = is_raw false s && are_raw ts
+are_raw (t ▸ ts) = are_raw ts
+
+abbrev pub first_list : Trees → Trees
+first_list (node shape.Listed xs n us ▸ ts) = us
+first_list _ = none
+
+-- ---- a node's own cause
+
+abbrev pub has_text : Shape → Trees → Bool
+has_text (shape.RegExpLiteral p f) ts = is_pattern p && are_letters f
+has_text (shape.Program b ds) ts = are_directives ds
+has_text (shape.Function d g ds) ts = are_directives ds
+has_text (shape.ArrowFunctionExpression ds) ts = are_directives ds
+has_text shape.TemplateLiteral ts = are_raw (first_list ts)
+has_text _ ts = true
+
+-- a name, which is a label or not
+abbrev pub is_reserved_name : Bool → Shape → List Name → Bool
+is_reserved_name l shape.Identifier (x ∷ []) = is_reserved x.spelling
+is_reserved_name l shape.BindingIdentifier (x ∷ []) = is_reserved x.spelling
+is_reserved_name true (shape.IdentifierName s) xs = is_reserved s
+is_reserved_name l _ xs = false
+
+abbrev pub has_label : Shape → Bool
+has_label shape.LabeledStatement = true
+has_label shape.BreakStatement = true
+has_label shape.ContinueStatement = true
+has_label _ = false
+
+abbrev pub cause_of : Bool → Shape → List Name → Trees → Option Cause
+cause_of l h xs ts = if is_reserved_name l h xs then Some Reserved else (if has_text h ts then None else Some BadText)
+
+-- ---- all causes of a tree, in preorder, with the paths of their nodes
+
+pub record Fault : Type 0 where
+  pub at : Path
+  pub cause : Cause
+
+abbrev pub faults_by : Option Cause → List Fault
+faults_by None = []
+faults_by (Some c) = record { at = []; cause = c } ∷ []
+
+abbrev pub below : ℕ → Fault → Fault
+below i f = record { at = i ∷ f.at; cause = f.cause }
+
+abbrev mutual
+  -- of a tree whose first node is the child of this index, which may be a label
+  pub faults_inside : Bool → Tree → ℕ → List Fault
+  faults_inside l (node h xs n ts) i = by_standing (standing h) (map (below i) (faults_by (cause_of l h xs ts) ++ faults_among (has_label h) ts 0)) (faults_among false ts i) []
+
+  pub faults_among : Bool → Trees → ℕ → List Fault
+  faults_among l none i = []
+  faults_among l (t ▸ ts) i = faults_inside l t i ++ faults_among l ts (i + width t)
+
+abbrev pub faults_of : Tree → List Fault
+faults_of (node h xs n ts) = faults_by (cause_of false h xs ts) ++ faults_among (has_label h) ts 0
+
+abbrev pub head : List Fault → Option Fault
+head [] = None
+head (f ∷ fs) = Some f
+
+-- the first node, in preorder, that has no text, if there is one
+abbrev pub first_fault : Tree → Option Fault
+first_fault t = head (faults_of t)
+
+-- ---- examples
+
+-- a program of this directive and one statement
+program_of : List (List ℕ) → Tree → Tree
+program_of ds t = node (shape.Program false ds) [] 0 (listed (t ▸ none) ▸ none)
+
+-- an identifier named `if`, in a call behind one that isn't
+of_a_name : first_fault (program_of [] (expression_statement (node (shape.CallExpression false) [] 0 (identifier (unresolved (codes "a")) ▸ listed (identifier (unresolved (codes "if")) ▸ none) ▸ none)))) ≡ Some (record { at = 0 ∷ 0 ∷ 1 ∷ []; cause = Reserved })
+unfolding program_of
+of_a_name = refl
+
+-- a label, but no property of that name
+of_a_label : first_fault (program_of [] (node shape.LabeledStatement [] 0 (leaf (shape.IdentifierName (codes "do")) ▸ leaf shape.EmptyStatement ▸ none))) ≡ Some (record { at = 0 ∷ 0 ∷ []; cause = Reserved })
+unfolding program_of
+of_a_label = refl
+
+of_a_property : first_fault (program_of [] (expression_statement (node (shape.StaticMemberExpression false) [] 0 (identifier (unresolved (codes "a")) ▸ leaf (shape.IdentifierName (codes "if")) ▸ none)))) ≡ None
+unfolding program_of
+of_a_property = refl
+
+-- an empty pattern, and a pattern that ends in a class
+of_an_empty_pattern : first_fault (program_of [] (expression_statement (leaf (shape.RegExpLiteral [] (codes "g"))))) ≡ Some (record { at = 0 ∷ 0 ∷ []; cause = BadText })
+unfolding program_of
+of_an_empty_pattern = refl
+
+of_a_class : first_fault (program_of [] (expression_statement (leaf (shape.RegExpLiteral (codes "[a") (codes "g"))))) ≡ Some (record { at = 0 ∷ 0 ∷ []; cause = BadText })
+unfolding program_of
+of_a_class = refl
+
+-- a directive with both quotes is the program's own fault, and one behind a backslash is none
+of_directives : (first_fault (program_of (codes "a\"b'c" ∷ []) (leaf shape.EmptyStatement)) ≡ Some (record { at = []; cause = BadText })) × (first_fault (program_of (codes "a\"b\\'c" ∷ []) (leaf shape.EmptyStatement)) ≡ None)
+unfolding program_of
+of_directives = (refl, refl)
+
+-- a template with a bare `${`
+of_a_template : first_fault (program_of [] (expression_statement (node shape.TemplateLiteral [] 0 (listed (leaf (shape.TemplateElement true (codes "a${") None) ▸ none) ▸ listed none ▸ none)))) ≡ Some (record { at = 0 ∷ 0 ∷ []; cause = BadText })
+unfolding program_of
+of_a_template = refl
