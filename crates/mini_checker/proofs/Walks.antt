@@ -1,0 +1,230 @@
+-- The child of an index, and a step in it.
+use Rattle.std.proofs.Common.{◌≡◌, ℕ, zero, suc, ◌+◌, ◌-◌, ◌<◌, ◌≤◌, Bool, true, false, nat_lt, List, [], ◌∷◌, refl, sym, ap, ◌∙◌, subst, arith, add-one}
+use Rattle.std.specs.Prelude.{Option, Some, None, option_map, is_some, if◌then◌else◌}
+use Rattle.std.proofs.lemmas.Option.{none-some, same_Some}
+use Rattle.std.proofs.lemmas.Bool.{false≢true}
+use Rattle.std.proofs.lemmas.Bool.Decides.{nat_tests}
+use Rattle.mini_model.specs.declared.place.Position.{Position}
+use Rattle.mini_model.specs.Paths.{Path, append, stands_for, spread, Standing, Node, Holder, Missing, standing, by_standing, is_node, width}
+use Rattle.mini_model.specs.Position.{child_position}
+use Rattle.mini_model.specs.Tree.{Tree, Trees, node, none, ◌▸◌, count, child_or_absent, shape_of, children, node_count, node_counts}
+use Rattle.mini_node.specs.Children.{rest_children, with_child}
+use Rattle.mini_node.specs.Lends.{with_children}
+use Rattle.mini_node.proofs.Lists.{smaller}
+use Rattle.mini_checker.specs.Walk.{step_at, step_in}
+use Rattle.mini_checker.specs.Made.{Made, or_else, beyond, child_with, index_in}
+use Rattle.mini_node.specs.Walks.{from_first, next_child, no_rest, with_same}
+
+-- ---- past a child or in it
+
+pub in_it : (b : Bool) (w i : ℕ) → None ≡ (if b then None else Some (i - w)) → b ≡ true
+in_it true w i e = refl
+in_it false w i e = absurd (none-some (i - w) e)
+
+pub past_it : (b : Bool) (w i r : ℕ) → Some r ≡ (if b then None else Some (i - w)) → (b ≡ false) × (r ≡ i - w)
+past_it true w i r e = absurd (none-some r (sym e))
+past_it false w i r e = (refl, same_Some r (i - w) e)
+
+-- ---- the child of an index
+
+pub record Found (ts : Trees) (i at left : ℕ) : Type 0 where
+  pub child : at + child_with (rest_children at ts) left ≡ child_with ts i
+  pub index : index_in (rest_children at ts) left ≡ index_in ts i
+
+zero_plus : (n : ℕ) → 0 + n ≡ n
+zero_plus n = omega arith
+
+pub begins : (ts : Trees) (i : ℕ) → Found ts i 0 i
+begins ts i = record {
+  child = zero_plus (child_with (rest_children 0 ts) i) ∙ ap (λ us. child_with us i) (from_first ts);
+  index = ap (λ us. index_in us i) (from_first ts);
+}
+
+pub goes_on : (ts : Trees) (i at left r : ℕ) → at < count ts → Some r ≡ beyond (width (child_or_absent ts at)) left → Found ts i at left → Found ts i (at + 1) r
+goes_on ts i at left r h e f =
+    let (test, is) = past_it (nat_lt left (width (child_or_absent ts at))) (width (child_or_absent ts at)) left r e in
+    let rest = next_child ts at h in
+    let one = add-one at in
+    record {
+      child = (λ j. one j + child_with (rest_children (one j) ts) (is j)) ∙ suc_out at (child_with (rest_children (suc at) ts) (left - width (child_or_absent ts at)))
+          ∙ sym (ap (λ b. at + (if b then 0 else suc (child_with (rest_children (suc at) ts) (left - width (child_or_absent ts at))))) test) ∙ sym (ap (λ us. at + child_with us left) rest) ∙ f.child;
+      index = (λ j. index_in (rest_children (one j) ts) (is j))
+          ∙ sym (ap (λ b. if b then left else index_in (rest_children (suc at) ts) (left - width (child_or_absent ts at))) test) ∙ sym (ap (λ us. index_in us left) rest) ∙ f.index;
+    }
+  where
+    suc_out : (a b : ℕ) → suc a + b ≡ a + suc b
+    suc_out a b = omega arith
+
+pub halts_at : (ts : Trees) (i at left : ℕ) → at < count ts → None ≡ beyond (width (child_or_absent ts at)) left → Found ts i at left → at ≡ child_with ts i
+halts_at ts i at left h e f =
+    let test = in_it (nat_lt left (width (child_or_absent ts at))) (width (child_or_absent ts at)) left e in
+    plus_none at ∙ sym (ap (λ b. at + (if b then 0 else suc (child_with (rest_children (suc at) ts) (left - width (child_or_absent ts at))))) test) ∙ sym (ap (λ us. at + child_with us left) (next_child ts at h)) ∙ f.child
+  where
+    plus_none : (a : ℕ) → a ≡ a + 0
+    plus_none a = omega arith
+
+pub halts_left : (ts : Trees) (i at left : ℕ) → at < count ts → None ≡ beyond (width (child_or_absent ts at)) left → Found ts i at left → left ≡ index_in ts i
+halts_left ts i at left h e f =
+    let test = in_it (nat_lt left (width (child_or_absent ts at))) (width (child_or_absent ts at)) left e in
+    sym (ap (λ b. if b then left else index_in (rest_children (suc at) ts) (left - width (child_or_absent ts at))) test) ∙ sym (ap (λ us. index_in us left) (next_child ts at h)) ∙ f.index
+
+pub ends_at : (ts : Trees) (i at left : ℕ) → count ts ≤ at → Found ts i at left → at ≡ child_with ts i
+ends_at ts i at left h f = plus_none at ∙ sym (ap (λ us. at + child_with us left) (no_rest ts at h)) ∙ f.child
+  where
+    plus_none : (a : ℕ) → a ≡ a + 0
+    plus_none a = omega arith
+
+pub ends_left : (ts : Trees) (i at left : ℕ) → count ts ≤ at → Found ts i at left → left ≡ index_in ts i
+ends_left ts i at left h f = sym (ap (λ us. index_in us left) (no_rest ts at h)) ∙ f.index
+
+-- ---- how many there are
+
+count_append : (ts us : Trees) → count (append ts us) ≡ count ts + count us
+count_append none us = sym (zero_plus (count us))
+count_append (t ▸ ts) us = let e = count_append ts us in omega (arith, e)
+
+no_node : (i : ℕ) → beyond 0 i ≡ Some i
+no_node i = λ h. if test i h then None else Some (rest i h)
+  where
+    test : (i : ℕ) → nat_lt i 0 ≡ false
+    test i = grind (arith, nat_tests)
+    rest : (i : ℕ) → i - 0 ≡ i
+    rest i = omega arith
+
+among_by : (b : Bool) (w n i k m j : ℕ) → nat_lt i w ≡ b → beyond n (i - w) ≡ (if nat_lt k m then None else Some j) → beyond (w + n) i ≡ (if nat_lt (if b then 0 else suc k) (suc m) then None else Some (if b then i else j))
+among_by true w n i k m j e d = here (nat_lt i (w + n)) (within i w n (lt_of i w e))
+  where
+    lt_of : (a b : ℕ) → nat_lt a b ≡ true → a < b
+    lt_of a b e = grind (arith, nat_tests)
+
+    within : (i w n : ℕ) → i < w → nat_lt i (w + n) ≡ true
+    within i w n h = grind (arith, nat_tests)
+
+    here : (b : Bool) → b ≡ true → (if b then None else Some (i - (w + n))) ≡ None
+    here true e = refl
+    here false e = absurd (false≢true e)
+among_by false w n i k m j e d = same (nat_lt i (w + n)) (nat_lt (i - w) n) (i - (w + n)) (i - w - n) (shift i w n (le_of i w e)) (omega arith) ∙ d
+  where
+    le_of : (a b : ℕ) → nat_lt a b ≡ false → b ≤ a
+    le_of a b e = grind (arith, nat_tests)
+
+    shift : (i w n : ℕ) → w ≤ i → nat_lt i (w + n) ≡ nat_lt (i - w) n
+    shift i w n h = grind (arith, nat_tests)
+
+    same : (b c : Bool) (x y : ℕ) → b ≡ c → x ≡ y → (if b then None else Some x) ≡ (if c then None else Some y)
+    same b c x y e d = λ h. if e h then None else Some (d h)
+
+-- the index is among the nodes of the children exactly where a child holds it
+pub among : (ts : Trees) (i : ℕ) → beyond (count (spread ts)) i ≡ (if nat_lt (child_with ts i) (count ts) then None else Some (index_in ts i))
+among none i = no_node i
+among (t ▸ ts) i =
+    ap (λ n. beyond n i) (count_append (stands_for t) (spread ts))
+    ∙ among_by (nat_lt i (width t)) (width t) (count (spread ts)) i (child_with ts (i - width t)) (count ts) (index_in ts (i - width t)) refl (among ts (i - width t))
+
+pub none_among : (ts : Trees) (i : ℕ) → child_with ts i < count ts → None ≡ beyond (count (spread ts)) i
+none_among ts i h = sym (among ts i ∙ ap (λ b. if b then None else Some (index_in ts i)) (test (child_with ts i) (count ts) h))
+  where
+    test : (a b : ℕ) → a < b → nat_lt a b ≡ true
+    test a b h = grind (arith, nat_tests)
+
+pub all_past : (ts : Trees) (i : ℕ) → count ts ≤ child_with ts i → Some (index_in ts i) ≡ beyond (count (spread ts)) i
+all_past ts i h = sym (among ts i ∙ ap (λ b. if b then None else Some (index_in ts i)) (test (child_with ts i) (count ts) h))
+  where
+    test : (a b : ℕ) → b ≤ a → nat_lt a b ≡ false
+    test a b h = grind (arith, nat_tests)
+
+-- ---- a step in a child
+
+abbrev pub further : Tree → ℕ → Path → Path
+further t i q = by_standing (standing (shape_of t)) q (i ∷ q) (i ∷ q)
+
+map_map : {A B C : Type 0} (f : A → B) (g : B → C) (o : Option A) → option_map g (option_map f o) ≡ option_map (λ x. g (f x)) o
+map_map f g None = refl
+map_map f g (Some x) = refl
+
+in_child_by : (f : Position → Tree → Option Tree) (π : ℕ → Position) (t : Tree) (ts : Trees) (i j k m : ℕ) (q : Path) (b : Bool) →
+    (k < count ts → step_in f (λ l. π (suc l)) ts j q ≡ option_map (with_child ts k) (step_at f (π (suc k)) (child_or_absent ts k) (further (child_or_absent ts k) m q))) →
+    (if b then 0 else suc k) < suc (count ts) →
+    (if b then option_map (λ u. u ▸ ts) (step_at f (π zero) t (further t i q)) else option_map (λ us. t ▸ us) (step_in f (λ l. π (suc l)) ts j q))
+    ≡ option_map (with_child (t ▸ ts) (if b then 0 else suc k))
+      (step_at f (π (if b then 0 else suc k)) (child_or_absent (t ▸ ts) (if b then 0 else suc k)) (further (child_or_absent (t ▸ ts) (if b then 0 else suc k)) (if b then i else m) q))
+in_child_by f π t ts i j k m q true later h = refl
+in_child_by f π t ts i j k m q false later h =
+    ap (option_map (λ us. t ▸ us)) (later (omega (arith, h)))
+    ∙ map_map (with_child ts k) (λ us. t ▸ us) (step_at f (π (suc k)) (child_or_absent ts k) (further (child_or_absent ts k) m q))
+
+in_child : (f : Position → Tree → Option Tree) (π : ℕ → Position) (ts : Trees) (i : ℕ) (q : Path) → child_with ts i < count ts →
+    step_in f π ts i q ≡ option_map (with_child ts (child_with ts i)) (step_at f (π (child_with ts i)) (child_or_absent ts (child_with ts i)) (further (child_or_absent ts (child_with ts i)) (index_in ts i) q))
+in_child f π none i q h = absurd (omega (arith, h))
+in_child f π (t ▸ ts) i q h =
+    in_child_by f π t ts i (i - width t) (child_with ts (i - width t)) (index_in ts (i - width t)) q (nat_lt i (width t)) (λ l. in_child f (λ j. π (suc j)) ts (i - width t) q l) h
+
+no_child_by : (t : Tree) (ts : Trees) (k : ℕ) (o : Option Tree) (os : Option Trees) (b : Bool) → (count ts ≤ k → os ≡ None) → suc (count ts) ≤ (if b then 0 else suc k) →
+    (if b then option_map (λ u. u ▸ ts) o else option_map (λ us. t ▸ us) os) ≡ None
+no_child_by t ts k o os true later h = absurd (omega (arith, h))
+no_child_by t ts k o os false later h = ap (option_map (λ us. t ▸ us)) (later (omega (arith, h)))
+
+no_child : (f : Position → Tree → Option Tree) (π : ℕ → Position) (ts : Trees) (i : ℕ) (q : Path) → count ts ≤ child_with ts i → step_in f π ts i q ≡ None
+no_child f π none i q h = refl
+no_child f π (t ▸ ts) i q h =
+    no_child_by t ts (child_with ts (i - width t)) (step_at f (π zero) t (further t i q)) (step_in f (λ j. π (suc j)) ts (i - width t) q) (nat_lt i (width t)) (λ l. no_child f (λ j. π (suc j)) ts (i - width t) q l) h
+
+raised : (h : Tree) (ts : Trees) (k : ℕ) (o : Option Tree) (u : Tree) (b : Bool) → ts ≡ children h → Made o (child_or_absent ts k) u b →
+    Made (option_map (λ v. with_children h (with_child ts k v)) o) h (with_children h (with_child ts k u)) b
+raised (node h xs n us) ts k None u b e m = record {
+  said = m.said;
+  tree = ap (λ v. node h xs n (with_child ts k v)) m.tree ∙ ap (node h xs n) (with_same ts k ∙ e);
+}
+raised h ts k (Some v) u b e m = record {
+  said = m.said;
+  tree = ap (λ v. with_children h (with_child ts k v)) m.tree;
+}
+
+-- what is made of the child of the index, on the rest of the path, is made of the node on the whole
+pub step_in_child : (f : Position → Tree → Option Tree) (p : Position) (t : Tree) (i : ℕ) (q : Path) (k j : ℕ) (r : Path) (u : Tree) (b : Bool) →
+    k ≡ child_with (children t) i → j ≡ index_in (children t) i → k < count (children t) → r ≡ further (child_or_absent (children t) k) j q →
+    Made (step_at f (child_position (shape_of t) p (count (children t)) k) (child_or_absent (children t) k) r) (child_or_absent (children t) k) u b →
+    Made (step_at f p t (i ∷ q)) t (with_children t (with_child (children t) k u)) b
+step_in_child f p (node h xs n ts) i q k j r u b at index inside way m =
+    subst (λ o. Made o (node h xs n ts) (node h xs n (with_child ts k u)) b) (sym whole)
+    (raised (node h xs n ts) ts k (step_at f (child_position h p (count ts) k) (child_or_absent ts k) r) u b refl m)
+  where
+    same : option_map (with_child ts k) (step_at f (child_position h p (count ts) k) (child_or_absent ts k) r)
+        ≡ option_map (with_child ts (child_with ts i)) (step_at f (child_position h p (count ts) (child_with ts i)) (child_or_absent ts (child_with ts i)) (further (child_or_absent ts (child_with ts i)) (index_in ts i) q))
+    same = ap (λ w. option_map (with_child ts k) (step_at f (child_position h p (count ts) k) (child_or_absent ts k) w)) way
+        ∙ (λ e. option_map (with_child ts (at e)) (step_at f (child_position h p (count ts) (at e)) (child_or_absent ts (at e)) (further (child_or_absent ts (at e)) (index e) q)))
+
+    whole : step_at f p (node h xs n ts) (i ∷ q) ≡ option_map (λ v. node h xs n (with_child ts k v)) (step_at f (child_position h p (count ts) k) (child_or_absent ts k) r)
+    whole = ap (option_map (node h xs n)) (in_child f (child_position h p (count ts)) ts i q (subst (λ m. m < count ts) at inside) ∙ sym same) ∙ map_map (with_child ts k) (node h xs n) (step_at f (child_position h p (count ts) k) (child_or_absent ts k) r)
+
+pub no_step : (f : Position → Tree → Option Tree) (p : Position) (t : Tree) (i : ℕ) (q : Path) (k : ℕ) → k ≡ child_with (children t) i → count (children t) ≤ k → Made (step_at f p t (i ∷ q)) t t false
+no_step f p (node h xs n ts) i q k at past =
+    let nothing = ap (option_map (node h xs n)) (no_child f (child_position h p (count ts)) ts i q (subst (λ m. count ts ≤ m) at past)) in
+    subst (λ o. Made o (node h xs n ts) (node h xs n ts) false) (sym nothing) (record { said = refl; tree = refl })
+
+-- whether the path goes on after this child, or with an index in it
+pub goes_past : (t : Tree) (j : ℕ) (q : Path) → is_node t ≡ true → q ≡ further t j q
+goes_past (node h xs n ts) j q e = by (standing h) e
+  where
+    by : (s : Standing) → by_standing s true false false ≡ true → q ≡ by_standing s q (j ∷ q) (j ∷ q)
+    by Node e = refl
+    by Holder e = absurd (false≢true e)
+    by Missing e = absurd (false≢true e)
+
+pub goes_into : (t : Tree) (j : ℕ) (q : Path) → is_node t ≡ false → j ∷ q ≡ further t j q
+goes_into (node h xs n ts) j q e = by (standing h) e
+  where
+    by : (s : Standing) → by_standing s true false false ≡ false → j ∷ q ≡ by_standing s q (j ∷ q) (j ∷ q)
+    by Node e = absurd (false≢true (sym e))
+    by Holder e = refl
+    by Missing e = refl
+
+pub child_smaller : (t : Tree) (ts : Trees) (c : Tree) (k : ℕ) → ts ≡ children t → c ≡ child_or_absent ts k → k < count ts → node_count c < node_count t
+child_smaller (node h xs n us) ts c k e d h =
+    let less : node_count (child_or_absent ts k) ≤ node_counts ts = smaller ts k h in
+    let same : node_counts ts ≡ node_counts us = ap node_counts e in
+    let is : node_count c ≡ node_count (child_or_absent ts k) = ap node_count d in
+    omega (arith, less, same, is)
+
+pub ended : (f : Position → Tree → Option Tree) (p : Position) (t u : Tree) (q : Path) (b : Bool) → q ≡ [] → Made (f p t) t u b → Made (step_at f p t q) t u b
+ended f p (node h xs n ts) u q b e m = subst (λ r. Made (step_at f p (node h xs n ts) r) (node h xs n ts) u b) (sym e) m

@@ -1,0 +1,28 @@
+use Rattle.std.proofs.Common.{◌∙◌, ap, sym, arith}
+use Rattle.mini_model.specs.Tree.{count}
+use Rattle.mini_checker.proofs.Walks.{begins, goes_on, halts_at, halts_left, ends_at, ends_left, none_among, all_past}
+use Rattle.mini_checker.proofs.walking.+indices.Goals as goal
+
+pub find-loop-at-init : goal.find-loop-at-init
+find-loop-at-init t c = begins c.args.nodes.now c.args.index
+
+pub find-returns-in-None-clause-child : goal.find-returns-in-None-clause-child
+find-returns-in-None-clause-child t c = ?
+
+pub find-returns-in-None-clause-index : goal.find-returns-in-None-clause-index
+find-returns-in-None-clause-index t c = ?
+
+pub find-loop-at-preserved : goal.find-loop-at-preserved
+find-loop-at-preserved t c = ?
+
+pub find-returns-clause-child : goal.find-returns-clause-child
+find-returns-clause-child t c = ends_at c.args.nodes.now c.args.index c.loop-at.at c.loop-at.left (omega arith) c.loop-at.invariant
+
+pub find-returns-clause-index : goal.find-returns-clause-index
+find-returns-clause-index t c = ends_left c.args.nodes.now c.args.index c.loop-at.at c.loop-at.left (omega arith) c.loop-at.invariant
+
+pub pass_all-returns-then-at-len : goal.pass_all-returns-then-at-len
+pass_all-returns-then-at-len t c = ?
+
+pub pass_all-returns-else-at-len : goal.pass_all-returns-else-at-len
+pass_all-returns-else-at-len t c = ?

@@ -1,0 +1,8 @@
+//! Logs of rewrites, checked and made.
+#![tactic(auto)]
+
+mod copying;
+mod walking;
+
+pub use copying::copy_node;
+pub use walking::{Making, step_at};
