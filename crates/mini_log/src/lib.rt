@@ -1,0 +1,4 @@
+//! Logs of rewrites: what a log proves of the program that it was replayed on.
+#![tactic(auto)]
+
+pub mod row;
