@@ -1,2 +1,2 @@
-pub mod Walk
 pub mod Made
+pub mod Forms

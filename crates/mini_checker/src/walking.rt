@@ -1,26 +1,37 @@
 //! The node to which a path leads, and what is made of it.
 
-ghost use Rattle.std.specs.Prelude.{◌≡◌, ◌<◌, ◌∷◌, ◌^◌, ℕ, Option, IfOk};
+ghost use Rattle.std.specs.Prelude.{◌≡◌, [], ◌∷◌, Option, IfOk};
 ghost use Rattle.mini_model.specs.Tree.{Tree, count};
-ghost use Rattle.mini_model.specs.Paths.{width, spread, is_node as is_it_a_node};
+ghost use Rattle.mini_model.specs.Paths.{Path, width, spread, is_node as is_it_a_node};
 ghost use Rattle.mini_model.specs.declared.place.Position.{Position};
-ghost use Rattle.mini_checker.specs.Walk.{step_at as step_at_path};
-ghost use Rattle.mini_checker.specs.Made.{Made, beyond, child_with, index_in};
+ghost use Rattle.mini_log.specs.Walk.{step_at as step_at_path, spot};
+ghost use Rattle.mini_checker.specs.Made.{Made, beyond, index_in, step_below as step_below_tree};
 
 use mini_model::{OutOfMemory, Position, Shape};
 use mini_node::{Node, Nodes};
 use mini_tree::child_place;
 use std::alloc::Global;
 
-/// What may be made of a node in its place.
+/// What may be made of a node in its place. The node is told the rest of the path that led to it.
 pub trait Making {
-    /// What is made of a tree in its place, if anything.
-    ghost makes: { Self → Position → Tree → Option Tree };
+    /// What is made of a tree in its place, told the rest of the path, if anything.
+    ghost makes: { Self → Position → Tree → Path → Option Tree };
 
-    /// Makes it, and says whether there was anything to make; else the node stays. The only error
-    /// is that memory runs out, and then the node is fit only to be dropped.
+    /// Makes it where the path ends, and says whether there was anything to make; else the node
+    /// stays. The only error is that memory runs out, and then the node is fit only to be dropped.
     fn make(&self, alloc: Global, node: &mut Node, place: Position) -> Result<bool, OutOfMemory>
-        ensures { IfOk result (Made (makes self.now place node.old) node.old node.new) };
+        ensures { IfOk result (Made (makes self.now place node.old []) node.old node.new) };
+
+    /// Makes it where the path goes on with an index and others.
+    fn make_above(
+        &self,
+        alloc: Global,
+        node: &mut Node,
+        place: Position,
+        index: u32,
+        rest: &[u32],
+    ) -> Result<bool, OutOfMemory>
+        ensures { IfOk result (Made (makes self.now place node.old (index ∷ rest.now)) node.old node.new) };
 }
 
 // Whether it is a node of ESTree, and neither absent nor what holds others.
@@ -37,7 +48,7 @@ fn is_node(node: &Node) -> bool
 // there are fewer nodes the first is the number of children, and the second by how much.
 #[cycle(indices)]
 fn find(nodes: &Nodes, index: u32) -> (usize, u32)
-    ensures child { result.0 ≡ child_with nodes.now index }
+    ensures child { result.0 ≡ spot nodes.now index }
     ensures index { result.1 ≡ index_in nodes.now index }
 {
     let mut left = index;
@@ -70,7 +81,8 @@ fn pass_all(nodes: &Nodes, index: u32) -> Option<u32>
     if at < nodes.len() { None } else { Some(left) }
 }
 
-/// Makes it of the node to which a path leads from this one, which stands there.
+/// Makes it of the first node on a path from this one, which stands there, of which it makes
+/// anything.
 #[cycle(steps)]
 pub fn step_at<M: Making>(
     making: &M,
@@ -82,12 +94,30 @@ pub fn step_at<M: Making>(
     ensures { IfOk result (Made (step_at_path (M.makes making.now) place node.old path.now) node.old node.new) }
 {
     match path.split_first() {
-        Some((index, rest)) => step_below(making, alloc, node, place, *index, rest),
+        Some((index, rest)) => step_on(making, alloc, node, place, *index, rest),
         None => making.make(alloc, node, place),
     }
 }
 
-// The same where the path begins with this index.
+// The same where the path goes on with this index.
+#[cycle(steps)]
+fn step_on<M: Making>(
+    making: &M,
+    alloc: Global,
+    node: &mut Node,
+    place: Position,
+    index: u32,
+    rest: &[u32],
+) -> Result<bool, OutOfMemory>
+    ensures { IfOk result (Made (step_at_path (M.makes making.now) place node.old (index ∷ rest.now)) node.old node.new) }
+{
+    if making.make_above(alloc, node, place, index, rest)? {
+        return Ok(true);
+    }
+    step_below(making, alloc, node, place, index, rest)
+}
+
+// The same below the node.
 #[cycle(steps)]
 fn step_below<M: Making>(
     making: &M,
@@ -97,7 +127,7 @@ fn step_below<M: Making>(
     index: u32,
     rest: &[u32],
 ) -> Result<bool, OutOfMemory>
-    ensures { IfOk result (Made (step_at_path (M.makes making.now) place node.old (index ∷ rest.now)) node.old node.new) }
+    ensures { IfOk result (Made (step_below_tree (M.makes making.now) place node.old index rest.now) node.old node.new) }
 {
     let count = node.children().len();
     let (at, left) = find(node.children(), index);
@@ -109,6 +139,6 @@ fn step_below<M: Making>(
     if is_node(child) {
         step_at(making, alloc, child, stands, rest)
     } else {
-        step_below(making, alloc, child, stands, left, rest)
+        step_on(making, alloc, child, stands, left, rest)
     }
 }
