@@ -1,5 +1,5 @@
 -- The child of an index, and a step in it.
-use Rattle.std.proofs.Common.{◌≡◌, ℕ, zero, suc, ◌+◌, ◌-◌, ◌<◌, ◌≤◌, Bool, true, false, nat_lt, List, [], ◌∷◌, refl, sym, ap, ◌∙◌, subst, arith, add-one}
+use Rattle.std.proofs.Common.{◌≡◌, ℕ, zero, suc, ◌+◌, ◌-◌, ◌<◌, ◌≤◌, Bool, true, false, nat_lt, List, [], ◌∷◌, length, refl, sym, ap, ◌∙◌, subst, arith, add-one}
 use Rattle.std.specs.Prelude.{Option, Some, None, option_map, is_some, if◌then◌else◌}
 use Rattle.std.proofs.lemmas.Option.{none-some, same_Some}
 use Rattle.std.proofs.lemmas.Bool.{false≢true}
@@ -94,7 +94,7 @@ no_node i = λ h. if test i h then None else Some (rest i h)
     rest i = omega arith
 
 among_by : (b : Bool) (w n i k m j : ℕ) → nat_lt i w ≡ b → beyond n (i - w) ≡ (if nat_lt k m then None else Some j) → beyond (w + n) i ≡ (if nat_lt (if b then 0 else suc k) (suc m) then None else Some (if b then i else j))
-among_by true w n i k m j e d = here (nat_lt i (w + n)) (within i w n (lt_of i w e))
+among_by true w n i k m j e d = here (nat_lt i (w + n)) (i - (w + n)) (within i w n (lt_of i w e)) ∙ sym (here (nat_lt 0 (suc m)) i (none_less m))
   where
     lt_of : (a b : ℕ) → nat_lt a b ≡ true → a < b
     lt_of a b e = grind (arith, nat_tests)
@@ -102,9 +102,12 @@ among_by true w n i k m j e d = here (nat_lt i (w + n)) (within i w n (lt_of i w
     within : (i w n : ℕ) → i < w → nat_lt i (w + n) ≡ true
     within i w n h = grind (arith, nat_tests)
 
-    here : (b : Bool) → b ≡ true → (if b then None else Some (i - (w + n))) ≡ None
-    here true e = refl
-    here false e = absurd (false≢true e)
+    none_less : (n : ℕ) → nat_lt 0 (suc n) ≡ true
+    none_less n = grind (arith, nat_tests)
+
+    here : (b : Bool) (x : ℕ) → b ≡ true → (if b then None else Some x) ≡ None
+    here true x e = refl
+    here false x e = absurd (false≢true e)
 among_by false w n i k m j e d = same (nat_lt i (w + n)) (nat_lt (i - w) n) (i - (w + n)) (i - w - n) (shift i w n (le_of i w e)) (omega arith) ∙ d ∙ ap (λ b. if b then None else Some j) (both_up k m)
   where
     both_up : (a b : ℕ) → nat_lt a b ≡ nat_lt (suc a) (suc b)
@@ -268,3 +271,7 @@ below f p t i q k j n h s us ts c u r b all at index list child counted shape st
     let whole : Made (step_below f p t i q) t (with_children t (with_child (children t) k u)) b =
     step_in_child f p t i q k j r u b (at ∙ ap (λ vs. spot vs i) all) (index ∙ ap (λ vs. index_in vs i) all) (subst (λ m. k < m) counted inside) (way ∙ ap (λ x. further x j q) there) second in
     subst (λ vs. Made (step_below f p t i q) t (with_children t (with_child vs k u)) b) (sym list) whole
+
+pub no_index : (q : Path) → 0 ≡ length q → q ≡ []
+no_index [] e = refl
+no_index (i ∷ q) e = absurd (omega (arith, e))

@@ -251,7 +251,8 @@ pub fn same_consequent(alloc: Global, node: &Node) -> Result<Option<Node>, OutOf
 
 // ---- 82
 
-fn has_negated_result(node: &Node) -> bool
+/// Whether the result of the expression is a `!`, as it stands.
+pub fn has_negated_result(node: &Node) -> bool
     ensures { result ≡ has_a_negated_result node.now }
 {
     matches!(
@@ -270,7 +271,8 @@ fn is_two_branched(node: &Node) -> bool
         && (is_expression_statement(node.child(1)) && is_expression_statement(node.child(2)))
 }
 
-fn is_one_branched(node: &Node) -> bool
+/// Whether the node is `if (a) b;` of an expression statement.
+pub fn is_one_branched(node: &Node) -> bool
     ensures kind { result ≡ row.is_one_branched node.now }
     ensures parts { result ≡ true → count (children node.now) ≡ 3 }
     ensures inner { result ≡ true → count (children (part node.now 1)) ≡ 1 }

@@ -247,8 +247,9 @@ pub fn copy_node(alloc: Global, node: &Node) -> Result<Node, OutOfMemory>
     Ok(Node::with(shape, name, node.number(), children))
 }
 
+/// A copy of a list of nodes. The only error is that memory runs out.
 #[cycle(nodes)]
-fn copy_nodes(alloc: Global, nodes: &Nodes) -> Result<Nodes, OutOfMemory>
+pub fn copy_nodes(alloc: Global, nodes: &Nodes) -> Result<Nodes, OutOfMemory>
     ensures { IfOk result (λ copy. copy ≡ nodes.now) }
 {
     let mut copy = Nodes::with_capacity(alloc, nodes.len())?;

@@ -49,7 +49,10 @@ fn gains(seat: Seat, node: &Node, literal: &Node) -> Result<bool, OutOfMemory>
     let place = Position::Expr(seat);
     let before = exact_weight(node, place)?;
     let after = exact_weight(literal, place)?;
-    Ok(after.saturating_add(margin(literal)) <= before)
+    match after.checked_add(margin(literal)) {
+        Some(total) => Ok(total <= before),
+        None => Err(OutOfMemory),
+    }
 }
 
 fn folded_to(seat: Seat, node: &Node, literal: Node) -> Result<Option<Node>, OutOfMemory>

@@ -4,10 +4,12 @@
 ghost use Rattle.std.specs.Prelude.{◌≡◌, IfOk};
 ghost use Rattle.mini_log.specs.RowStep.{first_lighter, node_forms};
 ghost use Rattle.mini_laws.specs.Value.{VariableSet};
-ghost use Rattle.mini_log.specs.declared.row.LogRow.TheVariants.{Row1, Row3, Row7, Row12, Row13, Row15, Row39, Row40, Row41, Row42, Row49, Row54, Row55, Row58, Row65};
+ghost use Rattle.mini_checker.specs.Forms.{marked};
+ghost use Rattle.mini_log.specs.declared.row.LogRow.TheVariants.{Row1, Row3, Row7, Row12, Row13, Row15, Row19, Row33, Row34, Row39, Row40, Row41, Row42, Row49, Row54, Row55, Row58, Row60, Row65, Row82};
 
 use crate::lighter::lighter;
-use crate::{choices, known, spellings};
+use crate::{choices, ifs, keys, known, spellings};
+use mini_context::Scopes;
 use mini_model::{OutOfMemory, Position};
 use mini_node::Node;
 use std::alloc::Global;
@@ -221,6 +223,92 @@ pub fn row_65(alloc: Global, place: Position, node: &Node) -> Result<Option<Node
     match place {
         Position::Expr(_) => {
             let made = spellings::spelled(alloc, node)?;
+            lighter(node, place, made, None)
+        }
+        _ => Ok(None),
+    }
+}
+
+/// Row 19.
+pub fn row_19(alloc: Global, place: Position, node: &Node) -> Result<Option<Node>, OutOfMemory>
+    ensures { IfOk result (λ w. (W : VariableSet) → w ≡ first_lighter place node.now (node_forms W Row19 place node.now)) }
+{
+    match place {
+        Position::Expr(_) => {
+            let made = keys::untemplated(alloc, node)?;
+            lighter(node, place, made, None)
+        }
+        _ => Ok(None),
+    }
+}
+
+/// Row 33.
+pub fn row_33(alloc: Global, place: Position, node: &Node) -> Result<Option<Node>, OutOfMemory>
+    ensures { IfOk result (λ w. (W : VariableSet) → w ≡ first_lighter place node.now (node_forms W Row33 place node.now)) }
+{
+    match place {
+        Position::Expr(_) => {
+            let made = keys::dotted_update(alloc, node)?;
+            let rest = lighter(node, place, made, None)?;
+            let made = keys::dotted_target(alloc, node)?;
+            let rest = lighter(node, place, made, rest)?;
+            let made = keys::dotted(alloc, node)?;
+            lighter(node, place, made, rest)
+        }
+        _ => Ok(None),
+    }
+}
+
+/// Row 34.
+pub fn row_34(
+    alloc: Global,
+    scopes: &Scopes,
+    place: Position,
+    node: &Node,
+) -> Result<Option<Node>, OutOfMemory>
+    ensures { IfOk result (λ w. w ≡ first_lighter place node.now (node_forms (marked scopes.now.writable) Row34 place node.now)) }
+{
+    match place {
+        Position::Expr(_) => {
+            let made = keys::combined(alloc, scopes, node)?;
+            lighter(node, place, made, None)
+        }
+        _ => Ok(None),
+    }
+}
+
+/// Row 82.
+pub fn row_82(alloc: Global, place: Position, node: &Node) -> Result<Option<Node>, OutOfMemory>
+    ensures { IfOk result (λ w. (W : VariableSet) → w ≡ first_lighter place node.now (node_forms W Row82 place node.now)) }
+{
+    match place {
+        Position::Stmt(_) => {
+            let made = ifs::else_disjoined(alloc, node)?;
+            let rest = lighter(node, place, made, None)?;
+            let made = ifs::else_conjoined(alloc, node)?;
+            let rest = lighter(node, place, made, rest)?;
+            let made = choices::conjoined(alloc, node)?;
+            let rest = lighter(node, place, made, rest)?;
+            let made = ifs::disjoined(alloc, node)?;
+            let rest = lighter(node, place, made, rest)?;
+            let made = choices::chosen(alloc, node)?;
+            lighter(node, place, made, rest)
+        }
+        _ => Ok(None),
+    }
+}
+
+/// Row 60.
+pub fn row_60(alloc: Global, place: Position, node: &Node) -> Result<Option<Node>, OutOfMemory>
+    ensures { IfOk result (λ w. (W : VariableSet) → w ≡ first_lighter place node.now (node_forms W Row60 place node.now)) }
+{
+    match place {
+        Position::Expr(_) => {
+            let made = spellings::bare_yield(alloc, node)?;
+            lighter(node, place, made, None)
+        }
+        Position::Stmt(_) => {
+            let made = spellings::bare_return(alloc, node)?;
             lighter(node, place, made, None)
         }
         _ => Ok(None),

@@ -135,13 +135,17 @@ fn is_template(node: &Node) -> bool
 
 // A list of one piece of a template.
 fn is_one_piece(node: &Node) -> bool
-    ensures { result ≡ (term.is_list_of 1 node.now && term.is_cooked (part node.now 0)) }
+    ensures parts { result ≡ true → count (children node.now) ≡ 1 }
+    ensures kind { result ≡ (term.is_list_of 1 node.now && term.is_cooked (part node.now 0)) }
 {
     is_list_of(1, node) && is_cooked(node.child(0))
 }
 
-fn is_text_template(node: &Node) -> bool
-    ensures { result ≡ term.is_text_template node.now }
+/// Whether the node is a template without expressions.
+pub fn is_text_template(node: &Node) -> bool
+    ensures kind { result ≡ term.is_text_template node.now }
+    ensures parts { result ≡ true → count (children node.now) ≡ 2 }
+    ensures inner { result ≡ true → count (children (part node.now 0)) ≡ 1 }
 {
     is_template(node) && is_one_piece(node.child(0)) && is_list_of(0, node.child(1))
 }
@@ -152,12 +156,20 @@ fn is_plain(node: &Node) -> bool
     is_literal(node) || is_text_template(node) || is_void_zero(node)
 }
 
+fn is_zero_number(node: &Node) -> bool
+    ensures { result ≡ term.is_zero_shape (shape_of node.now) }
+{
+    matches!(node.shape(), Shape::NumericLiteral(0))
+}
+
+#[tactic(auto, using(crate::proofs::Missing::no_zero))]
 fn is_first_zero(node: &Node) -> bool
     ensures { result ≡ term.is_zero_shape (shape_of (part node.now 0)) }
 {
-    match node.children().get(0) {
-        Some(first) => matches!(first.shape(), Shape::NumericLiteral(0)),
-        None => false,
+    if node.children().len() > 0 {
+        is_zero_number(node.child(0))
+    } else {
+        false
     }
 }
 
@@ -170,12 +182,20 @@ fn item_count(node: &Node) -> usize
     }
 }
 
+fn has_no_items(node: &Node) -> bool
+    ensures { result ≡ nat_eq (term.items_by (shape_of node.now) (children node.now)) 0 }
+{
+    item_count(node) == 0
+}
+
+#[tactic(auto, using(crate::proofs::Missing::no_items))]
 fn has_no_second_items(node: &Node) -> bool
     ensures { result ≡ nat_eq (term.items_by (shape_of (part node.now 1)) (children (part node.now 1))) 0 }
 {
-    match node.children().get(1) {
-        Some(second) => item_count(second) == 0,
-        None => true,
+    if node.children().len() > 1 {
+        has_no_items(node.child(1))
+    } else {
+        true
     }
 }
 

@@ -5,33 +5,42 @@ ghost use Rattle.mini_model.specs.Tree.{Tree, count};
 ghost use Rattle.mini_model.specs.Paths.{Path, width, spread, is_node as is_it_a_node};
 ghost use Rattle.mini_model.specs.declared.place.Position.{Position};
 ghost use Rattle.mini_log.specs.Walk.{step_at as step_at_path, spot};
+ghost use Rattle.mini_log.specs.declared.row.LogRow.{LogRow};
 ghost use Rattle.mini_checker.specs.Made.{Made, beyond, index_in, step_below as step_below_tree};
 
+use mini_log::row::LogRow;
 use mini_model::{OutOfMemory, Position, Shape};
 use mini_node::{Node, Nodes};
 use mini_tree::child_place;
 use std::alloc::Global;
 
-/// What may be made of a node in its place. The node is told the rest of the path that led to it.
+/// What each row may make of a node in its place, told the rest of the path on which it stands.
 pub trait Making {
-    /// What is made of a tree in its place, told the rest of the path, if anything.
-    ghost makes: { Self → Position → Tree → Path → Option Tree };
+    /// What a row makes of a tree in its place, if anything.
+    ghost makes: { Self → LogRow → Position → Tree → Path → Option Tree };
 
     /// Makes it where the path ends, and says whether there was anything to make; else the node
     /// stays. The only error is that memory runs out, and then the node is fit only to be dropped.
-    fn make(&self, alloc: Global, node: &mut Node, place: Position) -> Result<bool, OutOfMemory>
-        ensures { IfOk result (Made (makes self.now place node.old []) node.old node.new) };
+    fn make(
+        &self,
+        alloc: Global,
+        row: LogRow,
+        node: &mut Node,
+        place: Position,
+    ) -> Result<bool, OutOfMemory>
+        ensures { IfOk result (Made (makes self.now row place node.old []) node.old node.new) };
 
     /// Makes it where the path goes on with an index and others.
     fn make_above(
         &self,
         alloc: Global,
+        row: LogRow,
         node: &mut Node,
         place: Position,
         index: u32,
         rest: &[u32],
     ) -> Result<bool, OutOfMemory>
-        ensures { IfOk result (Made (makes self.now place node.old (index ∷ rest.now)) node.old node.new) };
+        ensures { IfOk result (Made (makes self.now row place node.old (index ∷ rest.now)) node.old node.new) };
 }
 
 // Whether it is a node of ESTree, and neither absent nor what holds others.
@@ -87,15 +96,16 @@ fn pass_all(nodes: &Nodes, index: u32) -> Option<u32>
 pub fn step_at<M: Making>(
     making: &M,
     alloc: Global,
+    row: LogRow,
     node: &mut Node,
     place: Position,
     path: &[u32],
 ) -> Result<bool, OutOfMemory>
-    ensures { IfOk result (Made (step_at_path (M.makes making.now) place node.old path.now) node.old node.new) }
+    ensures { IfOk result (Made (step_at_path (M.makes making.now row) place node.old path.now) node.old node.new) }
 {
     match path.split_first() {
-        Some((index, rest)) => step_on(making, alloc, node, place, *index, rest),
-        None => making.make(alloc, node, place),
+        Some((index, rest)) => step_on(making, alloc, row, node, place, *index, rest),
+        None => making.make(alloc, row, node, place),
     }
 }
 
@@ -104,17 +114,18 @@ pub fn step_at<M: Making>(
 fn step_on<M: Making>(
     making: &M,
     alloc: Global,
+    row: LogRow,
     node: &mut Node,
     place: Position,
     index: u32,
     rest: &[u32],
 ) -> Result<bool, OutOfMemory>
-    ensures { IfOk result (Made (step_at_path (M.makes making.now) place node.old (index ∷ rest.now)) node.old node.new) }
+    ensures { IfOk result (Made (step_at_path (M.makes making.now row) place node.old (index ∷ rest.now)) node.old node.new) }
 {
-    if making.make_above(alloc, node, place, index, rest)? {
+    if making.make_above(alloc, row, node, place, index, rest)? {
         return Ok(true);
     }
-    step_below(making, alloc, node, place, index, rest)
+    step_below(making, alloc, row, node, place, index, rest)
 }
 
 // The same below the node.
@@ -122,12 +133,13 @@ fn step_on<M: Making>(
 fn step_below<M: Making>(
     making: &M,
     alloc: Global,
+    row: LogRow,
     node: &mut Node,
     place: Position,
     index: u32,
     rest: &[u32],
 ) -> Result<bool, OutOfMemory>
-    ensures { IfOk result (Made (step_below_tree (M.makes making.now) place node.old index rest.now) node.old node.new) }
+    ensures { IfOk result (Made (step_below_tree (M.makes making.now row) place node.old index rest.now) node.old node.new) }
 {
     let count = node.children().len();
     let (at, left) = find(node.children(), index);
@@ -137,8 +149,8 @@ fn step_below<M: Making>(
     let stands = child_place(node.shape(), place, count, at);
     let child = node.children_mut().child_mut(at);
     if is_node(child) {
-        step_at(making, alloc, child, stands, rest)
+        step_at(making, alloc, row, child, stands, rest)
     } else {
-        step_on(making, alloc, child, stands, left, rest)
+        step_on(making, alloc, row, child, stands, left, rest)
     }
 }
