@@ -1,5 +1,5 @@
 -- A log that is replayed entry by entry.
-use Rattle.std.proofs.Common.{◌≡◌, ℕ, ◌+◌, ◌<◌, ◌≤◌, List, [], ◌∷◌, ◌++◌, length, take, slice_index_or, refl, sym, ap, ◌∙◌, subst}
+use Rattle.std.proofs.Common.{◌≡◌, ℕ, zero, suc, ◌+◌, ◌<◌, ◌≤◌, List, [], ◌∷◌, ◌++◌, length, take, slice_index_or, refl, sym, ap, ◌∙◌, subst, arith}
 use Rattle.std.specs.Prelude.{Bool, true, false, Option, Some, None, option_and_then, slice_get}
 use Rattle.std.proofs.lemmas.Bool.{false≢true}
 use Rattle.std.proofs.lemmas.List.{take_more, take_all}
@@ -39,3 +39,16 @@ replay_next F t u w log i x h e r m =
 
 pub replay_all : (F : Rows) (t u : Tree) (log : List LogEntry) (i : ℕ) → length log ≤ i → replayed_by F t (take i log) ≡ Some u → replayed_by F t log ≡ Some u
 replay_all F t u log i h r = sym (ap (replayed_by F t) (take_all i log h)) ∙ r
+
+there : (xs : List LogEntry) (i : ℕ) (d : LogEntry) → i < length xs → slice_get xs i ≡ Some (slice_index_or xs i d)
+there [] i d h = absurd (omega (arith, h))
+there (x ∷ xs) zero d h = refl
+there (x ∷ xs) (suc i) d h = there xs i d (omega (arith, h))
+
+pub stopped : (F : Rows) (t u w : Tree) (log : List LogEntry) (i : ℕ) (x : LogEntry) → i < length log → x ≡ slice_index_or log i x → replayed_by F t (take i log) ≡ Some u → Made (entry_step_by F u x) u w false → StopsAt F t w log i
+stopped F t u w log i x h e r m = record {
+  entry = x;
+  there = there log i x h ∙ ap Some (sym e);
+  before = r ∙ ap Some (sym (stays (entry_step_by F u x) u w m));
+  no_step = subst (λ y. entry_step_by F y x ≡ None) (sym (stays (entry_step_by F u x) u w m)) (none_made (entry_step_by F u x) u w m);
+}

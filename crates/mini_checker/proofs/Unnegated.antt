@@ -67,3 +67,10 @@ where_it_fits b f (Some a) e = ap (λ c. when c (f a)) e
 pub where_not : (b : Bool) (f : Tree → Tree) (o : Option Tree) → b ≡ false → None ≡ option_and_then (λ a. when b (f a)) o
 where_not b f None e = refl
 where_not b f (Some a) e = sym (ap (λ c. when c (f a)) e)
+
+-- the parts of a sequence with the last one so, or not
+pub last_some : (ts : Trees) (i : ℕ) (x : Option Tree) (v w : Tree) (us vs : Trees) → i + 1 ≡ count ts → x ≡ unnegated (child_or_absent ts i) → x ≡ Some v → us ≡ ts → vs ≡ with_child us i v → w ≡ sequence vs → Some w ≡ option_map sequence (unnegated_last ts)
+last_some ts i x v w us vs e d f g h k = ap Some (k ∙ ap sequence (h ∙ ap (λ ws. with_child ws i v) g)) ∙ sym (ap (option_map sequence) (last_of ts i e ∙ ap (option_map (with_child ts i)) (sym d ∙ f)))
+
+pub last_none : (ts : Trees) (i : ℕ) (x : Option Tree) → i + 1 ≡ count ts → x ≡ unnegated (child_or_absent ts i) → x ≡ None → None ≡ option_map sequence (unnegated_last ts)
+last_none ts i x e d f = sym (ap (option_map sequence) (last_of ts i e ∙ ap (option_map (with_child ts i)) (sym d ∙ f)))

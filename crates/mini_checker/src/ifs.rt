@@ -98,37 +98,37 @@ fn joined(
 fn unnegated_branch(
     alloc: Global,
     operator: LogicalOperator,
-    test: &Node,
-    branch: &Node,
+    node: &Node,
+    at: usize,
 ) -> Result<Option<Node>, OutOfMemory>
-    requires { count (children branch.now) ≡ 1 }
-    ensures { IfOk result (λ w. w ≡ option_map (λ a. row.joined_by operator a branch.now) (row.unnegated test.now)) }
+    requires parts { count (children node.now) ≡ 3 }
+    requires within { at < 3 }
+    requires inner { count (children (part node.now at)) ≡ 1 }
+    ensures { IfOk result (λ w. w ≡ option_map (λ a. row.joined_by operator a (part node.now at)) (row.unnegated (part node.now 0))) }
 {
-    match unnegated(alloc, test)? {
-        Some(test) => Ok(Some(joined(alloc, operator, test, branch)?)),
+    match unnegated(alloc, node.child(0))? {
+        Some(test) => Ok(Some(joined(alloc, operator, test, node.child(at))?)),
         None => Ok(None),
     }
 }
 
 /// 82: `if (!a) b;` becomes `a || b`.
-#[tactic(auto, using(crate::proofs::Unnegated::where_it_fits, crate::proofs::Unnegated::where_not))]
 pub fn disjoined(alloc: Global, node: &Node) -> Result<Option<Node>, OutOfMemory>
     ensures { IfOk result (λ w. w ≡ row.disjoined node.now) }
 {
     if is_one_branched(node) {
-        unnegated_branch(alloc, LogicalOperator::Or, node.child(0), node.child(1))
+        unnegated_branch(alloc, LogicalOperator::Or, node, 1)
     } else {
         Ok(None)
     }
 }
 
 /// 82: `if (!a); else b;` becomes `a && b`.
-#[tactic(auto, using(crate::proofs::Unnegated::where_it_fits, crate::proofs::Unnegated::where_not))]
 pub fn else_conjoined(alloc: Global, node: &Node) -> Result<Option<Node>, OutOfMemory>
     ensures { IfOk result (λ w. w ≡ row.else_conjoined node.now) }
 {
     if is_else_branched(node) {
-        unnegated_branch(alloc, LogicalOperator::And, node.child(0), node.child(2))
+        unnegated_branch(alloc, LogicalOperator::And, node, 2)
     } else {
         Ok(None)
     }

@@ -1,7 +1,7 @@
 //! The rows on templates, keys and assignments: 19, 33 and 34. Each function makes what one form of
 //! a row writes for a node, if it fits. The only error is that memory runs out.
 
-ghost use Rattle.std.specs.Prelude.{◌≡◌, ◌&&◌, true, None, Some, option_and_then, option_map, IfOk, IfSome};
+ghost use Rattle.std.specs.Prelude.{◌≡◌, ◌<◌, ◌&&◌, true, Some, option_and_then, option_map, IfOk, IfSome};
 ghost use Rattle.std.specs.Option.{option_copied};
 ghost use Rattle.mini_model.specs.Tree.{children, count, leaf, none, ◌▸◌, shape_of};
 ghost use Rattle.mini_model.specs.Numerals.{safe_number};

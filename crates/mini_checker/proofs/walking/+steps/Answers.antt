@@ -10,7 +10,7 @@ use Rattle.mini_checker.proofs.walking.+steps.Goals as goal
 pub step_at-returns-in-None : goal.step_at-returns-in-None
 step_at-returns-in-None g t c =
     let f = g.M.Making.makes c.args.making.now c.args.row in
-    subst (λ q. IfOk c.make.result (Made (step_at f c.args.place c.args.node.now q) c.args.node.now c.make.new.node)) (sym (no_index c.args.path.now c.in-None.ensures.cases))
+    subst (λ q. IfOk c.make.result (Made (step_at f c.args.place c.args.node.now q) c.args.node.now c.make.new.node)) (sym (no_index c.args.path.now (sym c.in-None.ensures.cases)))
     (IfOk-weaker c.make.result _ _ (λ b m. ended f c.args.place c.args.node.now c.make.new.node b m) c.make.ensures)
 
 pub step_below-returns-then-at-count : goal.step_below-returns-then-at-count
