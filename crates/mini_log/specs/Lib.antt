@@ -6,3 +6,4 @@ pub mod SpellingRows
 pub mod ListRows
 pub mod RowStep
 pub mod Examples
+pub mod Laws

@@ -1,6 +1,6 @@
 -- The rows of a log on a statement in its list, or in a branch or a body: 61, 66 and 79. A form is
 -- told the list, or the statement around, and the index of what the row is named by.
-use Rattle.std.specs.Prelude.{ℕ, zero, suc, Bool, true, false, not, ◌&&◌, ◌||◌, nat_le, nat_eq, Option, Some, None, option_map, option_and_then, if◌then◌else◌}
+use Rattle.std.specs.Prelude.{ℕ, zero, suc, Bool, true, false, not, ◌&&◌, nat_le, nat_eq, Option, Some, None, option_map, option_and_then, if◌then◌else◌}
 use Rattle.mini_model.specs.declared.kind.VariableDeclarationKind.TheVariants.{Let}
 use Rattle.mini_model.specs.declared.place.Position.{Position}
 use Rattle.mini_model.specs.declared.place.Position.TheVariants.{StatementList, BodyList}
@@ -9,7 +9,7 @@ use Rattle.mini_model.specs.declared.shape.Shape.TheVariants as shape
 use Rattle.mini_model.specs.Paths.{append}
 use Rattle.mini_model.specs.Tree.{Tree, Trees, none, ◌▸◌, count, shape_of, children, listed, absent, is_absent, expression_statement}
 use Rattle.mini_node.specs.Children.{part, with_part, is_bare}
-use Rattle.mini_node.specs.Kinds.{sequence, is_listed, is_named_leaf, is_sequence, is_expression_statement, is_empty_statement, is_block, is_if_statement}
+use Rattle.mini_node.specs.Kinds.{sequence, is_listed, is_named_leaf, is_sequence, is_expression_statement, is_empty_statement, is_block, is_if_shape}
 use Rattle.mini_rows.specs.Lists.{is_unscoped, are_unscoped, is_one_part}
 use Rattle.mini_log.specs.Terms.{when, is_undefined}
 use Rattle.mini_log.specs.Walk.{spot}
@@ -113,14 +113,15 @@ abbrev pub spread : Trees → Option Trees
 spread none = None
 spread (t ▸ ts) = if is_block t && are_unscoped (children (part t 0)) then Some (append (children (part t 0)) ts) else None
 
--- the child at an index is a branch or a body: of `if`, `while`, `do`, `for`, `for..in` and `for..of`
+-- the child at an index is a branch or a body: of `if`, `while`, `do`, `for`, `for..in`, `for..of`
 abbrev pub is_branch : Shape → ℕ → Bool
-is_branch shape.IfStatement i = nat_eq i 1 || nat_eq i 2
-is_branch shape.WhileStatement i = nat_eq i 1
-is_branch shape.DoWhileStatement i = nat_eq i 0
-is_branch shape.ForStatement i = nat_eq i 3
-is_branch shape.ForInStatement i = nat_eq i 2
-is_branch shape.ForOfStatement i = nat_eq i 2
+is_branch shape.IfStatement (suc zero) = true
+is_branch shape.IfStatement (suc (suc zero)) = true
+is_branch shape.WhileStatement (suc zero) = true
+is_branch shape.DoWhileStatement zero = true
+is_branch shape.ForStatement (suc (suc (suc zero))) = true
+is_branch shape.ForInStatement (suc (suc zero)) = true
+is_branch shape.ForOfStatement (suc (suc zero)) = true
 is_branch h i = false
 
 -- how many children such a statement has
@@ -132,10 +133,10 @@ arity h = 3
 
 -- an `if` with `else`
 abbrev pub has_else : Tree → Bool
-has_else t = is_if_statement t && not (is_absent (part t 2))
+has_else t = is_if_shape (shape_of t) && not (is_absent (part t 2))
 
 abbrev pub is_consequent : Shape → ℕ → Bool
-is_consequent shape.IfStatement i = nat_eq i 1
+is_consequent shape.IfStatement (suc zero) = true
 is_consequent h i = false
 
 -- it may stand there without a block: it isn't Scoped, and as a consequent no `if` with `else`

@@ -53,10 +53,10 @@ abbrev pub is_free_name : List Name → Bool
 is_free_name (x ∷ []) = is_none x.symbol
 is_free_name xs = false
 
--- and of this spelling
+-- a name of this spelling
 abbrev pub is_spelled : List ℕ → List Name → Bool
-is_spelled s (x ∷ []) = same_text x.spelling s
-is_spelled s xs = false
+is_spelled s (x ∷ xs) = same_text x.spelling s
+is_spelled s [] = false
 
 -- a name that no scope declares, as an expression
 abbrev pub is_unresolved : Tree → Bool

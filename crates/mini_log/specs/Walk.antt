@@ -10,10 +10,10 @@ abbrev pub or_else : {A : Type 0} → Option A → Option A → Option A
 or_else (Some x) y = Some x
 or_else None y = y
 
--- What f makes of the first node on the path of which it makes something, told the node's place and
--- the rest of the path from there; nothing where it makes nothing of any. A row of the node that
--- the path leads to is told an empty rest, one of the statement at an index of a list, or in a
--- branch of another, that index
+-- The tree in which f rewrites the first node on the path of which it makes something, told the
+-- node's place and the rest of the path from there; nothing where it makes nothing of any. A row of
+-- the node that the path leads to is told an empty rest, one of the statement at an index of a
+-- list, or in a branch of another, that index
 abbrev mutual
   pub step_at : (Position → Tree → Path → Option Tree) → Position → Tree → Path → Option Tree
   step_at f p (node h xs n ts) [] = f p (node h xs n ts) []

@@ -1,0 +1,10 @@
+pub mod Tests
+pub mod KnownForms
+pub mod ChoiceForms
+pub mod IfForms
+pub mod SpellingForms
+pub mod ListForms
+pub mod Walking
+pub mod Rows
+pub mod Weights
+pub mod Logs
