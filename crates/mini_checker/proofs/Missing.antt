@@ -1,5 +1,5 @@
 -- Children that aren't there.
-use Rattle.std.proofs.Common.{◌≡◌, ℕ, ◌≤◌, Bool, true, false, nat_eq, ap, ◌∙◌}
+use Rattle.std.proofs.Common.{◌≡◌, ◌≤◌, true, false, nat_eq, ap}
 use Rattle.std.specs.Prelude.{◌≡◌}
 use Rattle.mini_model.specs.Tree.{Tree, children, count, shape_of}
 use Rattle.mini_node.specs.Children.{part}

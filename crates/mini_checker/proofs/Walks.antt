@@ -1,6 +1,6 @@
 -- The child of an index, and a step in it.
-use Rattle.std.proofs.Common.{◌≡◌, ℕ, zero, suc, ◌+◌, ◌-◌, ◌<◌, ◌≤◌, Bool, true, false, nat_lt, List, [], ◌∷◌, length, refl, sym, ap, ◌∙◌, subst, arith, add-one}
-use Rattle.std.specs.Prelude.{Option, Some, None, option_map, is_some, if◌then◌else◌}
+use Rattle.std.proofs.Common.{◌≡◌, ℕ, zero, suc, ◌+◌, ◌-◌, ◌<◌, ◌≤◌, Bool, true, false, nat_lt, [], ◌∷◌, length, refl, sym, ap, ◌∙◌, subst, arith, add-one}
+use Rattle.std.specs.Prelude.{Option, Some, None, option_map, if◌then◌else◌}
 use Rattle.std.proofs.lemmas.Option.{none-some, same_Some}
 use Rattle.std.proofs.lemmas.Bool.{false≢true}
 use Rattle.std.proofs.lemmas.Bool.Decides.{nat_tests}
@@ -13,7 +13,7 @@ use Rattle.mini_node.specs.Children.{rest_children, with_child}
 use Rattle.mini_node.specs.Lends.{with_children}
 use Rattle.mini_node.proofs.Lists.{smaller}
 use Rattle.mini_log.specs.Walk.{or_else, step_at, step_in, spot}
-use Rattle.mini_checker.specs.Made.{Made, made_of, beyond, index_in, step_below}
+use Rattle.mini_checker.specs.Made.{Made, beyond, index_in, step_below}
 use Rattle.mini_node.specs.Walks.{from_first, next_child, no_rest, with_same}
 
 -- ---- past a child or in it

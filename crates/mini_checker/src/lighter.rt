@@ -1,4 +1,4 @@
-//! What is made of a node where it weighs less.
+//! The weight test: a row writes only where that weighs less.
 
 ghost use Rattle.std.specs.Prelude.{◌≡◌, nat_lt, IfOk};
 ghost use Rattle.mini_model.specs.Weight.{weight as weight_at};
@@ -29,7 +29,7 @@ fn is_lighter(first: &Node, second: &Node, place: Position) -> Result<bool, OutO
     Ok(left < right)
 }
 
-/// What was made of a node, where it weighs less than that in its place; else the rest. Memory
+/// The node that was made of another, where it weighs less in the place; else the rest. Memory
 /// counts as run out where one of them weighs 2^64 - 1 or more.
 pub fn lighter(
     node: &Node,

@@ -1,4 +1,4 @@
-//! Logs of rewrites, and what a check of one says.
+//! Logs of rewrites, and the answer of a check of one.
 
 use mini_model::{Numbers, OwnedList};
 
@@ -14,7 +14,7 @@ pub struct LogEntry {
 /// A log of rewrites, in the order in which they are made.
 pub type Log = OwnedList<LogEntry>;
 
-/// What a check of a log says.
+/// The answer of a check of a log.
 #[derive(Clone, Copy, PartialEq, Eq, Debug)]
 pub enum Verdict {
     /// Each entry in turn has a step.

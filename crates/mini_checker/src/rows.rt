@@ -1,4 +1,4 @@
-//! What each row makes of the node to which a path leads: the first of its forms that fits and is
+//! The rows at the node to which a path leads: each makes the first of its forms that fits and is
 //! lighter. The only error of each function is that memory runs out.
 
 ghost use Rattle.std.specs.Prelude.{◌≡◌, IfOk};

@@ -14,9 +14,10 @@ use mini_node::{Node, Nodes};
 use mini_tree::child_place;
 use std::alloc::Global;
 
-/// What each row may make of a node in its place, told the rest of the path on which it stands.
+/// The rows, each of which may make something of a node in its place, told the rest of the path on
+/// which the node stands.
 pub trait Making {
-    /// What a row makes of a tree in its place, if anything.
+    /// The tree that a row makes of another in its place, if it makes any.
     ghost makes: { Self → LogRow → Position → Tree → Path → Option Tree };
 
     /// Makes it where the path ends, and says whether there was anything to make; else the node

@@ -1,7 +1,7 @@
-use Rattle.std.proofs.Common.{◌≡◌, ◌-◌, ◌∙◌, ap, sym, arith}
+use Rattle.std.proofs.Common.{◌-◌, ◌∙◌, ap, sym, arith}
 use Rattle.std.specs.Prelude.{option_map}
 use Rattle.std.proofs.lemmas.Result.{IfOk-weaker}
-use Rattle.mini_model.specs.Tree.{children, count}
+use Rattle.mini_model.specs.Tree.{children}
 use Rattle.mini_node.specs.Kinds.{sequence}
 use Rattle.mini_log.specs.ChoiceRows.{unnegated, unnegated_last}
 use Rattle.mini_checker.proofs.Unnegated.{of_several, of_other, last_some, last_none}

@@ -1,4 +1,4 @@
-use Rattle.std.proofs.Common.{◌≡◌, ◌∙◌, ap, sym, subst}
+use Rattle.std.proofs.Common.{◌∙◌, ap, sym, subst}
 use Rattle.mini_checker.specs.Made.{Made}
 use Rattle.mini_checker.specs.Checked.{StopsAt, entry_step_by, replayed_by}
 use Rattle.mini_checker.proofs.Replays.{replay_next, replay_all, stopped}

@@ -1,6 +1,5 @@
-use Rattle.std.proofs.Common.{◌≡◌, ◌∙◌, ap, sym, subst, arith}
+use Rattle.std.proofs.Common.{◌≡◌, ◌∙◌, ap, subst, arith}
 use Rattle.std.specs.Prelude.{None, Some}
-use Rattle.mini_model.specs.Tree.{count}
 use Rattle.mini_model.specs.Paths.{width}
 use Rattle.mini_checker.specs.Made.{beyond}
 use Rattle.mini_checker.proofs.Walks.{begins, goes_on, halts_at, halts_left, ends_at, ends_left, none_among, all_past}

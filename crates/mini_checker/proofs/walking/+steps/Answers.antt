@@ -1,10 +1,10 @@
-use Rattle.std.proofs.Common.{◌≡◌, ◌<◌, ◌∷◌, ◌∙◌, ap, sym, subst, arith}
-use Rattle.std.specs.Prelude.{IfOk, true}
+use Rattle.std.proofs.Common.{◌<◌, ◌∷◌, ◌∙◌, ap, sym, subst, arith}
+use Rattle.std.specs.Prelude.{IfOk}
 use Rattle.std.proofs.lemmas.Result.{IfOk-weaker}
 use Rattle.mini_model.specs.Tree.{count, node_count}
 use Rattle.mini_log.specs.Walk.{step_at, spot}
 use Rattle.mini_checker.specs.Made.{Made}
-use Rattle.mini_checker.proofs.Walks.{below, no_index, no_step, goes_past, goes_into, child_smaller, ended, here_first, below_next, as_large}
+use Rattle.mini_checker.proofs.Walks.{below, no_index, no_step, goes_past, goes_into, child_smaller, ended, here_first}
 use Rattle.mini_checker.proofs.walking.+steps.Goals as goal
 
 pub step_at-returns-in-None : goal.step_at-returns-in-None
