@@ -11,8 +11,8 @@ pub use mini_terms::{ConstantValue, evaluate_value, is_true, operand_value, valu
 pub use rewrites::fold_binary::fold_binary_expr;
 pub use rewrites::fold_constants::{FoldConstants, fold_constant};
 pub use rewrites::fold_known::{
-    FoldKnown, fold_conditional, fold_expression, fold_logical_expression,
-    fold_statement, remove_unused_expression,
+    FoldKnown, fold_conditional, fold_expression, fold_logical_expression, fold_statement,
+    remove_unused_expression,
 };
 pub use rewrites::fold_operands::{FoldOperands, fold_operands};
 pub use rewrites::fold_operators::fold_delete;

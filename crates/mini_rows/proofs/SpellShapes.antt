@@ -344,7 +344,6 @@ expression_fits q n w (BareYield r) = anywhere q n w (by_shape n w (yields void_
 expression_fits q n w (OrderedTypeof r) = anywhere q n w (by_shape n w (binary r.operator (typeof_name r.name) (text (codes "undefined"))) (binary (ordered r.operator) (typeof_name r.name) (text (codes "u"))) r.shape r.written (λ strict s. stands strict (a_binary r.operator) (a_binary (ordered r.operator)) (typeof_name r.name ▸ text (codes "undefined") ▸ none) (typeof_name r.name ▸ text (codes "u") ▸ none) (typeof_stands strict r.operator (ordered r.operator) (typeof_name r.name) (codes "undefined") (codes "u") (u_fits strict)) s))
 expression_fits q n w (PlainTemplate r) = λ strict s v e. subst (λ t. fits strict s t ≡ true) (sym r.written) (text_fits r.is_tail r.raw r.content strict q s v (subst (λ t. fits strict s t ≡ true) r.shape e))
 expression_fits q n w (ComparedWithVoid r) = anywhere q n w (by_shape n w (binary r.operator (unary Typeof r.operand) (text (codes "undefined"))) (binary (strict_operator r.operator) r.operand void_zero) r.shape r.written (λ strict s. stands strict (a_binary r.operator) (a_binary (strict_operator r.operator)) (unary Typeof r.operand ▸ text (codes "undefined") ▸ none) (r.operand ▸ void_zero ▸ none) (operators_stand strict r.operator (strict_operator r.operator) (unary Typeof r.operand) (text (codes "undefined")) r.operand void_zero (λ x y. (typed_fits strict r.operand x, refl))) s))
-
 expression_fits q n w (Stepped r) = anywhere q n w (by_shape n w (subtracts r.operator r.target) (steps r.operator r.target) r.shape r.written (λ strict s. stands strict (an_assignment Subtraction) (an_update r.operator true) (r.target ▸ amount r.operator ▸ none) (r.target ▸ none) (step_stands strict r.operator r.target) s))
 
 -- ---- what a parent asks
