@@ -15,8 +15,8 @@
 // A line tells of each rewrite that is left: its row, whether it is known
 // (bench/redex/known.js; told with --all) or NEW, the JSON pointer of the node, the node, and what
 // would be written. WIDER is told of each part that a pass changed though no row reads anything in
-// it or around it (bench/redex/passes.js): programs are given to PROGRAM one pass at a time. A table
-// by row comes last. The status is 1 where something is new.
+// it or around it (bench/redex/passes.js): programs are given to PROGRAM one pass at a time. A
+// table by row comes last. The status is 1 where something is new.
 "use strict";
 const fs = require("fs");
 const path = require("path");

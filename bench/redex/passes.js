@@ -32,7 +32,8 @@ function* changedParts(before, after, pointer = "") {
 const isWithin = (inner, outer) => inner === outer || inner.startsWith(`${outer}/`);
 
 // What a pointer leads to.
-const at = (program, pointer) => pointer.split("/").slice(1).reduce((node, key) => node[key], program);
+const at = (program, pointer) =>
+  pointer.split("/").slice(1).reduce((node, key) => node[key], program);
 
 // The parts of a program that a pass changed and no row reads: each before and after, as the pass
 // found them and left them. A row that reads a node around a part, or one inside of it, may be what
@@ -41,7 +42,8 @@ function unaskedFor(before, after) {
   const parts = [...changedParts(before, after)];
   if (parts.length === 0) return [];
   const read = search(before).map(({ pointer }) => pointer);
-  const isRead = (part) => read.some((pointer) => isWithin(part, pointer) || isWithin(pointer, part));
+  const isRead = (part) =>
+    read.some((pointer) => isWithin(part, pointer) || isWithin(pointer, part));
   return parts.filter((part) => !isRead(part)).map((pointer) => ({
     pointer, before: at(before, pointer), after: at(after, pointer),
   }));
