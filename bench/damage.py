@@ -1,38 +1,44 @@
 #!/usr/bin/env python3
-"""Feeds damaged and odd programs to the built program, and looks at how each run ends. Builds nothing.
+"""Feeds damaged and odd programs to the built program, and looks at how each run ends.
 
     python3 bench/damage.py [PROGRAM [COUNT [SEED [JOBS]]]]
 
-PROGRAM is crates/mini_app/out/mini_app of this repository unless it is given, SEED is 1 and JOBS is 4. COUNT is how many
-damaged inputs there are, 10,000 unless it is given, or with an `s` behind it for how many seconds some are made, as `120s`.
+PROGRAM is crates/mini_app/out/mini_app of this repository unless it is given, SEED is 1 and JOBS
+is 4. COUNT is how many damaged inputs there are, 10,000 unless it is given, or with an `s` behind
+it for how many seconds some are made, as `120s`. `=N` writes the damaged input N of the seed to
+standard output, its words to standard error, and runs nothing. Of the program nothing is built;
+the C compiler `cc` makes a launcher (bench/launch.py).
 
-First come odd inputs whose status is known: JSON that nests to and past the limits, names and texts of 1 MB, 2,000,000
-keys, UTF-8 cut in two, and inputs as long as the limit and longer. Then comes one of examples/*.json, of bench/forms.js
-(which wants node) or of the stored runs of crates/mini_cases at a time, with one to four damages: of the tree (nodes
-dropped, doubled, moved, swapped, wrapped in negations, named or typed otherwise, and lists made many times as long), or of
-that and then of the text (bits, bytes and tokens).
+First come odd inputs whose status is known: JSON that nests to and past the limits, names and texts
+of 1 MB, 2,000,000 keys, UTF-8 cut in two, and inputs as long as the limit and longer. Then comes
+one of examples/*.json, of bench/forms.js (which wants node) or of the stored runs of
+crates/mini_cases at a time, with one to four damages: of the tree (nodes dropped, doubled, moved,
+copied, swapped, wrapped in negations, named or typed otherwise, and lists made many times as long),
+or of that and then of the text (bits, bytes and tokens). Every fourth is run with words.
 
-Each run must end with a status of its table that such a run can have (0, 2 or 3; 6 beyond the limit), write to standard
-output only with status 0, one line of JSON with the members of an answer, and tell of a refusal, in one line, only with
-status 3. The last lines have how often each status came, and which inputs took the most processor time and memory a
-byte, beside the median of those that are answered: a run's own part, that of an empty script being taken away, and an
-input counting as LEAST bytes at least. Above TIMES the median is wrong.
+Each run must end with a status of its table that such a run can have (0, 2 or 3; 6 beyond the
+limit), write to standard output only with status 0, one line of JSON with the members of an answer,
+and tell of a refusal, in one line, only with status 3. The last lines have how often each status
+came, and which inputs took the most processor time and memory a byte, beside the median of those
+that are answered: a run's own part, that of an empty script being taken away, and an input counting
+as LEAST bytes at least. Above TIMES the median is wrong.
 """
 
+import array
 import collections
-import copy
+import heapq
 import json
-import os
+import marshal
 import pathlib
 import random
 import re
 import statistics
-import subprocess
 import sys
 import tempfile
 import time
-from concurrent.futures import ThreadPoolExecutor
+from concurrent.futures import FIRST_COMPLETED, ProcessPoolExecutor, wait
 
+import launch
 from memory import forms
 
 ROOT = pathlib.Path(__file__).resolve().parent.parent
@@ -43,6 +49,8 @@ LEAST = 50_000  # bytes that an input counts at least where time and memory a by
 TIMES = 10  # times the median that an input may take a byte
 LONG = 200_000  # bytes up to which lists are made longer
 SECONDS = 120  # that a run may take
+CHUNK = 500  # damaged inputs that a process makes at a time
+WORST = 5  # inputs that are told
 NOTE = re.compile(rb"refused: (BadShape|Unsupported|TooDeep|EarlyName|EarlyJump) at [^\n]*\n")
 MEMBERS = ["kept", "passes", "program", "settled", "symbols"]
 TOKEN = re.compile(rb'"(?:[^"\\]|\\.)*"|[\w.+-]+|[^\w\s]')
@@ -56,8 +64,15 @@ def name(text):
 
 def negations(argument, times):
     for _ in range(times):
-        argument = {"type": "UnaryExpression", "operator": "!", "prefix": True, "argument": argument}
+        head = {"type": "UnaryExpression", "operator": "!", "prefix": True}
+        argument = {**head, "argument": argument}
     return argument
+
+
+def call(value):
+    """A call of `f` on a literal."""
+    argument = {"type": "Literal", "value": value}
+    return {"type": "CallExpression", "callee": name("f"), "arguments": [argument]}
 
 
 def script(*expressions):
@@ -66,7 +81,8 @@ def script(*expressions):
 
 
 def text(value):
-    return json.dumps(value, separators=(",", ":"), ensure_ascii=False).encode("utf-8", "surrogatepass")
+    found = json.dumps(value, separators=(",", ":"), ensure_ascii=False)
+    return found.encode("utf-8", "surrogatepass")
 
 
 # ---- odd inputs
@@ -97,25 +113,31 @@ def cut_character(value, piece, at):
     return text(value).replace(piece, piece[:at])
 
 
+def negated(times):
+    return f"{times} negations", text(script(negations(name("a"), times)))
+
+
 def deep_inputs():
-    # A statement's expression stands 3 deep, as JSON and as a node; each negation adds a level to both.
+    # A statement's expression stands 3 deep, as JSON and as a node; each negation adds a level.
     for times in range(DEPTH - 5, DEPTH):
-        yield f"{times} negations", text(script(negations(name("a"), times))), 0 if times + 3 <= DEPTH else 3
+        yield *negated(times), 0 if times + 3 <= DEPTH else 3
     for times in range(NESTING - 5, NESTING + 1):
-        yield f"{times} negations", text(script(negations(name("a"), times))), 3 if times + 4 <= NESTING else 2
+        yield *negated(times), 3 if times + 4 <= NESTING else 2
     for times in (NESTING - 1, NESTING, NESTING + 1, 1_000, LIMIT // 2):
         yield f"{times} lists", nest_text(times, b"[", b"", b"]"), 3 if times <= NESTING else 2
         yield f"{times} lists that don't end", b"[" * times, 2
     for times in (NESTING - 1, NESTING, NESTING + 1, 1_000, LIMIT // 8):
-        yield f"{times} objects", nest_text(times, b'{"a":', b"0", b"}"), 3 if times <= NESTING else 2
+        nested = nest_text(times, b'{"a":', b"0", b"}")
+        yield f"{times} objects", nested, 3 if times <= NESTING else 2
 
 
 def long_inputs():
     million = "a" * 1_000_000
     yield "a name of 1 MB", text(script(name(million))), 0
-    yield "a name of 1 MB, of characters of four bytes", text(script(name("\U00010330" * 250_000))), 0
+    gothic = "\U00010330" * 250_000
+    yield "a name of 1 MB, of characters of four bytes", text(script(name(gothic))), 0
     yield "a name of 1 MB that ends badly", text(script(name(million + "-"))), 3
-    yield "a text of 1 MB", text(script({"type": "CallExpression", "callee": name("f"), "arguments": [{"type": "Literal", "value": million}]})), 0
+    yield "a text of 1 MB", text(script(call(million))), 0
     yield "a type of 1 MB", text({"type": million}), 3
     yield "a key of 1 MB", text({**script(), million: 0}), 0
     yield "a number of 1 MB", text(script()).replace(b"[]", b"9" * 1_000_000), 2
@@ -132,7 +154,8 @@ def long_inputs():
 def broken_texts():
     for piece in ("é", "€", "\U00010330"):
         for at in range(1, len(piece.encode())):
-            yield f"a name with {at} bytes of {piece}", cut_character(script(name(f"a{piece}b")), piece.encode(), at), 2
+            named = cut_character(script(name(f"a{piece}b")), piece.encode(), at)
+            yield f"a name with {at} bytes of {piece}", named, 2
             yield f"{at} bytes of {piece} at the end", text(script()) + piece.encode()[:at], 2
     for piece in (b"\xc0\x80", b"\xed\xa0\x80", b"\xf4\x90\x80\x80", b"\xff", b"\x80"):
         yield f"a name with {piece!r}", text(script(name("a#b"))).replace(b"#", piece), 2
@@ -157,15 +180,25 @@ def places(value):
     ahead = [value]
     while ahead:
         at = ahead.pop()
-        keys = at.keys() if isinstance(at, dict) else range(len(at)) if isinstance(at, list) else ()
-        for here in keys:
-            found.append((at, here))
-            ahead.append(at[here])
+        if type(at) is dict:
+            found += [(at, key) for key in at]
+            ahead += [inner for inner in at.values() if type(inner) in (dict, list)]
+        elif type(at) is list:
+            found += [(at, key) for key in range(len(at))]
+            ahead += [inner for inner in at if type(inner) in (dict, list)]
     return found
 
 
 def nodes(value):
-    return [(at, here) for at, here in places(value) if isinstance(at[here], dict) and "type" in at[here]]
+    return [(at, here) for at, here in places(value) if is_node(at[here])]
+
+
+def is_node(value):
+    return type(value) is dict and "type" in value
+
+
+def copied(value):
+    return marshal.loads(marshal.dumps(value))
 
 
 def drop_node(program, chance):
@@ -179,9 +212,9 @@ def drop_node(program, chance):
 def double_node(program, chance):
     at, here = chance.choice(nodes(program))
     if isinstance(at, list):
-        at[here:here] = [copy.deepcopy(at[here]) for _ in range(chance.randint(1, 3))]
+        at[here:here] = [copied(at[here]) for _ in range(chance.randint(1, 3))]
     else:
-        at[here] = [at[here], copy.deepcopy(at[here])]
+        at[here] = [at[here], copied(at[here])]
 
 
 def lengthen_list(program, chance):
@@ -189,23 +222,41 @@ def lengthen_list(program, chance):
     at, here = chance.choice(nodes(program))
     if isinstance(at, list):
         most = LONG // (len(text(at)) + 1)
-        at[:] = [copy.deepcopy(item) for _ in range(chance.randint(1, max(1, most))) for item in at]
+        at[:] = [copied(item) for _ in range(chance.randint(1, max(1, most))) for item in at]
+
+
+def place(to, there, node, chance):
+    """Puts a node at a place, or before it in a list."""
+    if isinstance(to, list) and (chance.random() < 0.5 or there >= len(to)):
+        to.insert(there, node)
+    else:
+        to[there] = node
+
+
+def copy_node(program, chance):
+    found = nodes(program)
+    (at, here), (to, there) = chance.choice(found), chance.choice(found)
+    place(to, there, copied(at[here]), chance)
 
 
 def move_node(program, chance):
+    """Puts a node elsewhere, and a null in its place, or nothing."""
     found = nodes(program)
     (at, here), (to, there) = chance.choice(found), chance.choice(found)
-    moved = copy.deepcopy(at[here])
-    if isinstance(to, list) and chance.random() < 0.5:
-        to.insert(there, moved)
+    node = at[here]
+    if at is program or to is at or to is node:
+        return copy_node(program, chance)
+    if chance.random() < 0.5:
+        at[here] = None
     else:
-        to[there] = moved
+        del at[here]
+    place(to, there, copied(node), chance)
 
 
 def swap_nodes(program, chance):
     found = nodes(program)
     (at, here), (to, there) = chance.choice(found), chance.choice(found)
-    at[here], to[there] = copy.deepcopy(to[there]), copy.deepcopy(at[here])
+    at[here], to[there] = copied(to[there]), copied(at[here])
 
 
 def wrap_node(program, chance):
@@ -215,18 +266,30 @@ def wrap_node(program, chance):
 
 def change_text(program, chance):
     """Gives a name, a type or another text that of another place."""
-    found = [(at, here) for at, here in places(program) if isinstance(at[here], str)]
+    found = [(at, here) for at, here in places(program) if type(at[here]) is str]
     (at, here), (to, there) = chance.choice(found), chance.choice(found)
     at[here] = to[there]
 
 
 def change_plain(program, chance):
-    found = [(at, here) for at, here in places(program) if not isinstance(at[here], (dict, list))]
+    found = [(at, here) for at, here in places(program) if type(at[here]) not in (dict, list)]
     at, here = chance.choice(found)
-    at[here] = chance.choice((None, True, False, 0, 1, -1, 1.5, 2**53, 10**400, "", "a", "eval", "arguments", "\ud800", [], {}))
+    numbers, texts = (0, 1, -1, 1.5, 2**53, 10**400), ("", "a", "eval", "arguments", "\ud800")
+    at[here] = chance.choice((None, True, False, *numbers, *texts, [], {}))
 
 
-TREE_DAMAGES = (drop_node, double_node, lengthen_list, move_node, swap_nodes, wrap_node, change_text, change_plain)
+SHORT_DAMAGES = (
+    drop_node,
+    double_node,
+    copy_node,
+    move_node,
+    swap_nodes,
+    wrap_node,
+    change_text,
+    change_plain,
+)
+# Long lists take most of the time, and come in one of some hundred damages.
+TREE_DAMAGES = SHORT_DAMAGES * 12 + (lengthen_list,)
 
 # ---- damage of text
 
@@ -257,12 +320,13 @@ def change_token(data, chance):
 
 
 TEXT_DAMAGES = (flip_bit, cut_bytes, repeat_bytes, change_token)
+MIXED_DAMAGES = TREE_DAMAGES + TEXT_DAMAGES * 12
 
 
 def damaged(texts, chance):
-    """A copy of one of the texts, with one to four damages."""
+    """A copy of one of the texts, with one to four damages, and their names."""
     program = [json.loads(chance.choice(texts))]
-    kinds = TREE_DAMAGES if chance.random() < 0.7 else TREE_DAMAGES + TEXT_DAMAGES
+    kinds = TREE_DAMAGES if chance.random() < 0.7 else MIXED_DAMAGES
     damages = [chance.choice(kinds) for _ in range(chance.randint(1, 4))]
     for damage in damages:
         if damage in TREE_DAMAGES and nodes(program):
@@ -274,25 +338,40 @@ def damaged(texts, chance):
     return ", ".join(damage.__name__ for damage in damages), bytes(data)
 
 
+WORDS = (
+    "--no-sequences",
+    "--no-join-vars",
+    "--keep-function-names",
+    "--keep-class-names",
+    "--pure-coercion",
+    "--known-calls",
+    "--passes=1",
+    "--max-depth=1000",
+    "--max-depth=5",
+)
+
+
+def some_words(chance):
+    """No words mostly, or good ones."""
+    if chance.random() < 0.75:
+        return []
+    found = chance.sample(WORDS, chance.randint(1, 4))
+    depths = [word for word in found if word.startswith("--max-depth")]
+    return [word for word in found if word not in depths[1:]]
+
+
+def damaged_input(texts, seed, number):
+    """The damaged input of a number: what it is called, its words and its bytes."""
+    chance = random.Random(f"{seed} {number}")
+    label, data = damaged(texts, chance)
+    words = some_words(chance)
+    return " ".join([f"damaged input {number} of {seed} ({label})", *words]), words, data
+
+
 # ---- runs
 
-Run = collections.namedtuple("Run", "status output told seconds memory")
 
-
-def run(program, data):
-    """How a run ended, its seconds of processor and its greatest memory."""
-    with tempfile.TemporaryFile() as given, tempfile.TemporaryFile() as output, tempfile.TemporaryFile() as told:
-        given.write(data)
-        given.seek(0)
-        process = subprocess.Popen(["timeout", str(SECONDS), program], stdin=given, stdout=output, stderr=told)
-        _, state, usage = os.wait4(process.pid, 0)
-        process.returncode = os.waitstatus_to_exitcode(state)
-        output.seek(0)
-        told.seek(0)
-        return Run(process.returncode, output.read(), told.read(), usage.ru_utime + usage.ru_stime, usage.ru_maxrss * 1024)
-
-
-def fault(data, ended, wanted):
+def fault(ended, wanted):
     """What is wrong with how a run ended, or nothing. The status that is wanted is one of these."""
     if ended.status not in wanted:
         return f"status {ended.status}"
@@ -300,13 +379,18 @@ def fault(data, ended, wanted):
         return f"status {ended.status}, and {len(ended.output)} bytes written"
     if bool(ended.told) != (ended.status == 3) or ended.told and not NOTE.fullmatch(ended.told):
         return f"status {ended.status}, and told {ended.told!r}"
-    if ended.status == 0 and (sorted(members(ended.output)) != MEMBERS or ended.output.count(b"\n") != 1 or ended.output[-1:] != b"\n"):
+    if ended.status == 0 and not is_answer(ended.output):
         return "no answer"
     return None
 
 
+def is_answer(output):
+    """Whether it is one line, of an answer."""
+    return output.count(b"\n") == 1 and output[-1:] == b"\n" and sorted(members(output)) == MEMBERS
+
+
 def members(output):
-    """The members of an answer, which may nest too deep for python's reader: those of its outermost object."""
+    """The members of an answer, which may nest too deep for python's reader."""
     try:
         return list(json.loads(output))
     except RecursionError:
@@ -318,47 +402,68 @@ def members(output):
 class Costs:
     """What a byte of input takes, of one of time and memory."""
 
-    def __init__(self, what, unit, base):
-        self.what, self.unit, self.base = what, unit, base
-        self.answered, self.all = [], []
+    def __init__(self, base):
+        self.base = base
+        self.answered, self.all, self.worst = array.array("d"), array.array("d"), []
 
     def add(self, label, data, ended, cost):
         each = max(0, cost - self.base) / max(LEAST, len(data))
-        self.all.append((each, len(data), label))
+        self.all.append(each)
         if ended.status == 0 and len(data) >= LEAST:
             self.answered.append(each)
+        self.keep([(each, len(data), label)])
 
-    def tell(self):
+    def keep(self, more):
+        self.worst = heapq.nlargest(WORST, self.worst + more)
+
+    def merge(self, other):
+        self.answered += other.answered
+        self.all += other.all
+        self.keep(other.worst)
+
+    def tell(self, what, unit):
         """Prints the median and the worst, and answers how many are above the bound."""
-        if not self.answered:
+        median = statistics.median(self.answered or [0])
+        if median == 0:
             return 0
-        median = statistics.median(self.answered)
-        worst = sorted(self.all, reverse=True)[:5]
-        print(f"{self.what} a MB: median {median * 1e6 * self.unit:.3f} of {len(self.answered)} answered inputs of {LEAST} bytes and more; the worst:")
-        for each, size, label in worst:
-            print(f"  {each * 1e6 * self.unit:.3f}, {each / median:.1f} times: {label}, {size} bytes")
-        return sum(each > TIMES * median for each, _, _ in self.all)
+        count = f"{len(self.answered)} answered inputs of {LEAST} bytes and more"
+        print(f"{what} a MB: median {median * 1e6 * unit:.3f} of {count}; the worst:")
+        for each, size, label in self.worst:
+            times = f"{each / median:.1f} times"
+            print(f"  {each * 1e6 * unit:.3f}, {times}: {label}, {size} bytes")
+        return sum(each > TIMES * median for each in self.all)
 
 
 class Results:
+    """How runs ended, and what they took beside a run on an empty script."""
+
     def __init__(self, base):
-        self.statuses = collections.Counter()
-        self.wrong = 0
-        self.costs = [Costs("seconds", 1, base.seconds), Costs("MiB", 1 / 2**20, base.memory)]
+        self.statuses, self.faults = collections.Counter(), []
+        self.seconds, self.memory = Costs(base.seconds), Costs(base.memory)
 
     def add(self, label, data, ended, wanted):
         self.statuses[ended.status] += 1
-        found = fault(data, ended, wanted)
+        found = fault(ended, wanted)
         if found:
-            self.wrong += 1
-            print(f"{found}: {label}: {data[:2000]!r}")
-        for costs, cost in zip(self.costs, (ended.seconds, ended.memory)):
-            costs.add(label, data, ended, cost)
+            self.faults.append(f"{found}: {label}: {data[:2000]!r}")
+        self.seconds.add(label, data, ended, ended.seconds)
+        self.memory.add(label, data, ended, ended.memory)
 
-    def tell(self, inputs):
-        above = sum(costs.tell() for costs in self.costs)
-        print(f"{inputs} inputs, {self.wrong} wrong, {above} above {TIMES} times the median; by status: {dict(sorted(self.statuses.items()))}")
-        return 1 if self.wrong or above else 0
+    def merge(self, other):
+        self.statuses += other.statuses
+        self.faults += other.faults
+        self.seconds.merge(other.seconds)
+        self.memory.merge(other.memory)
+
+    def tell(self):
+        for found in self.faults:
+            print(found)
+        above = self.seconds.tell("seconds", 1) + self.memory.tell("MiB", 1 / 2**20)
+        inputs, wrong = sum(self.statuses.values()), len(self.faults)
+        statuses = dict(sorted(self.statuses.items()))
+        outcome = f"{wrong} wrong, {above} above {TIMES} times the median"
+        print(f"{inputs} inputs, {outcome}; by status: {statuses}")
+        return 1 if wrong or above else 0
 
 
 def stored_programs():
@@ -371,37 +476,83 @@ def stored_programs():
     return texts
 
 
-def damaged_inputs(count, seed):
-    """So many damaged inputs, or as many as are made in so many seconds."""
-    texts, chance = stored_programs(), random.Random(seed)
+class Share:
+    """What one of the processes that make and run damaged inputs holds."""
+
+    def __init__(self, made, program, seed):
+        self.launcher, self.seed = launch.Launcher(made, program, SECONDS), seed
+        self.texts, self.base = stored_programs(), base_of(self.launcher)
+
+    def run(self, numbers):
+        results = Results(self.base)
+        for number in numbers:
+            label, words, data = damaged_input(self.texts, self.seed, number)
+            wanted = (6,) if len(data) > LIMIT else (0, 2, 3)
+            results.add(label, data, self.launcher.run(data, words), wanted)
+        return results
+
+
+SHARE = []
+
+
+def start_share(made, program, seed):
+    SHARE.append(Share(made, program, seed))
+
+
+def run_share(numbers):
+    return SHARE[0].run(numbers)
+
+
+def base_of(launcher):
+    """The least that a run takes: the median of runs on an empty script."""
+    runs = [launcher.run(text(script())) for _ in range(9)]
+    return sorted(runs, key=lambda run: run.seconds)[len(runs) // 2]
+
+
+def chunks(count):
+    """The numbers of the damaged inputs, in ranges: so many, or till so many seconds are over."""
     ends = time.monotonic() + float(count[:-1]) if count.endswith("s") else None
-    made = 0
-    while time.monotonic() < ends if ends else made < int(count):
-        made += 1
-        label, data = damaged(texts, chance)
-        yield f"damaged input {made} ({label})", data
+    last = 10**12 if ends else int(count)
+    for first in range(0, last, CHUNK):
+        if ends and time.monotonic() > ends:
+            return
+        yield range(first, min(first + CHUNK, last))
+
+
+def run_damaged(made, program, count, seed, jobs, results):
+    """Runs the damaged inputs, in so many processes."""
+    with ProcessPoolExecutor(jobs, initializer=start_share, initargs=(made, program, seed)) as pool:
+        waiting = set()
+        for numbers in chunks(count):
+            waiting.add(pool.submit(run_share, numbers))
+            while len(waiting) > jobs * 2:
+                done, waiting = wait(waiting, return_when=FIRST_COMPLETED)
+                for ended in done:
+                    results.merge(ended.result())
+        for ended in waiting:
+            results.merge(ended.result())
+
+
+def show(seed, number):
+    label, _, data = damaged_input(stored_programs(), seed, number)
+    sys.stdout.buffer.write(data)
+    print(label, file=sys.stderr)
 
 
 def main():
     words = sys.argv[1:] + [None] * 4
     program = words[0] or str(ROOT / "crates/mini_app/out/mini_app")
     count, seed, jobs = words[1] or "10000", int(words[2] or 1), int(words[3] or 4)
-    results = Results(run(program, text(script())))
-    inputs = 0
-    for label, data, status in odd_inputs():
-        inputs += 1
-        results.add(label, data, run(program, data), (status,))
-
-    def one(item):
-        return item, run(program, item[1])
-
-    with ThreadPoolExecutor(jobs) as pool:
-        made = damaged_inputs(count, seed)
-        while batch := [item for _, item in zip(range(jobs * 8), made)]:
-            for (label, data), ended in pool.map(one, batch):
-                inputs += 1
-                results.add(label, data, ended, (6,) if len(data) > LIMIT else (0, 2, 3))
-    return results.tell(inputs)
+    if count.startswith("="):
+        return show(seed, int(count[1:]))
+    with tempfile.TemporaryDirectory() as folder:
+        made = launch.build(folder)
+        launcher = launch.Launcher(made, program, SECONDS)
+        results = Results(base_of(launcher))
+        for label, data, status in odd_inputs():
+            results.add(label, data, launcher.run(data), (status,))
+        run_damaged(made, program, count, seed, jobs, results)
+    return results.tell()
 
 
 if __name__ == "__main__":

@@ -1,23 +1,29 @@
 #!/usr/bin/env python3
-"""Refuses memory to the built program, at each of its allocations in turn. Builds nothing of the program.
+"""Refuses memory to the built program, at each of its allocations in turn.
 
-    python3 bench/memory.py [PROGRAM [WORD]]
+    python3 bench/memory.py [PROGRAM [WORD [JOBS]]]
 
-PROGRAM is crates/mini_app/out/mini_app of this repository unless it is given. `rt run` in crates/mini_app makes it.
-The inputs are the program's stored run, the first example, a refused program, no JSON, and a program of each form that
-is read (bench/forms.js, which wants node); with WORD those alone whose name has it. The C compiler `cc` makes a library
-that stands before the C library, and refuses the Nth allocation alone, or all from the Nth on. For each input, N goes
-from 1 to the first that the program doesn't come to. Each run must give status 7, tell nothing and write a beginning of
-the answer, or end as without refusals. The last line counts the runs, and those with status 7 in which something was
-written.
+PROGRAM is crates/mini_app/out/mini_app of this repository unless it is given. `rt run` in
+crates/mini_app makes it. The inputs are the program's stored run, the first example, a refused
+program, no JSON, and a program of each form that is read (bench/forms.js, which wants node); with
+WORD those alone whose name has it. JOBS processes, 4 unless given, run at a time. The C compiler
+`cc` makes a launcher (bench/launch.py) and a library that stands before the C library, and refuses
+the Nth allocation alone, or all from the Nth on. For each input, N goes from 1 to the first that
+the program doesn't come to. Each run must give status 7, tell nothing and write a beginning of the
+answer, or end as without refusals. The last line counts the runs, and those with status 7 in which
+something was written.
 """
 
+import dataclasses
 import itertools
 import os
 import pathlib
 import subprocess
 import sys
 import tempfile
+from concurrent.futures import ProcessPoolExecutor
+
+import launch
 
 SHIM = r"""
 #define _GNU_SOURCE
@@ -55,16 +61,16 @@ void *realloc(void *old, size_t size) {
 """
 
 # let a; let a;
-DECLARATION = '{"type":"VariableDeclaration","kind":"let","declarations":[{"type":"VariableDeclarator","id":{"type":"Identifier","name":"a"}}]}'
-TWICE = f'{{"type":"Program","sourceType":"script","body":[{DECLARATION},{DECLARATION}]}}'.encode()
+DECLARATION = (
+    '{"type":"VariableDeclaration","kind":"let","declarations":'
+    '[{"type":"VariableDeclarator","id":{"type":"Identifier","name":"a"}}]}'
+)
+SCRIPT = '{"type":"Program","sourceType":"script","body":[%s]}'
+TWICE = (SCRIPT % f"{DECLARATION},{DECLARATION}").encode()
 WANTING = 7  # the status where no memory was left
+SECONDS = 60  # that a run may take
 HERE = pathlib.Path(__file__).resolve().parent
 CRATE = HERE.parent / "crates" / "mini_app"
-
-
-def run(program, data, settings):
-    ended = subprocess.run([program], input=data, capture_output=True, env={**os.environ, **settings}, timeout=60)
-    return ended.returncode, ended.stdout, ended.stderr
 
 
 def is_wanting(got, whole):
@@ -72,11 +78,14 @@ def is_wanting(got, whole):
     return got[0] == WANTING and whole[1].startswith(got[1]) and got[2] == b""
 
 
+@dataclasses.dataclass
 class Count:
-    """How many runs there were, how many of them found no memory, wrote something all the same, or were wrong."""
+    """How many runs there were, and how many found no memory, wrote something, or were wrong."""
 
-    def __init__(self):
-        self.runs = self.wanting = self.begun = self.wrong = 0
+    runs: int = 0
+    wanting: int = 0
+    begun: int = 0
+    wrong: int = 0
 
     def add(self, got, whole, is_refused):
         self.runs += 1
@@ -88,22 +97,40 @@ class Count:
             return False
         return True
 
+    def merge(self, other):
+        for field in dataclasses.fields(self):
+            total = getattr(self, field.name) + getattr(other, field.name)
+            setattr(self, field.name, total)
 
-def refuse_each(name, program, data, shim, mark, on, count):
-    """Runs with each allocation refused; how many the program makes."""
-    whole = run(program, data, {})
-    for n in itertools.count(1):
-        if os.path.exists(mark):
-            os.remove(mark)
-        settings = {"LD_PRELOAD": shim, "REFUSED": str(n), "REFUSED_MARK": mark}
-        if on:
-            settings["REFUSED_ON"] = "1"
-        got = run(program, data, settings)
-        is_refused = os.path.exists(mark)
-        if not count.add(got, whole, is_refused):
-            print(f"{name}: N = {n}: status {got[0]}, {got[1]!r}, {got[2]!r}")
-        if not is_refused:
-            return n - 1
+
+class Refusing:
+    """Runs the program, with memory refused or not."""
+
+    def __init__(self, folder, program):
+        self.shim, self.program = os.path.join(folder, "refuse.so"), program
+        self.mark = os.path.join(folder, f"refused-{os.getpid()}")
+        self.launcher = launch.Launcher(os.path.join(folder, "launch"), "/usr/bin/env", SECONDS)
+
+    def run(self, data, settings=()):
+        return self.launcher.run(data, [*settings, self.program])[:3]
+
+    def refuse(self, data, n, on):
+        """A run with the Nth allocation refused, and whether the program came to it."""
+        if os.path.exists(self.mark):
+            os.remove(self.mark)
+        settings = [f"LD_PRELOAD={self.shim}", f"REFUSED={n}", f"REFUSED_MARK={self.mark}"]
+        got = self.run(data, [*settings, "REFUSED_ON=1"] if on else settings)
+        return got, os.path.exists(self.mark)
+
+    def refuse_each(self, name, data, on):
+        """Runs with each allocation refused: how many the program makes, and their count."""
+        count, whole = Count(), self.run(data)
+        for n in itertools.count(1):
+            got, is_refused = self.refuse(data, n, on)
+            if not count.add(got, whole, is_refused):
+                print(f"{name}: N = {n}: status {got[0]}, {got[1]!r}, {got[2]!r}")
+            if not is_refused:
+                return n - 1, count
 
 
 def forms():
@@ -124,31 +151,58 @@ def inputs():
 
 
 def build(folder):
-    """The library that refuses memory."""
+    """Makes the launcher, and the library that refuses memory."""
+    launch.build(folder)
     source, shim = os.path.join(folder, "refuse.c"), os.path.join(folder, "refuse.so")
     with open(source, "w") as file:
         file.write(SHIM)
     subprocess.run(["cc", "-O1", "-shared", "-fPIC", "-o", shim, source, "-ldl"], check=True)
-    return shim
+
+
+REFUSING = []
+
+
+def start(folder, program):
+    REFUSING.append(Refusing(folder, program))
+
+
+def refuse_each(name, data, on):
+    return REFUSING[0].refuse_each(name, data, on)
+
+
+def refuse_all(folder, program, chosen, jobs):
+    """Runs each input with each allocation refused, alone and with all that follow."""
+    count = Count()
+    with ProcessPoolExecutor(jobs, initializer=start, initargs=(folder, program)) as pool:
+        runs = [
+            (name, [pool.submit(refuse_each, name, data, on) for on in (False, True)])
+            for name, data in chosen
+        ]
+        for name, pair in runs:
+            (one, alone), (all_on, together) = (run.result() for run in pair)
+            count.merge(alone)
+            count.merge(together)
+            behind = f"{all_on} where none is answered behind a refused one"
+            print(f"{name}: {one} allocations, and {behind}")
+    return count
 
 
 def main():
-    program = os.path.abspath(sys.argv[1] if len(sys.argv) > 1 else CRATE / "out" / "mini_app")
-    word = sys.argv[2] if len(sys.argv) > 2 else ""
+    words = sys.argv[1:] + [""] * 3
+    program = os.path.abspath(words[0] or CRATE / "out" / "mini_app")
     if not os.access(program, os.X_OK):
         sys.exit(f"{program} is not there: run `rt run` in crates/mini_app first")
-    if run(program, (CRATE / "stdin").read_bytes(), {}) != (0, (CRATE / "stdout").read_bytes(), b""):
-        sys.exit("the stored run doesn't give its stored answer: build the program first")
-    count = Count()
     with tempfile.TemporaryDirectory() as folder:
-        shim, mark = build(folder), os.path.join(folder, "refused")
-        for name, data in inputs():
-            if word in name:
-                one, all_on = (refuse_each(name, program, data, shim, mark, on, count) for on in (False, True))
-                print(f"{name}: {one} allocations, and {all_on} where none is answered behind a refused one")
+        build(folder)
+        whole = Refusing(folder, program).run((CRATE / "stdin").read_bytes())
+        if whole != (0, (CRATE / "stdout").read_bytes(), b""):
+            sys.exit("the stored run doesn't give its stored answer: build the program first")
+        chosen = [(name, data) for name, data in inputs() if words[1] in name]
+        count = refuse_all(folder, program, chosen, int(words[2] or 4))
     if count.wanting == 0:
         sys.exit("nothing was refused: the program doesn't ask the C library for memory")
-    print(f"{count.runs} runs, status {WANTING} in {count.wanting}, of which {count.begun} wrote something; {count.wrong} wrong")
+    begun = f"status {WANTING} in {count.wanting}, of which {count.begun} wrote something"
+    print(f"{count.runs} runs, {begun}; {count.wrong} wrong")
     sys.exit(1 if count.wrong else 0)
 
 

@@ -27,7 +27,9 @@ const GIVEN = {
   statement: (json) => text(script(JSON.parse(json))),
   expression: (json) => text(script({ type: "ExpressionStatement", expression: JSON.parse(json) })),
   code: (source) => text(estree(source)),
+  bytes: (characters) => characters,
 };
+const NOT_JSON = " // NotJson";
 
 function answerText(source, after, said = {}) {
   const { kept, symbols, passes, settled, program } = outcomeOf(source, after, said);
@@ -45,6 +47,7 @@ const noteOf = (error, pointer) => `refused: ${error} at ${pointer}\n`;
 // The run that a line tells.
 function runOfLine(title, line) {
   const [, word, rest] = /^(\w+) (.*)$/.exec(line);
+  if (rest.endsWith(NOT_JSON)) return run(title, GIVEN[word](rest.slice(0, -NOT_JSON.length)), "2 0 0 0");
   const refusal = /^(.*) \/\/ (\w+) at ?(\S*)$/.exec(rest);
   if (refusal) return run(title, GIVEN[word](refusal[1]), refusedLine(noteOf(refusal[2], refusal[3])));
   const [programs, said = "{}"] = rest.split(/ \/\/ (?={.*}$)/);
