@@ -20,8 +20,9 @@
 //
 // With the word `modules` COUNT installed files are run that are read as modules, for a PROGRAM
 // that drops what is dead, such as crates/mini_shake/out/mini_shake: each as a strict function,
-// whose imports are names of the outside, and whose exports it is handed. No event shows that a
-// function is created, so that runs with and without that are compared as they are.
+// whose imports are names of the outside. That is handed what the module exports, and what it
+// writes to the outside, as `module.exports = { f }` does, and calls these functions. No event
+// shows that a function is created, so that runs with and without that are compared as they are.
 "use strict";
 const vm = require("vm");
 const { isNativeError } = require("util").types;
@@ -107,7 +108,7 @@ class Outside {
     const name = `<${label.length > 40 ? "far" : label}>`;
     const proxy = new Proxy(function () {}, {
       get: (_, key) => outside.property(name, key),
-      set: (_, key, value) => (outside.record("set", name, key, value), true),
+      set: (_, key, value) => (outside.record("set", name, key, value), outside.take(value), true),
       has: (_, key) => (outside.record("has", name, key), outside.chance(2) === 0),
       deleteProperty: (_, key) => (outside.record("delete", name, key), true),
       apply: (_, self, values) => outside.called("call", name, self, values),
@@ -153,6 +154,13 @@ class Outside {
     }
   }
 
+  // Calls what a module writes to the outside, and the functions that an object of its own holds.
+  take(value) {
+    if (!MODULES || value === null || this.labels.has(Object(value))) return;
+    const held = typeof value === "object" ? Object.values(Object.getOwnPropertyDescriptors(value)).map((part) => part.value) : [value];
+    for (const part of held) if (typeof part === "function" && !this.labels.has(part)) this.enter(part);
+  }
+
   // Goes on in a generator of the script.
   advance(generator) {
     for (let turn = 0; turn < 4; turn++) {
@@ -196,7 +204,7 @@ class Outside {
         values.set(key, { value, since: this.events.length });
         return value;
       },
-      set: (_, key, value) => (this.record("write", key, value), true),
+      set: (_, key, value) => (this.record("write", key, value), this.take(value), true),
       deleteProperty: () => true,
     });
   }
