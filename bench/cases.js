@@ -4,13 +4,13 @@
 //
 //     node --expose-internals bench/cases.js
 //
-// reads the files of bench/rows and writes the lines under the title below into
+// reads the files of bench/rows and of bench/dead and writes the lines under the title below into
 // crates/mini_cases/stdin and crates/mini_cases/stdout, with a checksum of those files, by which
 // .ci/quick sees whether they are as old as the lines. Behind them stand the runs of odd.js, with a
 // checksum of odd-input.txt.
 //
-// A file of bench/rows has a case a line. A line that begins with `#` is the title of those that
-// follow. A case is one of
+// The runs of bench/dead are of the program that drops dead items besides. A file has a case a
+// line. A line that begins with `#` is the title of those that follow. A case is one of
 //
 //     BEFORE => AFTER
 //     BEFORE => AFTER // { kept: 2, symbols: [0, 2], passes: 3, settled: false, bound: 1 }
@@ -18,45 +18,49 @@
 //
 // BEFORE and AFTER are JavaScript, which acorn parses with early errors left aside; BEFORE ends in
 // `;` or `}`. `kept` and `symbols` are numbers in the input, in order, or how many there are where
-// each stays at its place: without the words all of them. Without `passes` there is one that
-// changes something and one that doesn't, or the latter alone where both are the same program.
+// each stays at its place: without the words all of them, and in bench/dead those symbols whose
+// names stay. Without `passes` there is one that changes something and one that doesn't, or the
+// latter alone where both are the same program, and in bench/dead.
 "use strict";
 const { createHash } = require("crypto");
 const fs = require("fs");
 const path = require("path");
 const { text } = require("./estree.js");
 const odd = require("./odd.js");
-const { estree, outcomeOf, saidOptions } = require("./outcome.js");
+const { estree, outcomeOf, saidOptions, shakenOf } = require("./outcome.js");
 
 const TITLE = "# Whole runs: which numbers and symbols stay, how many passes it takes, and the program";
 const ODD = "# Odd input, calls that fail, and programs that nest deep: whole runs over memory, as above";
 const UNBOUNDED = 4294967295;
-const ROWS = path.join(__dirname, "rows");
+// The folders of cases, the word of a line of each, and what is answered to one.
+const FOLDERS = [
+  ["rows", "answer", outcomeOf],
+  ["dead", "shake", shakenOf],
+];
 const CASES = path.join(__dirname, "..", "crates", "mini_cases");
 
 // What the answer says of a program that becomes another one, or stays.
-function answered(source, after, said) {
-  const { kept, symbols, passes, settled, program, bound = UNBOUNDED } = outcomeOf(source, after, said);
+function answered({ kept, symbols, passes, settled, program, bound = UNBOUNDED }) {
   return { bound, answer: `${kept} ${symbols} ${passes} ${settled} ${program}` };
 }
 
 // The case that a line tells.
-function caseOf(line) {
+function caseOf(line, word, outcome) {
   const refusal = /^(.*) \/\/ (\w+) at (\/\S*)$/.exec(line);
   const [programs, said = "{}"] = line.split(/ \/\/ (?={.*}$)/);
   const [source, after] = refusal ? [refusal[1]] : programs.split(/(?<=[;}]) =>(?: |$)/);
   const { bound, answer } = refusal
     ? { bound: UNBOUNDED, answer: `${refusal[2]} ${refusal[3]}` }
-    : answered(source, after, saidOptions(said));
-  return { source, line: `answer ${bound} ${text(estree(source))}`, answer };
+    : answered(outcome(source, after, saidOptions(said)));
+  return { source, line: `${word} ${bound} ${text(estree(source))}`, answer };
 }
 
-function casesOf(rows) {
+function casesOf(rows, word, outcome) {
   const cases = [];
   let title = "";
   for (const line of rows.split("\n")) {
     if (line.startsWith("#")) title = line;
-    else if (line) cases.push({ title, ...caseOf(line) });
+    else if (line) cases.push({ title, ...caseOf(line, word, outcome) });
   }
   return cases;
 }
@@ -67,13 +71,16 @@ function extend(file, lines) {
   fs.writeFileSync(name, `${before}${TITLE}\n${lines.join("\n")}\n`);
 }
 
-const files = fs.readdirSync(ROWS).filter((name) => name.endsWith(".txt")).sort();
-const rows = files.map((name) => fs.readFileSync(path.join(ROWS, name), "utf8"));
+function textsOf(folder) {
+  const files = fs.readdirSync(path.join(__dirname, folder)).filter((name) => name.endsWith(".txt")).sort();
+  return files.map((name) => fs.readFileSync(path.join(__dirname, folder, name), "utf8"));
+}
+
 const checksum = (name, told) => `# ${name}: ${createHash("sha256").update(told).digest("hex")}`;
-const cases = rows.flatMap(casesOf);
+const cases = FOLDERS.flatMap(([folder, word, outcome]) => textsOf(folder).flatMap((rows) => casesOf(rows, word, outcome)));
 const runs = odd.oddRuns();
 const lines = (told) => [
-  checksum("bench/rows", rows.join("")),
+  ...FOLDERS.map(([folder]) => checksum(`bench/${folder}`, textsOf(folder).join(""))),
   ...cases.flatMap((item) => [item.title, `# ${item.source}`, told(item)]),
   ODD,
   checksum("bench/odd-input.txt", fs.readFileSync(odd.FILE)),

@@ -328,16 +328,18 @@ function scopes(node, isBody) {
   return head === null || node[head] === null ? {} : { [head]: distinct(lexical(node[head])) };
 }
 
-// How many symbols a program declares.
-function countSymbols(program) {
-  let count = 0;
+// The names that a program declares, in the order of their symbols.
+function symbolNames(program) {
+  const names = [];
   const bodies = new Set();
   each(program, (node) => {
     if (isOf(FUNCTIONS, node)) bodies.add(node.body);
-    count += Object.values(scopes(node, bodies.has(node))).flat().length;
+    names.push(...Object.values(scopes(node, bodies.has(node))).flat());
   });
-  return count;
+  return names;
 }
+
+const countSymbols = (program) => symbolNames(program).length;
 
 // ---- what is no JSON that is read
 
@@ -386,4 +388,4 @@ function isOutside(program) {
   return found;
 }
 
-module.exports = { FIELDS, FUNCTIONS, children, countNumbers, countSymbols, each, isOf, isOutside, isUnread, nesting, parse, parseLeniently, parseWithErrors, scopes, text, written };
+module.exports = { FIELDS, FUNCTIONS, children, countNumbers, countSymbols, each, isOf, isOutside, isUnread, nesting, parse, parseLeniently, parseWithErrors, scopes, symbolNames, text, written };

@@ -1,7 +1,7 @@
 // Node as a judge: runs scripts before and after the built program has rewritten them, against an
 // outside that records what is asked of it, and compares. Builds nothing.
 //
-//     node --expose-internals bench/judge.js [PROGRAM [COUNT [SEED]]]
+//     node --expose-internals bench/judge.js [PROGRAM [COUNT [SEED [modules]]]]
 //
 // PROGRAM is crates/mini_app/out/mini_app of this repository unless it is given: `rt run` in
 // crates/mini_app makes it. COUNT scripts (200) are generated (generate.js), and as many pieces of
@@ -17,11 +17,18 @@
 // code that writes it adds it to the global object, and each event shows what was added so. The
 // outside answers by what was asked before, so that two runs part no sooner than their events do.
 // The text of a function is the same for all, since it is of the source alone.
+//
+// With the word `modules` COUNT installed files are run that are read as modules, for a PROGRAM
+// that drops what is dead, such as crates/mini_shake/out/mini_shake: each as a strict function,
+// whose imports are names of the outside. That is handed what the module exports, and what it
+// writes to the outside, as `module.exports = { f }` does, and calls these functions. No event
+// shows that a function is created, so that runs with and without that are compared as they are.
 "use strict";
 const vm = require("vm");
 const { isNativeError } = require("util").types;
 const { words, run } = require("./built.js");
-const { isOutside, isUnread, parse } = require("./estree.js");
+const { isOutside, isUnread, parse, scopes, symbolNames } = require("./estree.js");
+const { chosenModules } = require("./modules.js");
 const { chosenPieces } = require("./pieces.js");
 const { script } = require("./generate.js");
 const { print } = require("./print.js");
@@ -29,6 +36,7 @@ const { print } = require("./print.js");
 const { program, count, seed } = words(200);
 const EVENTS = 400;
 const SECONDS = 2;
+const MODULES = process.argv[5] === "modules";
 const OWN = ["undefined", "NaN", "Infinity", "arguments", "eval"];
 const GIVEN = ["names", "self", "judge"];
 // An outside answers by its salt, and lacks none of the names or one in so many.
@@ -100,7 +108,7 @@ class Outside {
     const name = `<${label.length > 40 ? "far" : label}>`;
     const proxy = new Proxy(function () {}, {
       get: (_, key) => outside.property(name, key),
-      set: (_, key, value) => (outside.record("set", name, key, value), true),
+      set: (_, key, value) => (outside.record("set", name, key, value), outside.take(value), true),
       has: (_, key) => (outside.record("has", name, key), outside.chance(2) === 0),
       deleteProperty: (_, key) => (outside.record("delete", name, key), true),
       apply: (_, self, values) => outside.called("call", name, self, values),
@@ -146,6 +154,13 @@ class Outside {
     }
   }
 
+  // Calls what a module writes to the outside, and the functions that an object of its own holds.
+  take(value) {
+    if (!MODULES || value === null || this.labels.has(Object(value))) return;
+    const held = typeof value === "object" ? Object.values(Object.getOwnPropertyDescriptors(value)).map((part) => part.value) : [value];
+    for (const part of held) if (typeof part === "function" && !this.labels.has(part)) this.enter(part);
+  }
+
   // Goes on in a generator of the script.
   advance(generator) {
     for (let turn = 0; turn < 4; turn++) {
@@ -189,7 +204,7 @@ class Outside {
         values.set(key, { value, since: this.events.length });
         return value;
       },
-      set: (_, key, value) => (this.record("write", key, value), true),
+      set: (_, key, value) => (this.record("write", key, value), this.take(value), true),
       deleteProperty: () => true,
     });
   }
@@ -213,7 +228,28 @@ function handedOut(tree) {
 
 const directives = (tree) => print({ body: tree.body.filter((part) => typeof part.directive === "string") });
 
+// What stands for a statement of a module in a function, and the names that it exports.
+function inFunction(part) {
+  const { type, declaration, source } = part;
+  if (type === "ImportDeclaration" || type === "ExportAllDeclaration") return [[], []];
+  if (type === "ExportNamedDeclaration" && declaration) return [[declaration], scopes({ type: "Program", body: [declaration] }).body];
+  if (type === "ExportNamedDeclaration") return [[], source ? [] : part.specifiers.map(({ local }) => local.name)];
+  if (type !== "ExportDefaultDeclaration") return [[part], []];
+  if (declaration.id) return [[declaration], [declaration.id.name]];
+  const callee = { type: "Identifier", name: "judge" };
+  const value = { ...declaration, type: declaration.type.replace("Declaration", "Expression") };
+  return [[{ type: "ExpressionStatement", expression: { type: "CallExpression", callee, arguments: [value] } }], []];
+}
+
+function textOfModule(tree) {
+  const parts = tree.body.map(inFunction);
+  const body = parts.flatMap(([statements]) => statements);
+  const names = [...new Set(parts.flatMap(([, exported]) => exported))];
+  return `with (names) (function () { "use strict"; ${print({ body })}\n ${names.map((name) => `judge(${name});`).join(" ")} }).call(undefined);`;
+}
+
 function textOf(tree) {
+  if (MODULES) return textOfModule(tree);
   const calls = declaredFunctions(tree).map((name) => `judge(${name});`);
   return `with (names) (function () { ${directives(tree)} ${print(tree)}\n ${calls.join(" ")} }).call(self);`;
 }
@@ -244,7 +280,7 @@ function minified(tree) {
 
 // ---- all of them
 
-const total = { scripts: 0, changed: 0, runs: 0, events: 0, "ended by an absent name": 0, "too long": 0, wrong: 0 };
+const total = { scripts: 0, changed: 0, "lost a name": 0, runs: 0, events: 0, "ended by an absent name": 0, "too long": 0, wrong: 0 };
 
 function compare(before, after) {
   for (const { salt, lacks } of OUTSIDES) {
@@ -264,10 +300,11 @@ function compare(before, after) {
 }
 
 function judge(script, onlyChanged) {
-  const tree = handedOut(script);
+  const tree = MODULES ? script : handedOut(script);
   const answer = minified(tree);
   if (onlyChanged && answer.passes === 1) return false;
   total.scripts += 1;
+  total["lost a name"] += answer.symbols.length < symbolNames(tree).length ? 1 : 0;
   total.changed += answer.passes > 1 ? 1 : 0;
   compare(tree, answer.program);
   return true;
@@ -283,10 +320,15 @@ function isScript(tree) {
   }
 }
 
-function main() {
+function judgeScripts() {
   for (let at = 1; at <= count; at++) judge(parse(script(seed * 100_003 + at * 7919)), false);
   let left = count;
   for (const [, tree] of chosenPieces(count * 40, seed)) if (left > 0 && isScript(tree) && judge(tree, true)) left -= 1;
+}
+
+function main() {
+  if (MODULES) for (const tree of chosenModules(count, seed)) judge(tree, false);
+  else judgeScripts();
   console.log(Object.entries(total).map(([key, value]) => `${key} ${value}`).join(", "));
   process.exitCode = total.wrong > 0 ? 1 : 0;
 }

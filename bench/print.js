@@ -162,6 +162,30 @@ function tryText(node) {
   return `try ${statement(node.block)}${caught}${finalizer ? ` finally ${statement(finalizer)}` : ""}`;
 }
 
+// ---- what modules have besides
+
+const external = (node) => (node.type === "Literal" ? JSON.stringify(node.value) : node.name);
+const renamed = (one, other) => (one === other ? one : `${one} as ${other}`);
+const origin = (node) => (node.source ? ` from ${JSON.stringify(node.source.value)}` : "");
+
+function imports(node) {
+  const only = (type) => node.specifiers.filter((part) => part.type === type);
+  const first = only("ImportDefaultSpecifier").map((part) => part.local.name);
+  const all = only("ImportNamespaceSpecifier").map((part) => `* as ${part.local.name}`);
+  const named = only("ImportSpecifier").map((part) => renamed(external(part.imported), part.local.name));
+  return [...first, ...all, ...(named.length > 0 ? [`{ ${named.join(", ")} }`] : [])].join(", ");
+}
+
+function exported(node) {
+  if (node.declaration) return `export ${statement(node.declaration)}`;
+  return `export { ${node.specifiers.map((part) => renamed(external(part.local), external(part.exported))).join(", ")} }${origin(node)};`;
+}
+
+function byDefault({ declaration }) {
+  const isDeclaration = /Declaration$/.test(declaration.type);
+  return `export default ${isDeclaration ? statement(declaration) : `(${expression(declaration)});`}`;
+}
+
 const STATEMENTS = {
   ExpressionStatement: (node) => (typeof node.directive === "string" ? `${node.expression.raw || JSON.stringify(node.directive)};` : `${whole(node.expression)};`),
   EmptyStatement: () => ";",
@@ -183,13 +207,17 @@ const STATEMENTS = {
   VariableDeclaration: (node) => `${declaration(node)};`,
   FunctionDeclaration: EXPRESSIONS.FunctionExpression,
   ClassDeclaration: classText,
+  ImportDeclaration: (node) => `import ${node.specifiers.length > 0 ? `${imports(node)} from ` : ""}${JSON.stringify(node.source.value)};`,
+  ExportNamedDeclaration: exported,
+  ExportDefaultDeclaration: byDefault,
+  ExportAllDeclaration: (node) => `export *${node.exported ? ` as ${external(node.exported)}` : ""}${origin(node)};`,
 };
 
 function statement(node) {
   return STATEMENTS[node.type](node);
 }
 
-// The text of a script.
+// The text of a script or module.
 const print = (program) => statements(program.body);
 
 module.exports = { print, whole };

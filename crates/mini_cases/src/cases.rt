@@ -55,13 +55,14 @@ enum NumberCase {
     Nested,
 }
 
-const CASES: [(&str, Case); 30] = [
+const CASES: [(&str, Case); 31] = [
     ("#", Case::Title),
     ("tell", Case::Program(Task::Tell)),
     ("numbers", Case::Program(Task::Numbers)),
     ("sizes", Case::Program(Task::Sizes)),
     ("minify", Case::Program(Task::Minify)),
     ("answer", Case::Program(Task::Answer)),
+    ("shake", Case::Program(Task::Shake)),
     ("lighter", Case::Lighter),
     ("again", Case::Again),
     ("echo", Case::Echo),

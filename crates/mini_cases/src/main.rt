@@ -4,9 +4,9 @@
 //!
 //! A line that begins with `#` is a title, and its own answer. Each other one is a word and a value
 //! of ESTree as JSON: `tell` and a depth, `numbers`, `again`, `echo`, `lighter`, `expression`,
-//! `statement`, or `minify` or `answer` and a number of passes. Or it asks for a whole run over
-//! memory (`run` and its like, `memory.rt`), for a program that nests deep (`depth.rt`) or for a
-//! part of a library: `text`, `numeral`, `cooked`, `list`, `statements`, `sizes` and more
+//! `statement`, or `minify`, `answer` or `shake` and a number of passes. Or it asks for a whole run
+//! over memory (`run` and its like, `memory.rt`), for a program that nests deep (`depth.rt`) or for
+//! a part of a library: `text`, `numeral`, `cooked`, `list`, `statements`, `sizes` and more
 //! (`cases.rt`). `bench/cases.js` writes the lines below the title
 //! `Whole runs: which numbers and symbols stay`.
 //!

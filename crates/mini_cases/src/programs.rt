@@ -5,6 +5,7 @@ use crate::echo::echoed;
 use crate::words::small_numbered;
 use mini_estree::{Numbered, fits, read_program};
 use mini_peephole::{CompressOptions, Minified, MinifyError, Numbers, minify_estree};
+use mini_shaken::shake_estree;
 use mini_writer::{count_units, count_values};
 use serde_json::Value;
 use std::alloc::Global;
@@ -26,6 +27,8 @@ pub enum Task {
     /// What became of the nodes with a number and of the symbols, and behind that what `Minify`
     /// tells.
     Answer,
+    /// The same where dead items go besides.
+    Shake,
 }
 
 // How deep the nodes of a value may nest where a case says nothing of it.
@@ -53,6 +56,7 @@ fn answer_value(alloc: Global, task: Task, number: u32, value: &Value, out: &mut
         Task::Sizes => sizes(value, out),
         Task::Minify => minify(alloc, &passes_of(number), value, false, out),
         Task::Answer => minify(alloc, &passes_of(number), value, true, out),
+        Task::Shake => shake(alloc, &passes_of(number), value, out),
     }
 }
 
@@ -161,6 +165,16 @@ fn minify(
     }
     match minify_estree(alloc, value, options) {
         Ok(found) => tell_minified(&found, with_numbers, out),
+        Err(error) => refuse(&error, out),
+    }
+}
+
+fn shake(alloc: Global, options: &CompressOptions, value: &Value, out: &mut Answer) {
+    if !fits(value) {
+        return out.fail();
+    }
+    match shake_estree(alloc, value, options) {
+        Ok(found) => tell_minified(&found, true, out),
         Err(error) => refuse(&error, out),
     }
 }

@@ -132,7 +132,7 @@ module _ (K : Shape → Bool) (S : BodySets) where
         };
       }
 
-  bodies_same : (t u : Tree) → ProgramIsKeptUnder K (writable_by t) S t u → PartEach S (steady_in u) → IsWellShaped t → Scoped Read [] t → Distinct (declared_symbols t) → BodiesAreSame t u
+  pub bodies_same : (t u : Tree) → ProgramIsKeptUnder K (writable_by t) S t u → PartEach S (steady_in u) → IsWellShaped t → Scoped Read [] t → Distinct (declared_symbols t) → BodiesAreSame t u
   bodies_same t u kept so e v d c there =
       let (b, stands, alike) = kept_stands (writable_by t) S (undeclared u) (bodies_in t) (bodies_in u) (kept.bodies v d) c there in
       (b, stands, same_body t u kept so v d (kept.names.scoped e v) b c there alike)
@@ -149,7 +149,7 @@ pub record Made (S : Facts) (G : Tree → Position → Tree → Tree → Type 0)
   pub rewritten : ProgramIsKeptUnder (let_go (switches o)) (writable_by (resolved_program t)) (S v) (resolved_program t) v
   pub so : PartEach (S v) (steady_in v)
 
-named : (m : Minified) (t v u : Tree) → IsReadBack t v u → m.kept ≡ 0 ∷ numbers v → m.symbols ≡ symbol_numbers (declared_symbols v) → AreNamed m.kept m.symbols t u
+pub named : (m : Minified) (t v u : Tree) → IsReadBack t v u → m.kept ≡ 0 ∷ numbers v → m.symbols ≡ symbol_numbers (declared_symbols v) → AreNamed m.kept m.symbols t u
 named m t v u r kept symbols = record {
   begins = subst BeginsWithProgram (sym kept) refl;
   each_node = ap length kept ∙ ap suc (sym r.each_number);
@@ -184,6 +184,23 @@ module _ (S : Facts) (G : Tree → Position → Tree → Tree → Type 0) (D : T
         unsettled = λ e. let (same, fell) = made.passes.stopped e in subst (λ w. program_weight w + max o.passes 1 ≤ program_weight (resolved_program t)) (sym whole) (omega (arith, same, fell));
       }
 
+-- ---- what passes keep of a program that declares each name once
+
+-- what each step leaves is so of the last program
+module _ (S T : Facts) (G : Tree → Position → Tree → Tree → Type 0) (o : CompressOptions) (l : (q : Tree) → DeclaresOnce q → LawfulRooted (let_go (switches o)) (writable_in q) (S q) (G q)) (stay : (q : Tree) → KeepsKnown S (G q)) (among : AreAmong S T) {k : ℕ} {s v : Tree} (reached : PassesReach G k s v) (e : DeclaresOnce s) where
+  pub passes_begin : EachBegins (λ q. PartEach (S q) (T v)) reached
+  passes_begin =
+      let K = let_go (switches o) in
+      let last = among v (declared_after G K S l reached e) in
+      begins_more (λ q. PartEach (S q) (S v)) (λ q. PartEach (S q) (T v)) (λ q f b. within_through (S q b) (S v b) (T v b) (f b) (last b)) reached (known_after G K S l stay reached e)
+
+-- what is lawful by S, where V says of the last program all that S says as any pass begins
+module _ (S : Facts) (V : BodySets) (G : Tree → Position → Tree → Tree → Type 0) (o : CompressOptions) (l : (q : Tree) → DeclaresOnce q → LawfulRooted (let_go (switches o)) (writable_in q) (S q) (G q)) {k : ℕ} {s v : Tree} (reached : PassesReach G k s v) (e : DeclaresOnce s) (begins : EachBegins (λ q. PartEach (S q) V) reached) where
+  pub passes_keep : ProgramIsKeptUnder (let_go (switches o)) (writable_by s) V s v
+  passes_keep = let K = let_go (switches o) in rooted_keeps (Any G K S l V s) K (writable_by s) V (any_lawful G K S l V s) s v (any_reach G K S l V s e reached begins refl) e.shaped
+
+-- ---- the answer
+
 -- a program that is accepted and has no early error
 module _ (d : Data) (t : Tree) (read : Accepts d t) (free : early_fault t ≡ None) where
   pub start : IsRead t read.1
@@ -198,11 +215,7 @@ module _ (S T : Facts) (G : Tree → Position → Tree → Tree → Type 0) (D :
   first = resolved d t read free
 
   kept : ProgramIsKeptUnder (let_go (switches o)) (writable_by (resolved_program t)) (T r.output) (resolved_program t) r.output
-  kept =
-      let K = let_go (switches o) in
-      let v = resolved_program t in
-      let V = T r.output in
-      rooted_keeps (Any G K S l V v) K (writable_by v) V (any_lawful G K S l V v) v r.output (any_reach G K S l V v first r.passes.reached begins refl) first.shaped
+  kept = passes_keep S (T r.output) G o l r.passes.reached first begins
 
   pub again : (u : Tree) × Accepts (program_data r.output) u × (text u ≡ text r.output)
   again = read_again r.output (kept.names.shaped first.shaped)
@@ -236,12 +249,7 @@ module _ (S T : Facts) (G : Tree → Position → Tree → Tree → Type 0) (D :
 -- what each step leaves is so of the last program
 module _ (S T : Facts) (G : Tree → Position → Tree → Tree → Type 0) (D : Tree → Position → Tree → Type 0) (o : CompressOptions) (l : (q : Tree) → DeclaresOnce q → LawfulRooted (let_go (switches o)) (writable_in q) (S q) (G q)) (stay : (q : Tree) → KeepsKnown S (G q)) (among : AreAmong S T) (d : Data) (m : Minified) (t : Tree) (read : Accepts d t) (free : early_fault t ≡ None) (r : IsWritten G D (resolved_program t) o.passes m) where
   pub begins : EachBegins (λ q. PartEach (S q) (T r.output)) r.passes.reached
-  begins =
-      let K = let_go (switches o) in
-      let first = resolved d t read free in
-      let V = r.output in
-      let last = among V (declared_after G K S l r.passes.reached first) in
-      begins_more (λ q. PartEach (S q) (S V)) (λ q. PartEach (S q) (T V)) (λ q f b. within_through (S q b) (S V b) (T V b) (f b) (last b)) r.passes.reached (known_after G K S l stay r.passes.reached first)
+  begins = passes_begin S T G o l stay among r.passes.reached (resolved d t read free)
 
 -- ---- the laws
 

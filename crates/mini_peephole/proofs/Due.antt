@@ -12,7 +12,7 @@ use Rattle.mini_accept.proofs.Results.{ok_same}
 use Rattle.mini_model.specs.Faults.{Fault}
 use Rattle.mini_scope.specs.Pointers.{early_fault}
 use Rattle.mini_peephole.specs.Minified.{HasDefect}
-use Rattle.mini_peephole.specs.Answer.{Change, Gave, HasFault, IsNotJson, IsUntouched, IsDelivered, IsDeliveredOf, IsDue, IsValidInput, IsValidScript, IsAnswered, to_read, to_generate}
+use Rattle.mini_peephole.specs.Answer.{Change, Gave, HasFault, IsNotJson, Answering, HasAnswer, IsUntouched, IsDelivered, IsDeliveredOf, IsReadDue, IsDue, IsValidInput, IsValidScript, IsAnswered, to_read, to_generate}
 use Rattle.mini_run.specs.Words.{NameOrders}
 use Rattle.mini_run.specs.declared.choice.Orders.{Orders}
 use Rattle.mini_peephole.specs.declared.running.Status.{Status}
@@ -33,15 +33,27 @@ few_to_generate words r n name e = subst (λ g. IfSome g (λ n. n ≤ 2000)) e (
 
 -- ---- what is due
 
-pub due_of : (s : Status) (words : List (List ℕ)) (o : CompressOptions) (source sink notes : Change) (input : List ℕ) → NameOrders words (to_read o) → Gave source input → IsDelivered s o input sink notes → IsDue s words source sink notes
-due_of Done words o source sink notes input name gave d = inl (o, name, input, gave, d)
-due_of WriteFault words o source sink notes input name gave d = inl (o, name, input, gave, d)
-due_of NotJson words o source sink notes input name gave d = (o, name, input, gave, d)
-due_of Refused words o source sink notes input name gave d = inl (o, name, input, gave, d)
-due_of OutOfMemory words o source sink notes input name gave d = (good_orders words (to_read o) name, d.0, d.1)
-due_of BadWords words o source sink notes input name gave d = absurd d
-due_of ReadFault words o source sink notes input name gave d = absurd d
-due_of TooLong words o source sink notes input name gave d = absurd d
+module _ (A : Answering) where
+  pub read_due : (s : Status) (words : List (List ℕ)) (o : CompressOptions) (source sink notes : Change) (input : List ℕ) → NameOrders words (to_read o) → Gave source input → IsDelivered A s o input sink notes → IsReadDue A s words source sink notes
+  read_due Done words o source sink notes input name gave d = (o, name, input, gave, d)
+  read_due WriteFault words o source sink notes input name gave d = (o, name, input, gave, d)
+  read_due NotJson words o source sink notes input name gave d = (o, name, input, gave, d)
+  read_due Refused words o source sink notes input name gave d = (o, name, input, gave, d)
+  read_due OutOfMemory words o source sink notes input name gave d = ((o, name), d.0, d.1)
+  read_due BadWords words o source sink notes input name gave d = absurd d
+  read_due ReadFault words o source sink notes input name gave d = absurd d
+  read_due TooLong words o source sink notes input name gave d = absurd d
+
+-- words that order to read are good
+pub due_of : (s : Status) (words : List (List ℕ)) (o : CompressOptions) (source sink notes : Change) → NameOrders words (to_read o) → IsReadDue HasAnswer s words source sink notes → IsDue s words source sink notes
+due_of Done words o source sink notes name d = inl d
+due_of WriteFault words o source sink notes name d = inl d
+due_of NotJson words o source sink notes name d = d
+due_of Refused words o source sink notes name d = inl d
+due_of OutOfMemory words o source sink notes name d = (good_orders words (to_read o) name, d.1, d.2)
+due_of BadWords words o source sink notes name d = absurd (d.0 (o, name))
+due_of ReadFault words o source sink notes name d = d
+due_of TooLong words o source sink notes name d = d
 
 pub due_of_script : (s : Status) (words : List (List ℕ)) (o : CompressOptions) (n : ℕ) (source sink notes : Change) → NameOrders words (to_generate o n) → IsUntouched source → IsDeliveredOf s o n sink notes → IsDue s words source sink notes
 due_of_script Done words o n source sink notes name kept d = inr (o, n, name, kept, d)
@@ -97,19 +109,32 @@ no_defect words o source input valid name gave f has =
     let defect : HasDefect valid.value valid.options f = rw (value, same_read words valid.options o valid.name name) has.defect in
     apart valid.value valid.program valid.numbers valid.options f valid.accepted valid.free defect
 
-read_answered : (s : Status) (words : List (List ℕ)) (source sink notes : Change) → IsDue s words source sink notes → IsValidInput words source.before → IsAnswered s source.faults_before source.faults_after sink.faults_before sink.faults_after
-read_answered Done words source sink notes due valid = tt
-read_answered OutOfMemory words source sink notes due valid = tt
-read_answered ReadFault words source sink notes due valid = due.1
-read_answered WriteFault words source sink notes (inl (o, name, input, gave, d)) valid = d.3
-read_answered WriteFault words source sink notes (inr (o, n, name, kept, d)) valid = absurd (not_both words valid.options o n valid.name name)
-read_answered BadWords words source sink notes due valid = due.0 (good_orders words (to_read valid.options) valid.name)
-read_answered TooLong words source sink notes due valid =
-    let (input, more) = due.1 in
-    omega (arith, no_more source.before source.after valid.input input valid.there more.bytes, more.long, valid.short)
-read_answered NotJson words source sink notes (o, name, input, gave, d) valid = is_json words source input valid gave d.0
-read_answered Refused words source sink notes (inl (o, name, input, gave, d)) valid = no_defect words o source input valid name gave d.0 d.1
-read_answered Refused words source sink notes (inr (o, n, name, kept, d)) valid = absurd (not_both words valid.options o n valid.name name)
+module _ (A : Answering) where
+  pub read_answered : (s : Status) (words : List (List ℕ)) (source sink notes : Change) → IsReadDue A s words source sink notes → IsValidInput words source.before → IsAnswered s source.faults_before source.faults_after sink.faults_before sink.faults_after
+  read_answered Done words source sink notes due valid = tt
+  read_answered OutOfMemory words source sink notes due valid = tt
+  read_answered ReadFault words source sink notes due valid = due.1
+  read_answered WriteFault words source sink notes (o, name, input, gave, d) valid = d.3
+  read_answered BadWords words source sink notes due valid = due.0 (valid.options, valid.name)
+  read_answered TooLong words source sink notes due valid =
+      let (input, more) = due.1 in
+      omega (arith, no_more source.before source.after valid.input input valid.there more.bytes, more.long, valid.short)
+  read_answered NotJson words source sink notes (o, name, input, gave, d) valid = is_json words source input valid gave d.0
+  read_answered Refused words source sink notes (o, name, input, gave, d) valid = no_defect words o source input valid name gave d.0 d.1
+
+-- where the words order to read, the status says what it says of a run that reads
+due_by_read : (s : Status) (words : List (List ℕ)) (o : CompressOptions) (source sink notes : Change) → NameOrders words (to_read o) → IsDue s words source sink notes → IsReadDue HasAnswer s words source sink notes
+due_by_read Done words o source sink notes name (inl d) = d
+due_by_read Done words o source sink notes name (inr (p, n, other, kept, d)) = absurd (not_both words o p n name other)
+due_by_read WriteFault words o source sink notes name (inl d) = d
+due_by_read WriteFault words o source sink notes name (inr (p, n, other, kept, d)) = absurd (not_both words o p n name other)
+due_by_read NotJson words o source sink notes name d = d
+due_by_read Refused words o source sink notes name (inl d) = d
+due_by_read Refused words o source sink notes name (inr (p, n, other, kept, d)) = absurd (not_both words o p n name other)
+due_by_read OutOfMemory words o source sink notes name d = ((o, name), d.1, d.2)
+due_by_read BadWords words o source sink notes name d = absurd (d.0 (good_orders words (to_read o) name))
+due_by_read ReadFault words o source sink notes name d = d
+due_by_read TooLong words o source sink notes name d = d
 
 -- ---- a script that is generated
 
@@ -137,5 +162,5 @@ script_answered Refused words source sink notes (inl (o, name, input, gave, d)) 
 script_answered Refused words source sink notes (inr (o, n, name, kept, d)) valid = script_accepted words o n valid name d.0 d.1
 
 pub answered_of : (s : Status) (words : List (List ℕ)) (source sink notes : Change) → IsDue s words source sink notes → IsValidInput words source.before ⊎ IsValidScript words → IsAnswered s source.faults_before source.faults_after sink.faults_before sink.faults_after
-answered_of s words source sink notes due (inl valid) = read_answered s words source sink notes due valid
+answered_of s words source sink notes due (inl valid) = read_answered HasAnswer s words source sink notes (due_by_read s words valid.options source sink notes valid.name due) valid
 answered_of s words source sink notes due (inr valid) = script_answered s words source sink notes due valid

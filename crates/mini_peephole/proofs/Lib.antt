@@ -2,11 +2,9 @@ mod Chains
 mod CodeLawful
 mod ComesBack
 mod Everywhere
-mod Known
 mod Lightest
 mod Own
 mod Placing
-mod Rules
 mod SeenLater
 mod SteadyKnown
 mod Survives
@@ -22,7 +20,9 @@ pub mod Finished
 pub mod Floats
 pub mod Gathered
 pub mod Heaviest
+pub mod Known
 pub mod Refused
 pub mod Repeats
+pub mod Rules
 pub mod Told
 pub mod Written

@@ -94,12 +94,16 @@ pub record HasFault (o : CompressOptions) (input : List ℕ) (f : Fault) : Type 
   pub reads : read input ≡ Some value
   pub defect : HasDefect value o f
 
+-- what is an answer to bytes, under some options
+abbrev pub Answering : Type 1
+Answering = CompressOptions → List ℕ → Minified → Type 0
+
 -- what a whole input comes to
-abbrev pub IsOutcome : CompressOptions → List ℕ → Outcome → Type 0
-IsOutcome o input NoRoom = Unit {0}
-IsOutcome o input Unread = IsNotJson input
-IsOutcome o input (Faulty e) = (f : Fault) × HasFault o input f × (fault_of e ≡ Some f)
-IsOutcome o input (Answer s) = (m : Minified) × HasAnswer o input m × (string_bytes s ≡ answer_text m)
+abbrev pub IsOutcome : Answering → CompressOptions → List ℕ → Outcome → Type 0
+IsOutcome A o input NoRoom = Unit {0}
+IsOutcome A o input Unread = IsNotJson input
+IsOutcome A o input (Faulty e) = (f : Fault) × HasFault o input f × (fault_of e ≡ Some f)
+IsOutcome A o input (Answer s) = (m : Minified) × A o input m × (string_bytes s ≡ answer_text m)
 
 -- what the script of n statements comes to
 abbrev pub IsOutcomeOf : CompressOptions → ℕ → Outcome → Type 0
@@ -147,15 +151,15 @@ IsFinished (Answer s) WriteFault sink notes = GrewWithin sink.before sink.after 
 IsFinished _ _ sink notes = ⊥
 
 -- what a status says of a whole input, read under these options, and of what was written
-abbrev pub IsDelivered : Status → CompressOptions → List ℕ → Change → Change → Type 0
-IsDelivered Done o input sink notes = (m : Minified) × HasAnswer o input m × Appends sink.before sink.after (answer_text m) × IsUntouched notes
-IsDelivered WriteFault o input sink notes = (m : Minified) × HasAnswer o input m × GrewWithin sink.before sink.after (answer_text m) × Rose sink.faults_before sink.faults_after × IsUntouched notes
-IsDelivered NotJson o input sink notes = IsNotJson input × IsUntouched sink × IsUntouched notes
-IsDelivered Refused o input sink notes = (f : Fault) × HasFault o input f × IsTold notes (note_text f) × IsUntouched sink
-IsDelivered OutOfMemory o input sink notes = IsUntouched sink × IsUntouched notes
-IsDelivered BadWords o input sink notes = ⊥
-IsDelivered ReadFault o input sink notes = ⊥
-IsDelivered TooLong o input sink notes = ⊥
+abbrev pub IsDelivered : Answering → Status → CompressOptions → List ℕ → Change → Change → Type 0
+IsDelivered A Done o input sink notes = (m : Minified) × A o input m × Appends sink.before sink.after (answer_text m) × IsUntouched notes
+IsDelivered A WriteFault o input sink notes = (m : Minified) × A o input m × GrewWithin sink.before sink.after (answer_text m) × Rose sink.faults_before sink.faults_after × IsUntouched notes
+IsDelivered A NotJson o input sink notes = IsNotJson input × IsUntouched sink × IsUntouched notes
+IsDelivered A Refused o input sink notes = (f : Fault) × HasFault o input f × IsTold notes (note_text f) × IsUntouched sink
+IsDelivered A OutOfMemory o input sink notes = IsUntouched sink × IsUntouched notes
+IsDelivered A BadWords o input sink notes = ⊥
+IsDelivered A ReadFault o input sink notes = ⊥
+IsDelivered A TooLong o input sink notes = ⊥
 
 -- what a status says of the script of n statements, under these options, and of what was written
 abbrev pub IsDeliveredOf : Status → CompressOptions → ℕ → Change → Change → Type 0
@@ -173,19 +177,27 @@ abbrev pub to_generate : CompressOptions → ℕ → Orders
 to_generate o n = record { options = o; generate = Some n }
 
 -- all was read, under the options that the words name, and the status tells what came of it
-abbrev pub IsDueOfRead : Status → List (List ℕ) → Change → Change → Change → Type 0
-IsDueOfRead s words source sink notes = (o : CompressOptions) × NameOrders words (to_read o) × (input : List ℕ) × Gave source input × IsDelivered s o input sink notes
+abbrev pub IsDueOfRead : Answering → Status → List (List ℕ) → Change → Change → Change → Type 0
+IsDueOfRead A s words source sink notes = (o : CompressOptions) × NameOrders words (to_read o) × (input : List ℕ) × Gave source input × IsDelivered A s o input sink notes
 
 -- nothing was read, and the status tells what came of the script
 abbrev pub IsDueOfScript : Status → List (List ℕ) → Change → Change → Change → Type 0
 IsDueOfScript s words source sink notes = (o : CompressOptions) × (n : ℕ) × NameOrders words (to_generate o n) × IsUntouched source × IsDeliveredOf s o n sink notes
 
 abbrev pub IsDueOfAll : Status → List (List ℕ) → Change → Change → Change → Type 0
-IsDueOfAll s words source sink notes = IsDueOfRead s words source sink notes ⊎ IsDueOfScript s words source sink notes
+IsDueOfAll s words source sink notes = IsDueOfRead HasAnswer s words source sink notes ⊎ IsDueOfScript s words source sink notes
 
 -- the words are good, and order to read
 abbrev pub AskToRead : List (List ℕ) → Type 0
 AskToRead words = (o : CompressOptions) × NameOrders words (to_read o)
+
+-- what a status says of a run that reads, and generates nothing
+abbrev pub IsReadDue : Answering → Status → List (List ℕ) → Change → Change → Change → Type 0
+IsReadDue A BadWords words source sink notes = (AskToRead words → ⊥) × IsUntouched source × IsUntouched sink × IsUntouched notes
+IsReadDue A ReadFault words source sink notes = AskToRead words × Rose source.faults_before source.faults_after × IsUntouched sink × IsUntouched notes
+IsReadDue A TooLong words source sink notes = AskToRead words × ((input : List ℕ) × GaveMore source input) × IsUntouched sink × IsUntouched notes
+IsReadDue A OutOfMemory words source sink notes = AskToRead words × IsUntouched sink × IsUntouched notes
+IsReadDue A s words source sink notes = IsDueOfRead A s words source sink notes
 
 -- what a status says of a run
 abbrev pub IsDue : Status → List (List ℕ) → Change → Change → Change → Type 0
@@ -195,7 +207,7 @@ IsDue TooLong words source sink notes = AskToRead words × ((input : List ℕ) �
 IsDue OutOfMemory words source sink notes = GoodWords words × IsUntouched sink × IsUntouched notes
 IsDue Done words source sink notes = IsDueOfAll Done words source sink notes
 IsDue WriteFault words source sink notes = IsDueOfAll WriteFault words source sink notes
-IsDue NotJson words source sink notes = IsDueOfRead NotJson words source sink notes
+IsDue NotJson words source sink notes = IsDueOfRead HasAnswer NotJson words source sink notes
 IsDue Refused words source sink notes = IsDueOfAll Refused words source sink notes
 
 -- The words are good; the source tells its bytes, which aren't too many; and they are JSON of a

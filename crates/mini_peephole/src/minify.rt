@@ -1,9 +1,13 @@
 //! The library's top call: an ESTree value in, a lighter one out.
 
-ghost use Rattle.std.specs.Prelude.{◌≡◌, ◌+◌, ◌<◌, ◌^◌, Some, length, IfOk, IfErr, IfSome, false};
+ghost use Rattle.std.specs.Prelude.{◌≡◌, ◌+◌, ◌<◌, ◌^◌, Some, length, IfOk, IfErr, IfSome, OnOk, true, false};
 ghost use Rattle.serde_json.specs.View.{view};
 ghost use Rattle.serde_json.specs.Written.{has_float};
 ghost use Rattle.mini_context.specs.Known.{Knows};
+ghost use Rattle.mini_model.specs.Weight.{program_weight};
+ghost use Rattle.mini_model.specs.declared.place.Position.TheVariants.{Elsewhere};
+ghost use Rattle.mini_tree.specs.Context.{KnowsSome, ByKnown, KnowsAsBefore};
+ghost use Rattle.mini_tree.specs.Walk.{Walked};
 ghost use Rattle.mini_writer.specs.Fits.{Fits};
 ghost use Rattle.mini_laws.specs.References.{references};
 ghost use Rattle.mini_laws.specs.Resolved.{symbols};
@@ -13,6 +17,7 @@ ghost use Rattle.mini_model.specs.Faults.{fault_of};
 ghost use Rattle.mini_peephole.specs.ComesBack.{ComesBack};
 ghost use Rattle.mini_peephole.specs.Faithful.{Faithful, PassesBounded};
 ghost use Rattle.mini_peephole.specs.Answer.{IsWeighed};
+ghost use Rattle.mini_peephole.specs.Rules.{AllGives, AllRests};
 ghost use Rattle.mini_peephole.specs.Minified.{IsWeighedAnswer, IsWritten, IsAnswerOf, IsMinified, IsMinifiedBy, IsRefusal};
 
 use crate::named::{numbers_of, symbols_of};
@@ -38,8 +43,8 @@ use mini_syntax::{
     SubstituteReturns, SubstituteSpellings,
 };
 use mini_tree::{
-    CompressOptions, Numbers, OutOfMemory, Passes, Position, Program, Rule, Then, discard,
-    run_passes, weight,
+    CompressOptions, Context, Numbers, OutOfMemory, Passes, Position, Program, Rule, Then, discard,
+    run_passes, walk, weight,
 };
 use mini_unused::{RemoveUnusedNames, SubstituteCatches};
 use mini_writer::write_program;
@@ -334,6 +339,37 @@ const RULES: Then<Loose, Steady> = Then {
     first: LOOSE_RULES,
     second: STEADY_RULES,
 };
+
+// A walk of a rule over a program, which gets lighter where anything changes.
+fn walk_once<C: Context, R: Rule<C>>(
+    rule: &R,
+    alloc: Global,
+    tree: &mut Program,
+    context: &mut C,
+) -> Result<bool, OutOfMemory>
+    requires { KnowsSome C.knows context.old }
+    ensures walked { IfOk result (λ changed. ByKnown C.knows context.old (λ o q. Walked (R.gives o q) (R.rests o q) Elsewhere tree.old tree.new changed)) }
+    ensures lighter { IfOk result (λ changed. changed ≡ true → program_weight tree.new < program_weight tree.old) }
+    ensures known { OnOk result (KnowsAsBefore C.knows context.old context.new) }
+{
+    walk(rule, alloc, tree, Position::Elsewhere, context)
+}
+
+/// One walk of all rules over a program, whose answer says whether anything changed: steps lead to
+/// the program from what it was, each lighter, or nowhere in it has a rule anything to do. The only
+/// error is that memory runs out, and then the program is fit only to be dropped.
+pub fn rewrite_once(
+    alloc: Global,
+    tree: &mut Program,
+    context: &mut TraverseCtx,
+) -> Result<bool, OutOfMemory>
+    requires { KnowsSome Knows context.old }
+    ensures walked { IfOk result (λ changed. ByKnown Knows context.old (λ o q. Walked (AllGives o q) (AllRests o q) Elsewhere tree.old tree.new changed)) }
+    ensures lighter { IfOk result (λ changed. changed ≡ true → program_weight tree.new < program_weight tree.old) }
+    ensures known { OnOk result (KnowsAsBefore Knows context.old context.new) }
+{
+    walk_once(&RULES, alloc, tree, context)
+}
 
 // The answer of passes of a rule for a resolved tree, which is rewritten in place.
 fn rewritten<R: Rule<TraverseCtx>>(

@@ -1,13 +1,18 @@
 // From the bytes in to the bytes out.
 
-ghost use Rattle.std.specs.Prelude.{◌≡◌, ◌<◌, ◌≤◌, ◌⊎◌, ℕ, List, length, IfSome, IfOk, OnOk, IsErrOf, string_bytes, false};
-ghost use Rattle.mini_peephole.specs.Answer.{code_of, line_of, numbers_data, told_members, answer_text, answer_data, note_text, weights_text, IsOutcome, IsOutcomeOf, IsFinished, IsDelivered, IsDeliveredOf, IsDue, to_read, IsTold, Gave, GaveMore, IsValidInput, IsValidScript, IsAnswered};
+ghost use Rattle.std.specs.Prelude.{◌≡◌, ◌<◌, ◌≤◌, ◌⊎◌, ℕ, List, length, Some, IfSome, IfOk, IfErr, OnOk, IsErrOf, string_bytes, false};
+ghost use Rattle.mini_peephole.specs.Answer.{code_of, line_of, numbers_data, told_members, answer_text, answer_data, note_text, weights_text, HasAnswer, IsOutcome, IsOutcomeOf, IsFinished, IsDelivered, IsDeliveredOf, IsReadDue, IsDue, to_read, IsTold, Gave, GaveMore, IsValidInput, IsValidScript, IsAnswered};
+ghost use Rattle.mini_peephole.specs.declared.minify.Minified.{Minified};
+ghost use Rattle.mini_peephole.specs.Minified.{IsRefusal};
 ghost use Rattle.mini_run.specs.Causes.{Rose};
 ghost use Rattle.mini_run.specs.Words.{NameOrders};
 ghost use Rattle.serde_json.specs.Data.{put as with_member};
+ghost use Rattle.serde_json.specs.Read.{read};
 ghost use Rattle.serde_json.specs.View.{view, members_view};
 ghost use Rattle.serde_json.specs.Written.{has_float};
 ghost use Rattle.mini_model.specs.Faults.{fault_of};
+ghost use Rattle.mini_tree.specs.declared.options.CompressOptions.{CompressOptions};
+ghost use Rattle.mini_writer.specs.Fits.{Fits};
 
 use crate::minify::{Minified, Weighed, minify_value, weigh_value};
 use mini_estree::MinifyError;
@@ -135,10 +140,50 @@ fn answer(alloc: Global, minified: Minified) -> Result<String, AllocError>
     line(alloc, &value)
 }
 
+/// What a run does between reading and writing.
+pub trait Minifier {
+    // what is an answer to bytes, under some options
+    ghost answers: { CompressOptions → List ℕ → Minified → Type 0 };
+
+    /// The answer to a value that is given away. A value is refused for want of memory, or where it
+    /// is no program that is read to the depth of the options, or one with an early error.
+    fn minify(
+        &self,
+        alloc: Global,
+        program: Value,
+        options: &CompressOptions,
+    ) -> Result<Minified, MinifyError>
+        requires { Fits (view program) }
+        ensures answered { IfOk result (λ m. (input : List ℕ) → read input ≡ Some (view program) → answers options.now input m) }
+        ensures plain { IfOk result (λ m. has_float (view m.program) ≡ false) }
+        ensures refused { IfErr result (λ e. IsRefusal (view program) options.now e) };
+}
+
+/// Rewrites, and nothing besides.
+pub struct Rewriting;
+
+impl Minifier for Rewriting {
+    ghost answers = { λ o input m. HasAnswer o input m };
+
+    fn minify(
+        &self,
+        alloc: Global,
+        program: Value,
+        options: &CompressOptions,
+    ) -> Result<Minified, MinifyError> {
+        minify_value(alloc, program, options)
+    }
+}
+
 // The bytes are let go as soon as their value is there, and the value as soon as it is read.
-fn settle(alloc: Global, input: Vec<u8>, options: &CompressOptions) -> Outcome
+fn settle<M: Minifier>(
+    minifier: &M,
+    alloc: Global,
+    input: Vec<u8>,
+    options: &CompressOptions,
+) -> Outcome
     requires { length input.items ≤ 16777216 }
-    ensures { IsOutcome options.now input.items result }
+    ensures { IsOutcome M.answers options.now input.items result }
 {
     let read = Value::from_slice(alloc, &input);
     drop(input);
@@ -151,7 +196,7 @@ fn settle(alloc: Global, input: Vec<u8>, options: &CompressOptions) -> Outcome
             return Outcome::Unread;
         }
     };
-    match minify_value(alloc, value, options) {
+    match minifier.minify(alloc, value, options) {
         Ok(minified) => match answer(alloc, minified) {
             Ok(text) => Outcome::Answer(text),
             Err(_) => Outcome::NoRoom,
@@ -213,7 +258,8 @@ fn finish<K: Sink, E: Sink>(alloc: Global, outcome: Outcome, sink: &mut K, notes
     }
 }
 
-fn deliver<K: Sink, E: Sink>(
+fn deliver<M: Minifier, K: Sink, E: Sink>(
+    minifier: &M,
     alloc: Global,
     input: Vec<u8>,
     options: &CompressOptions,
@@ -221,11 +267,11 @@ fn deliver<K: Sink, E: Sink>(
     notes: &mut E,
 ) -> Status
     requires { length input.items ≤ 16777216 }
-    ensures { IsDelivered result options.now input.items
+    ensures { IsDelivered M.answers result options.now input.items
         (record { before = K.written sink.old; after = K.written sink.new; faults_before = K.faults sink.old; faults_after = K.faults sink.new })
         (record { before = E.written notes.old; after = E.written notes.new; faults_before = E.faults notes.old; faults_after = E.faults notes.new }) }
 {
-    let outcome = settle(alloc, input, options);
+    let outcome = settle(minifier, alloc, input, options);
     finish(alloc, outcome, sink, notes)
 }
 
@@ -300,21 +346,23 @@ fn read_input<S: Source, L: Ledger>(
     read_all(alloc, source, &mut steps)
 }
 
-// Reads all that the source gives, and writes the answer, or tells why there is none.
-fn run_read<S: Source, K: Sink, E: Sink>(
+/// Reads all that the source gives, makes an answer of it under these options, and writes that, or
+/// tells why there is none.
+pub fn run_read<M: Minifier, S: Source, K: Sink, E: Sink>(
+    minifier: &M,
     alloc: Global,
     options: &CompressOptions,
     source: &mut S,
     sink: &mut K,
     notes: &mut E,
 ) -> Status
-    ensures { (words : List (List ℕ)) → NameOrders words (to_read options.now) → IsDue result words
+    ensures { (words : List (List ℕ)) → NameOrders words (to_read options.now) → IsReadDue M.answers result words
         (record { before = S.left source.old; after = S.left source.new; faults_before = S.faults source.old; faults_after = S.faults source.new })
         (record { before = K.written sink.old; after = K.written sink.new; faults_before = K.faults sink.old; faults_after = K.faults sink.new })
         (record { before = E.written notes.old; after = E.written notes.new; faults_before = E.faults notes.old; faults_after = E.faults notes.new }) }
 {
     match read_input::<S, Brand>(alloc, source, Blank::new(1)) {
-        Ok(input) => deliver(alloc, input, options, sink, notes),
+        Ok(input) => deliver(minifier, alloc, input, options, sink, notes),
         Err(Stopped::Memory) => Status::OutOfMemory,
         Err(Stopped::Fault) => Status::ReadFault,
         Err(Stopped::TooLong) => Status::TooLong,
@@ -343,7 +391,7 @@ pub fn run<S: Source, K: Sink, E: Sink>(
         None => return Status::BadWords,
     };
     match orders.generate {
-        None => run_read(alloc, &orders.options, source, sink, notes),
+        None => run_read(&Rewriting, alloc, &orders.options, source, sink, notes),
         Some(n) => deliver_script(alloc, n, &orders.options, sink, notes),
     }
 }

@@ -1,9 +1,11 @@
 use Rattle.std.proofs.Common.{refl}
-use Rattle.mini_peephole.proofs.Due.{ordered_to_read, ordered_to_generate, few_to_generate, due_of_script, answered_of}
+use Rattle.mini_peephole.proofs.Due.{ordered_to_read, ordered_to_generate, few_to_generate, due_of, due_of_script, answered_of}
 use Rattle.mini_peephole.proofs.running.run.Goals as goal
 
 pub returns-in-None-generate-clause-due : goal.returns-in-None-generate-clause-due
-returns-in-None-generate-clause-due g c = c.run_read.ensures c.args.words.now (ordered_to_read _ c.in-Some.orders c.in-Some.ensures c.in-None-generate.is)
+returns-in-None-generate-clause-due g c =
+    let name = ordered_to_read _ c.in-Some.orders c.in-Some.ensures c.in-None-generate.is in
+    due_of _ _ _ _ _ _ name (c.run_read.ensures c.args.words.now name)
 
 pub returns-in-None-generate-clause-answered : goal.returns-in-None-generate-clause-answered
 returns-in-None-generate-clause-answered g c = answered_of _ _ _ _ _ (returns-in-None-generate-clause-due g c)

@@ -1,0 +1,7 @@
+pub mod Answered
+pub mod Faith
+pub mod Lighter
+pub mod Links
+pub mod Names
+pub mod Turning
+pub mod Words
