@@ -9,7 +9,7 @@ use Rattle.mini_model.specs.declared.operator.UnaryOperator.TheVariants as unary
 use Rattle.mini_model.specs.declared.operator.UpdateOperator.TheVariants.{Increment, Decrement}
 use Rattle.mini_model.specs.Tree.{Tree, Trees}
 use Rattle.mini_print.specs.Token.{Token, Word, Punct, Comma, Semicolon, RightParen, RightBracket, RightBrace, Arrow as ArrowToken, LeftBrace, Times, Dot, Colon, LeftParen, Quoted, Number, OptionalDot, LeftBracket, Private, Assigns, Ellipsis, TemplateMiddle, TemplateTail}
-use Rattle.mini_print.specs.Grammar.{Goal, Anything, WithoutIn, Callee, Body, Element, ArrowBlock, FunctionBody, NoBrace, permits, is_left_brace, Sort, Values, Names, Bindings, Statements, Declarators, Properties, Bodies, sort, heir, Place, Rule, Parenthesized, Arrow, Prefix, Unary, Variables, Least, Zero, One, Two, Gaps, Equals, Part, token, left, part, commas, lookahead, form, level, is_of, excluded, NewTarget, Yield, YieldFrom, GeneratorExpression, GeneratorDeclaration, CatchParam, CatchBare, Cases, Catches, BlockParts, is_allowed, same_sort, rule_sort, New, FunctionExpression, FunctionDeclaration, CatchParam, perhaps, option, statements, unwritten, BoundKeyValue, BoundShorthand, Shorthand, BoundProperties, KeyValue, has, ends_property, is_colon_next, ForIn, ForOf, ForDeclared, ForDeclaredIn, ForDeclaredOf, HeadVariables, HeadDeclarations, fork, For, is_word_of, MethodProperty, Getter, Setter, GeneratorProperty, MethodFunction, GeneratorMethod, Methods, GeneratorMethods, Key, KeyWord, KeyText, KeyNumber, KeyNames, KeyName, Chain, FirstMember, FirstCall, LinkCall, OptionalMember, Link, TemplateRests, TagTemplates, FirstLinks, Links, Defaulted, BoundDefault, ComputedMethod, ComputedGenerator, BoundElements, DefaultsOf, Computed, Rest, ClassPlain, ClassMethod, ClassComputedMethod, ClassGenerator, ClassComputedGenerator, ClassGetter, ClassComputedGetter, ClassSetter, ClassComputedSetter, Field, ComputedField, StaticElement, StaticInit, PrivateKey, ClassKey, ClassBodies, ClassElements, Leadings, ArrayTarget, ObjectTarget, PatternItem, ValueItem, PatternRest, ValueRest, TargetShorthand, TargetDefault, TargetKeyValue, PatternAssignment, TargetPattern, Target, Patterns, TargetElements, TargetProperties, Object, Array, YieldBare, ends_yield, Declarations, DefaultDeclarations, ImportItems, ExportItems, ForwardItems, ImportBare, ImportNames, ImportNamespace, ImportDefault, ImportDefaultNames, ImportDefaultNamespace, ImportShort, ImportAs, ExportNames, ExportFrom, ExportAll, ExportDeclared, ExportValue, ExportDefault, ExportShort, ExportAs, ForwardName, ForwardText, ForwardAs, DeclaredVariables, DeclaredFunction, DeclaredGenerator, DeclaredClass, DefaultFunction, DefaultGenerator, DefaultClass, DefaultClassNamed}
+use Rattle.mini_print.specs.Grammar.{Goal, Anything, WithoutIn, Callee, Body, Element, ArrowBlock, FunctionBody, NoBrace, permits, is_left_brace, Sort, Values, Names, Bindings, Statements, Declarators, Properties, Bodies, sort, heir, Place, Rule, Parenthesized, Arrow, Prefix, Unary, Variables, Least, Zero, One, Two, Gaps, Equals, Part, token, left, part, commas, lookahead, form, level, is_of, excluded, NewTarget, Yield, YieldFrom, GeneratorExpression, GeneratorDeclaration, CatchParam, CatchBare, Cases, Catches, BlockParts, is_allowed, same_sort, rule_sort, New, FunctionExpression, FunctionDeclaration, CatchParam, perhaps, option, statements, unwritten, BoundKeyValue, BoundShorthand, Shorthand, BoundProperties, KeyValue, has, ends_property, is_colon_next, ForIn, ForOf, ForDeclared, ForDeclaredIn, ForDeclaredOf, HeadVariables, HeadDeclarations, fork, For, is_word_of, MethodProperty, Getter, Setter, GeneratorProperty, MethodFunction, GeneratorMethod, Methods, GeneratorMethods, Key, KeyWord, KeyText, KeyNumber, KeyNames, KeyName, Chain, FirstMember, FirstCall, LinkCall, OptionalMember, Link, TemplateRests, TagTemplates, FirstLinks, Links, Defaulted, BoundDefault, ComputedMethod, ComputedGenerator, BoundElements, DefaultsOf, Computed, Rest, ClassPlain, ClassMethod, ClassComputedMethod, ClassGenerator, ClassComputedGenerator, ClassGetter, ClassComputedGetter, ClassSetter, ClassComputedSetter, Field, ComputedField, StaticElement, StaticInit, PrivateKey, ClassKey, ClassBodies, ClassElements, Leadings, ArrayTarget, ObjectTarget, PatternItem, ValueItem, PatternRest, ValueRest, TargetShorthand, TargetDefault, TargetKeyValue, PatternAssignment, TargetPattern, Target, Patterns, TargetElements, TargetProperties, Object, Array, YieldBare, ends_yield, Declarations, DefaultDeclarations, ImportItems, ExportItems, ForwardItems, ImportBare, ImportNames, ImportNamespace, ImportDefault, ImportDefaultNames, ImportDefaultNamespace, ImportShort, ImportAs, ExportNames, ExportFrom, ExportAll, ExportDeclared, ExportValue, ExportDefault, ExportShort, ExportAs, ForwardName, ForwardText, ForwardAs, DeclaredVariables, DeclaredFunction, DeclaredGenerator, DeclaredClass, DefaultFunction, DefaultGenerator, DefaultClass, DefaultClassNamed, ForPatternIn, ForPatternOf}
 use Rattle.mini_print.specs.Groups.{Groups, by_rule, Row, end, a_token, a_left, a_part, a_list, a_lookahead, present, missing, with, without, a_silent, a_fork}
 use Rattle.mini_print.specs.Printed.{is_statements}
 use Rattle.mini_print.proofs.Reader.{start_at, arrow_rule, is_brace_next, prefix, power, next_power, ends, is_left_paren, is_arrow_next, behind_bracket, tail, bars, is_star_next, is_dot_next, is_paren_next, statement_at, property_at, bound_at, declares, end_words, is_word_next, accessor, first_link, optional_link, link_at, is_equals_next, is_bracket_next, computed_accessor, is_name_end, class_rule, keyed_member, worded_member, member_at, rest_element, element_at, target_property_at}
@@ -18,6 +18,7 @@ use Rattle.mini_print.proofs.Tidy.{Tidy, TidyBehind, Starting, is_name_next, is_
 use Rattle.mini_print.proofs.Table.{is_no_value}
 use Rattle.mini_print.proofs.Powers.{first_open, target_open, neutral, neutral_items}
 use Rattle.mini_print.proofs.Placed.{same_sort_is as of_sort}
+use Rattle.mini_print.proofs.Heads.{undeclared, list_row, for_begins, declared_for_begins, pattern_in_begins, pattern_of_begins}
 use Rattle.mini_print.proofs.Modules.{not_star, token_row, import_default_begins, import_default_names_begins, import_default_namespace_begins, export_names_begins, export_from_begins, export_declared_begins, export_value_begins, export_default_begins, declared_function_begins, default_function_begins, default_class_begins, import_short_begins, import_as_begins, export_short_begins, forward_name_begins, forward_text_begins, forward_as_begins}
 
 -- ---- what begins a production
@@ -329,26 +330,6 @@ bound_default_begins s (a_token _ _ _ _ _ _ (a_silent _ _ _ _ _ _ (a_part _ _ _ 
 pub defaulted_begins : {g : Goal} {ks : Trees} {ts r : List Token} → Row g (form Defaulted) ks ts r → prefix BoundElements ts ≡ Some Defaulted
 defaulted_begins (a_part _ _ _ _ _ _ _ ts _ _ c d) = ap (λ b. Some (if b then Rest else Defaulted)) (first_open c).2
 
--- no expression begins as a declaration
-pub undeclared : (ts : List Token) → bars ts ≡ false → declares ts ≡ false
-undeclared [] e = refl
-undeclared (Word s ∷ ts) e = by (is_word_of end_words s) (same_text s (codes "var")) (same_text s (codes "let")) (same_text s (codes "const")) e
-  where
-    by : (a b c d : Bool) → (a || (b || (c || (d || (same_text s (codes "in") || false))))) ≡ false → (b || (c || (d || false))) ≡ false
-    by false false false false e = refl
-    by true b c d e = absurd (false≢true (sym e))
-    by false true c d e = absurd (false≢true (sym e))
-    by false false true d e = absurd (false≢true (sym e))
-    by false false false true e = absurd (false≢true (sym e))
-undeclared (x ∷ ts) e = refl
-
-pub for_begins : {g : Goal} {ks : Trees} {ts r : List Token} → Row g (form For) ks ts r → statement_at ts ≡ Some For
-for_begins (a_token _ _ _ _ _ _ (a_token _ _ _ _ _ _ (present _ _ _ _ _ ts _ _ c d))) = ap (λ b. Some (if b then ForDeclared else For)) (undeclared ts (first_open c))
-for_begins (a_token _ _ _ _ _ _ (a_token _ _ _ _ _ _ (missing _ _ _ _ _ _ (a_fork _ _ _ _ _ (a_token _ _ _ _ _ _ d))))) = refl
-
-pub declared_for_begins : {g : Goal} {ks : Trees} {ts r : List Token} → Row g (form ForDeclared) ks ts r → statement_at ts ≡ Some ForDeclared
-declared_for_begins (a_token _ _ _ _ _ _ (a_token _ _ _ _ _ _ (a_part _ _ _ _ _ _ _ ts _ _ c d))) = ap (λ b. Some (if b then ForDeclared else For)) (first_open c)
-
 -- the links of a chain
 pub named_link : (ts : List Token) → is_name_next ts ≡ true → (first_link ts ≡ FirstMember) × (optional_link ts ≡ OptionalMember)
 named_link [] e = absurd (false≢true e)
@@ -479,9 +460,6 @@ pub object_begins : {g : Goal} {ks : Trees} {ts r : List Token} → Row g (form 
 object_begins {g} (a_token _ y _ _ ts _ (a_list _ _ _ _ is _ _ m _ c (a_token _ z _ _ _ _ (end _ r)))) v x q =
     value_prefix g (y ∷ ts) v ∙ ap (λ y. if is_equals_next y then Some PatternAssignment else Some Object) (neutral_items c 0) ∙ ap (λ b. if b then Some PatternAssignment else Some Object) (no_assignment g r v (same_exclusion g x) q)
 
-pub list_row : {g : Goal} {x y : Token} {o : Option Goal} {l : Least} {ks : Trees} {ts r : List Token} → Row g (token x ∷ commas o l ∷ token y ∷ []) ks ts r → (us : List Token) × (ts ≡ x ∷ us) × ((d : ℕ) → behind_bracket d us ≡ behind_bracket d (y ∷ r))
-list_row (a_token _ _ _ _ us _ (a_list _ _ _ _ _ _ _ _ _ c (a_token _ _ _ _ _ _ (end _ _)))) = (us, refl, neutral_items c)
-
 pub pattern_case : (h : Rule) → {g : Goal} {ks : Trees} {ts r : List Token} → Row g (form h) ks ts r → has TargetPattern h ≡ true → is_equals_next r ≡ true → start_at ts ≡ Some PatternAssignment
 pattern_case ArrayTarget d f e = let w = list_row d in ap start_at w.1 ∙ ap (λ y. if is_equals_next y then Some PatternAssignment else Some Array) (w.2 0) ∙ ap (λ b. if b then Some PatternAssignment else Some Array) e
 pattern_case ObjectTarget d f e = let w = list_row d in ap start_at w.1 ∙ ap (λ y. if is_equals_next y then Some PatternAssignment else Some Object) (w.2 0) ∙ ap (λ b. if b then Some PatternAssignment else Some Object) e
@@ -609,6 +587,8 @@ specially ForwardAs e f {g} {ks} {ts} d v q X = ap (λ s. prefix s ts) (of_sort 
 specially DeclaredFunction e f {g} {ks} {ts} d v q X = ap (λ s. prefix s ts) (of_sort (sort g) Declarations (sorted (sort g) DeclaredFunction v)) ∙ declared_function_begins d
 specially DefaultFunction e f {g} {ks} {ts} d v q X = ap (λ s. prefix s ts) (of_sort (sort g) DefaultDeclarations (sorted (sort g) DefaultFunction v)) ∙ default_function_begins d
 specially DefaultClass e f {g} {ks} {ts} d v q X = ap (λ s. prefix s ts) (of_sort (sort g) DefaultDeclarations (sorted (sort g) DefaultClass v)) ∙ default_class_begins d
+specially ForPatternIn e f {g} {ks} {ts} d v q X = ap (λ s. prefix s ts) (of_sort (sort g) Statements (sorted (sort g) ForPatternIn v)) ∙ pattern_in_begins d
+specially ForPatternOf e f {g} {ks} {ts} d v q X = ap (λ s. prefix s ts) (of_sort (sort g) Statements (sorted (sort g) ForPatternOf v)) ∙ pattern_of_begins d
 specially ForIn e f d v q X = absurd (false≢true (sym f))
 specially ForOf e f d v q X = absurd (false≢true (sym f))
 specially ForDeclaredIn e f d v q X = absurd (false≢true (sym f))
@@ -643,6 +623,8 @@ led_plainly ForIn e = absurd (false≢true e)
 led_plainly ForOf e = absurd (false≢true e)
 led_plainly ForDeclaredIn e = absurd (false≢true e)
 led_plainly ForDeclaredOf e = absurd (false≢true e)
+led_plainly ForPatternIn e = absurd (false≢true e)
+led_plainly ForPatternOf e = absurd (false≢true e)
 led_plainly MethodProperty e = absurd (false≢true e)
 led_plainly Getter e = absurd (false≢true e)
 led_plainly Setter e = absurd (false≢true e)
@@ -701,10 +683,6 @@ led_unforked ForOf e = absurd (false≢true e)
 led_unforked ForDeclaredIn e = absurd (false≢true e)
 led_unforked ForDeclaredOf e = absurd (false≢true e)
 led_unforked _ e = refl
-
-pub either : {A : Type 0} (b : Bool) → b ≡ b → (b ≡ true → A) → (b ≡ false → A) → A
-either true e f g = f refl
-either false e f g = g refl
 
 -- the parts behind the first one of a loop's head
 abbrev pub behind_head : List Part → List Part

@@ -7,8 +7,11 @@ use Rattle.mini_model.specs.declared.seat.Mix.{Mix}
 use Rattle.mini_model.specs.declared.seat.Mix.TheVariants as mix
 use Rattle.mini_model.specs.declared.shape.Shape.{Shape}
 use Rattle.mini_model.specs.declared.shape.Shape.TheVariants as shape
-use Rattle.mini_print.proofs.Stated.{list_not_else}
-use Rattle.mini_print.proofs.Told.{is_values, both}
+use Rattle.mini_model.specs.Weight.{same_text}
+use Rattle.mini_print.specs.Text.{escaped}
+use Rattle.mini_print.proofs.Escapes.{unescaped}
+use Rattle.mini_print.proofs.Stated.{list_not_else, no_text}
+use Rattle.mini_print.proofs.Told.{is_values, both, same_is}
 use Rattle.mini_print.proofs.Tidy.{Starting}
 use Rattle.mini_print.proofs.Reader.{is_right_brace, is_brace_next, is_weak}
 use Rattle.mini_print.proofs.Powers.{first_open}
@@ -367,27 +370,38 @@ anything_values (Some i) e = ap is_values (sym (plain_sort i) ∙ ap sort e)
 pub text_statement : List ℕ → Tree
 text_statement s = node shape.ExpressionStatement [] 0 (leaf (shape.StringLiteral s) ▸ none)
 
-pub text_value : (s : List ℕ) (r : List Token) → Groups (place Anything 0) (leaf (shape.StringLiteral s)) (Quoted s ∷ r) r
+pub text_value : (s : List ℕ) (r : List Token) → Groups (place Anything 0) (leaf (shape.StringLiteral s)) (Quoted (escaped s) ∷ r) r
 text_value s r = produced (place Anything 0) (TextLiteral s) none _ r refl (by_rule (place Anything 0) (TextLiteral s) none _ r (fits_whole (TextLiteral s) refl) (a_token _ _ _ _ _ _ (end _ _)))
 
-pub text_groups : (i : Goal) → has i ExpressionStatement ≡ true → (s : List ℕ) (us : List Token) → Groups (place i 0) (text_statement s) (Quoted s ∷ Punct Semicolon ∷ us) us
+pub text_groups : (i : Goal) → has i ExpressionStatement ≡ true → (s : List ℕ) (us : List Token) → Groups (place i 0) (text_statement s) (Quoted (escaped s) ∷ Punct Semicolon ∷ us) us
 unfolding text_statement
 text_groups i H s us = produced (place i 0) ExpressionStatement (leaf (shape.StringLiteral s) ▸ none) _ us refl (
     by_rule (place i 0) ExpressionStatement (leaf (shape.StringLiteral s) ▸ none) _ us (H, omega arith, refl)
     (a_lookahead _ NoStatement _ _ _ us refl (a_part _ (Some Anything) 0 mix.None _ (leaf (shape.StringLiteral s)) none _ (Punct Semicolon ∷ us) us (text_value s (Punct Semicolon ∷ us)) (a_token _ _ _ _ _ _ (end _ _)))))
 
-pub enclosed_text : (i : Goal) → has i ExpressionStatement ≡ true → (s : List ℕ) (us : List Token) → Groups (place i 0) (text_statement s) (Punct LeftParen ∷ Quoted s ∷ Punct RightParen ∷ Punct Semicolon ∷ us) us
+pub enclosed_text : (i : Goal) → has i ExpressionStatement ≡ true → (s : List ℕ) (us : List Token) → Groups (place i 0) (text_statement s) (Punct LeftParen ∷ Quoted (escaped s) ∷ Punct RightParen ∷ Punct Semicolon ∷ us) us
 unfolding text_statement
 enclosed_text i H s us = produced (place i 0) ExpressionStatement (leaf (shape.StringLiteral s) ▸ none) _ us refl (
     by_rule (place i 0) ExpressionStatement (leaf (shape.StringLiteral s) ▸ none) _ us (H, omega arith, refl)
     (a_lookahead _ NoStatement _ _ _ us refl (a_part _ (Some Anything) 0 mix.None _ (leaf (shape.StringLiteral s)) none _ (Punct Semicolon ∷ us) us
     (in_parentheses (place Anything 0) (leaf (shape.StringLiteral s)) _ (Punct Semicolon ∷ us) refl (omega arith) (text_value s (Punct RightParen ∷ Punct Semicolon ∷ us))) (a_token _ _ _ _ _ _ (end _ _)))))
 
-pub same_text_groups : (i : Goal) → has i ExpressionStatement ≡ true → is_weak i ≡ true → (s : List ℕ) (us m : List Token) (t : Tree) → Groups (place i 0) t (Quoted s ∷ Punct Semicolon ∷ us) m → Groups (place i 0) t (Punct LeftParen ∷ Quoted s ∷ Punct RightParen ∷ Punct Semicolon ∷ us) m
-same_text_groups i H W s us m t c =
+pub canonical_groups : (i : Goal) → has i ExpressionStatement ≡ true → is_weak i ≡ true → (s : List ℕ) (us m : List Token) (t : Tree) → Groups (place i 0) t (Quoted (escaped s) ∷ Punct Semicolon ∷ us) m →
+    Groups (place i 0) t (Punct LeftParen ∷ Quoted (escaped s) ∷ Punct RightParen ∷ Punct Semicolon ∷ us) m
+canonical_groups i H W s us m t c =
     let same = statement_ends i W c (text_groups i H s us) in
-    subst (λ k. Groups (place i 0) t (Punct LeftParen ∷ Quoted s ∷ Punct RightParen ∷ Punct Semicolon ∷ us) k) (sym same.1)
-    (subst (λ k. Groups (place i 0) k (Punct LeftParen ∷ Quoted s ∷ Punct RightParen ∷ Punct Semicolon ∷ us) us) (sym same.0) (enclosed_text i H s us))
+    subst (λ k. Groups (place i 0) t (Punct LeftParen ∷ Quoted (escaped s) ∷ Punct RightParen ∷ Punct Semicolon ∷ us) k) (sym same.1)
+    (subst (λ k. Groups (place i 0) k (Punct LeftParen ∷ Quoted (escaped s) ∷ Punct RightParen ∷ Punct Semicolon ∷ us) us) (sym same.0) (enclosed_text i H s us))
+
+pub same_text_groups : (i : Goal) → has i ExpressionStatement ≡ true → is_weak i ≡ true → (q : List ℕ) (us m : List Token) (t : Tree) → Groups (place i 0) t (Quoted q ∷ Punct Semicolon ∷ us) m → Groups (place i 0) t (Punct LeftParen ∷ Quoted q ∷ Punct RightParen ∷ Punct Semicolon ∷ us) m
+same_text_groups i H W q us m t c = by (same_text (escaped (unescaped q)) q) refl
+  where
+    by : (b : Bool) → same_text (escaped (unescaped q)) q ≡ b → Groups (place i 0) t (Punct LeftParen ∷ Quoted q ∷ Punct RightParen ∷ Punct Semicolon ∷ us) m
+    by true e =
+        let z = same_is (escaped (unescaped q)) q e in
+        subst (λ y. Groups (place i 0) t (Punct LeftParen ∷ Quoted y ∷ Punct RightParen ∷ Punct Semicolon ∷ us) m) z
+        (canonical_groups i H W (unescaped q) us m t (subst (λ y. Groups (place i 0) t (Quoted y ∷ Punct Semicolon ∷ us) m) (sym z) c))
+    by false e = absurd (no_text i H q us m t e c)
 
 -- statements that begin with none that would be a directive
 pub undirect : (i : Goal) → has i ExpressionStatement ≡ true → is_weak i ≡ true → (is : Trees) (ts m : List Token) → StatementList i is ts m → starts_directive m ≡ false → StatementList i is (undirected ts) m

@@ -8,6 +8,8 @@ use Rattle.mini_print.specs.Token.{Token, Word, Punct, Quoted, Comma, RightParen
 use Rattle.mini_print.specs.Grammar.{Goal, Place, sort, has, Rule, Part, token, form, permits, ends_property, starts_default, is_word_of, ModuleName, Exportable, DefaultDeclared, KeyWord, KeyText, ImportDefault, ImportDefaultNames, ImportDefaultNamespace, ImportShort, ImportAs, ExportNames, ExportFrom, ExportDeclared, ExportValue, ExportDefault, ExportShort, ExportAs, ForwardName, ForwardText, ForwardAs, DeclaredFunction, DeclaredGenerator, DefaultFunction, DefaultGenerator, DefaultClass, Statements, Declarations, DefaultDeclarations, ImportItems, ExportItems, ForwardItems}
 use Rattle.mini_print.specs.Groups.{Groups, by_rule, Row, end, a_token, a_part, a_list, a_lookahead, present, missing, with, without, a_silent}
 use Rattle.mini_print.proofs.Reader.{prefix, statement_at, import_item_at, export_item_at, forward_item_at, declaration_at, default_at, default_class, is_plain_word_next, is_star_next, is_brace_next, bars, behind_bracket}
+use Rattle.mini_print.specs.Text.{escaped}
+use Rattle.mini_print.proofs.Escapes.{unescaped, unescaped_back}
 use Rattle.mini_print.proofs.Told.{untrue, same_is}
 use Rattle.mini_print.proofs.Tidy.{starts_declaration}
 use Rattle.mini_print.proofs.Powers.{first_open, neutral_items}
@@ -91,7 +93,7 @@ pub forward_name_begins : (s : List ℕ) {g : Goal} {ks : Trees} {ts r : List To
 forward_name_begins s (a_token _ _ _ _ _ _ (a_silent _ _ _ _ _ _ (a_silent _ _ _ _ ts _ (a_lookahead _ _ _ _ _ _ p d)))) = ap (λ b. Some (if b then ForwardAs else ForwardName s)) (no_word_ends ts p)
 
 pub forward_text_begins : (s : List ℕ) {g : Goal} {ks : Trees} {ts r : List Token} → Row g (form (ForwardText s)) ks ts r → forward_item_at ts ≡ Some (ForwardText s)
-forward_text_begins s (a_token _ _ _ _ _ _ (a_silent _ _ _ _ _ _ (a_silent _ _ _ _ ts _ (a_lookahead _ _ _ _ _ _ p d)))) = ap (λ b. Some (if b then ForwardAs else ForwardText s)) (no_word_ends ts p)
+forward_text_begins s (a_token _ _ _ _ _ _ (a_silent _ _ _ _ _ _ (a_silent _ _ _ _ ts _ (a_lookahead _ _ _ _ _ _ p d)))) = ap (λ b. Some (if b then ForwardAs else ForwardText (unescaped (escaped s)))) (no_word_ends ts p) ∙ ap (λ y. Some (ForwardText y)) (unescaped_back s)
 
 pub token_row : {g : Goal} {x : Token} {ks : Trees} {ts r : List Token} → Row g (token x ∷ []) ks ts r → ts ≡ x ∷ r
 token_row (a_token _ _ _ _ _ _ (end _ _)) = refl
@@ -99,7 +101,7 @@ token_row (a_token _ _ _ _ _ _ (end _ _)) = refl
 -- a name or a text before a word
 named_case : (h : Rule) → {g : Goal} {ks : Trees} {ts r : List Token} → Row g (form h) ks ts r → has ModuleName h ≡ true → is_plain_word_next r ≡ true → (import_item_at ts ≡ Some ImportAs) × (forward_item_at ts ≡ Some ForwardAs)
 named_case (KeyWord s) d f e = (ap import_item_at (token_row d) ∙ ap (λ b. Some (if b then ImportAs else ImportShort s)) e, ap forward_item_at (token_row d) ∙ ap (λ b. Some (if b then ForwardAs else ForwardName s)) e)
-named_case (KeyText s) d f e = (ap import_item_at (token_row d), ap forward_item_at (token_row d) ∙ ap (λ b. Some (if b then ForwardAs else ForwardText s)) e)
+named_case (KeyText s) d f e = (ap import_item_at (token_row d), ap forward_item_at (token_row d) ∙ ap (λ b. Some (if b then ForwardAs else ForwardText (unescaped (escaped s)))) e)
 named_case _ d f e = absurd (false≢true f)
 
 named_before : {p : Place} {k : Tree} {ts r : List Token} → p.goal ≡ ModuleName → Groups p k ts r → is_plain_word_next r ≡ true → (import_item_at ts ≡ Some ImportAs) × (forward_item_at ts ≡ Some ForwardAs)

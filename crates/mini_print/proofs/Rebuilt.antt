@@ -15,7 +15,7 @@ use Rattle.mini_model.specs.Templates.{cooked}
 use Rattle.mini_model.specs.declared.kind.MetaPropertyKind.TheVariants as meta
 use Rattle.mini_model.specs.Tree.{Tree, Trees, node, none, ◌▸◌, leaf, absent, is_absent}
 use Rattle.mini_print.specs.Grammar.{Rule, Unary, Part, form, built, has_private, member_shape, Defaulted, same_flag, StaticElement, static_shape, first_shape, constructor_shape, method_kind}
-use Rattle.mini_print.specs.Printed.{settled, settled_parts, is_positive_literal, rule_at, has_body, arrow_of, bare_names, wants, open_form, is_sound, case_of, catch_of, first_is_absent, for_of, for_in_of, for_of_of, declares_first, method_of, second_generates, same_cooked, template_of, is_one, first_raw, second_is_absent, bound_of, computed_method_of, has_default, first_spelling, class_of, class_method_of, class_computed_of, same_member, same_kind, Taker, ABinding, APattern, AValue, taker, element_of, rest_of, assignment_of, target_of, yield_of, import_of, default_import_of, plain_import_of, part_at, has_items, spelling_of, is_text, is_reference, is_repeated, import_item_of, forward_of, local_of, export_item_of, export_of, declares_default, default_of, declared_class_of}
+use Rattle.mini_print.specs.Printed.{settled, settled_parts, is_positive_literal, rule_at, has_body, arrow_of, bare_names, wants, open_form, is_sound, case_of, catch_of, first_is_absent, for_of, for_in_of, for_of_of, declares_first, method_of, second_generates, same_cooked, template_of, is_one, first_raw, second_is_absent, bound_of, computed_method_of, has_default, first_spelling, class_of, class_method_of, class_computed_of, same_member, same_kind, Taker, ABinding, APattern, AValue, taker, element_of, rest_of, assignment_of, target_of, yield_of, import_of, default_import_of, plain_import_of, part_at, has_items, spelling_of, is_text, is_reference, is_repeated, import_item_of, forward_of, local_of, export_item_of, export_of, declares_default, default_of, declared_class_of, assigns_first}
 
 -- ---- the production of a node, over its parts, is the node
 
@@ -54,13 +54,15 @@ pub for_built : (b : Bool) (ks : Trees) → built (for_of b) ks ≡ node shape.F
 for_built true ks = refl
 for_built false ks = refl
 
-pub for_in_built : (b : Bool) (ks : Trees) → built (for_in_of b) ks ≡ node shape.ForInStatement [] 0 ks
-for_in_built true ks = refl
-for_in_built false ks = refl
+pub for_in_built : (b p : Bool) (ks : Trees) → built (for_in_of b p) ks ≡ node shape.ForInStatement [] 0 ks
+for_in_built true p ks = refl
+for_in_built false true ks = refl
+for_in_built false false ks = refl
 
-pub for_of_built : (b : Bool) (ks : Trees) → built (for_of_of b) ks ≡ node shape.ForOfStatement [] 0 ks
-for_of_built true ks = refl
-for_of_built false ks = refl
+pub for_of_built : (b p : Bool) (ks : Trees) → built (for_of_of b p) ks ≡ node shape.ForOfStatement [] 0 ks
+for_of_built true p ks = refl
+for_of_built false true ks = refl
+for_of_built false false ks = refl
 
 pub method_built : (b : Bool) (ks : Trees) → built (method_of b) ks ≡ node (shape.ObjectProperty kind.Init true false false) [] 0 ks
 method_built true ks = refl
@@ -260,8 +262,8 @@ rebuilt c shape.ForStatement [] ts i n s f = for_built (declares_first ts) _
 rebuilt c (shape.ObjectProperty kind.Init true false false) [] ts i n s f = method_built (second_generates ts) _
 rebuilt c (shape.ObjectProperty kind.Get false false false) [] ts i n s f = refl
 rebuilt c (shape.ObjectProperty kind.Set false false false) [] ts i n s f = refl
-rebuilt c shape.ForInStatement [] ts i n s f = for_in_built (declares_first ts) _
-rebuilt c shape.ForOfStatement [] ts i n s f = for_of_built (declares_first ts) _
+rebuilt c shape.ForInStatement [] ts i n s f = for_in_built (declares_first ts) (assigns_first ts) _
+rebuilt c shape.ForOfStatement [] ts i n s f = for_of_built (declares_first ts) (assigns_first ts) _
 rebuilt c shape.ReturnStatement [] ts i n s f = refl
 rebuilt c shape.ThrowStatement [] ts i n s f = refl
 rebuilt c shape.DebuggerStatement [] ts i n s f = over_none c _ ts (λ k. node shape.DebuggerStatement [] 0 k) (f refl)

@@ -10,9 +10,11 @@ use Rattle.mini_model.specs.declared.operator.UnaryOperator.TheVariants as unary
 use Rattle.mini_model.specs.declared.operator.UpdateOperator.TheVariants.{Increment, Decrement}
 use Rattle.mini_model.specs.Position.{binary_level, left_level, right_level}
 use Rattle.mini_model.specs.Weight.{same_text}
-use Rattle.mini_print.specs.Token.{Token, Word, Punct, Comma, binary_token, Colon, TemplateWhole, TemplateHead}
-use Rattle.mini_print.specs.Grammar.{Sort, Values, Names, Bindings, Statements, Declarators, Properties, Bodies, Rule, Reference, NumberLiteral, BigIntLiteral, TextLiteral, RegExpLiteral, Null, This, True, False, Parenthesized, Array, Member, Index, New, Import, Call, PropertyName, Postfix, Prefix, Unary, Binary, Logical, Conditional, Assignment, Sequence, Arrow, BindingName, Block as BlockRule, Variables, Declarator, Empty, ExpressionStatement, If, DoWhile, While, For, Return, Throw, Debugger, Object, KeyValue, Computed, Spread, FunctionExpression, FunctionDeclaration, FunctionBody, SpreadItem, ArrowBlock, Break, Continue, Two, NoStatement, permits, begins_statement, Part, token, left, part, commas, lookahead, form, level, is_reserved, is_of, SuperMember, SuperIndex, SuperCall, NewTarget, ImportMeta, PrivateName, PrivateIn, Yield, YieldFrom, GeneratorExpression, GeneratorDeclaration, Label, Switch, Case, DefaultCase, Try, CatchParam, CatchBare, BlockPart, Cases, Catches, BlockParts, begins_label, is_colon_next, is_word_of, statement_words, ObjectPattern, ArrayPattern, Rest, BoundKeyValue, BoundComputed, BoundShorthand, BoundRest, Shorthand, BoundProperties, ForIn, ForOf, ForDeclared, ForDeclaredIn, ForDeclaredOf, HeadVariables, HeadDeclarations, MethodProperty, Getter, Setter, GeneratorProperty, MethodFunction, GeneratorMethod, Methods, GeneratorMethods, KeyWord, KeyText, KeyNumber, KeyNames, WholeTemplate, Template, MiddlePiece, TailPiece, TaggedTemplate, TagWhole, TagParts, Chain, FirstMember, FirstIndex, FirstCall, LinkMember, LinkIndex, LinkCall, OptionalMember, OptionalIndex, OptionalCall, TagTemplate, TemplateRests, TagTemplates, FirstLinks, Links, Defaulted, BoundDefault, NamedDefault, ComputedMethod, ComputedGetter, ComputedSetter, ComputedGenerator, BoundElements, DefaultsOf, same_flag, ClassPlain, ClassNamed, ClassDeclared, ClassBody, ClassMethod, ClassComputedMethod, ClassGenerator, ClassComputedGenerator, ClassGetter, ClassComputedGetter, ClassSetter, ClassComputedSetter, Field, ComputedField, StaticElement, StaticInit, PrivateKey, ClassBodies, ClassElements, Leadings, Directive, ArrayTarget, ObjectTarget, PatternItem, ValueItem, PatternRest, ValueRest, TargetShorthand, TargetDefault, TargetKeyValue, TargetComputed, TargetPropertyRest, PatternAssignment, Patterns, TargetElements, TargetProperties, YieldBare, begins_import, calls_import, Declarations, DefaultDeclarations, ImportItems, ExportItems, ForwardItems, ImportBare, ImportNames, ImportNamespace, ImportDefault, ImportDefaultNames, ImportDefaultNamespace, ImportShort, ImportAs, ExportNames, ExportFrom, ExportAll, ExportDeclared, ExportValue, ExportDefault, ExportShort, ExportAs, ForwardName, ForwardText, ForwardAs, DeclaredVariables, DeclaredFunction, DeclaredGenerator, DeclaredClass, DefaultFunction, DefaultGenerator, DefaultClass, DefaultClassNamed}
-use Rattle.mini_print.proofs.Reader.{prefix, statement_at, infix_rule, binding, is_sequence, is_left_paren, Neither, bracket, label_or_expression, statement_start, import_at}
+use Rattle.mini_print.specs.Token.{Token, Word, Punct, Comma, binary_token, Colon, TemplateWhole, TemplateHead, Quoted}
+use Rattle.mini_print.specs.Grammar.{Sort, Values, Names, Bindings, Statements, Declarators, Properties, Bodies, Rule, Reference, NumberLiteral, BigIntLiteral, TextLiteral, RegExpLiteral, Null, This, True, False, Parenthesized, Array, Member, Index, New, Import, Call, PropertyName, Postfix, Prefix, Unary, Binary, Logical, Conditional, Assignment, Sequence, Arrow, BindingName, Block as BlockRule, Variables, Declarator, Empty, ExpressionStatement, If, DoWhile, While, For, Return, Throw, Debugger, Object, KeyValue, Computed, Spread, FunctionExpression, FunctionDeclaration, FunctionBody, SpreadItem, ArrowBlock, Break, Continue, Two, NoStatement, permits, begins_statement, Part, token, left, part, commas, lookahead, form, level, is_reserved, is_of, SuperMember, SuperIndex, SuperCall, NewTarget, ImportMeta, PrivateName, PrivateIn, Yield, YieldFrom, GeneratorExpression, GeneratorDeclaration, Label, Switch, Case, DefaultCase, Try, CatchParam, CatchBare, BlockPart, Cases, Catches, BlockParts, begins_label, is_colon_next, is_word_of, statement_words, ObjectPattern, ArrayPattern, Rest, BoundKeyValue, BoundComputed, BoundShorthand, BoundRest, Shorthand, BoundProperties, ForIn, ForOf, ForDeclared, ForDeclaredIn, ForDeclaredOf, HeadVariables, HeadDeclarations, MethodProperty, Getter, Setter, GeneratorProperty, MethodFunction, GeneratorMethod, Methods, GeneratorMethods, KeyWord, KeyText, KeyNumber, KeyNames, WholeTemplate, Template, MiddlePiece, TailPiece, TaggedTemplate, TagWhole, TagParts, Chain, FirstMember, FirstIndex, FirstCall, LinkMember, LinkIndex, LinkCall, OptionalMember, OptionalIndex, OptionalCall, TagTemplate, TemplateRests, TagTemplates, FirstLinks, Links, Defaulted, BoundDefault, NamedDefault, ComputedMethod, ComputedGetter, ComputedSetter, ComputedGenerator, BoundElements, DefaultsOf, same_flag, ClassPlain, ClassNamed, ClassDeclared, ClassBody, ClassMethod, ClassComputedMethod, ClassGenerator, ClassComputedGenerator, ClassGetter, ClassComputedGetter, ClassSetter, ClassComputedSetter, Field, ComputedField, StaticElement, StaticInit, PrivateKey, ClassBodies, ClassElements, Leadings, Directive, ArrayTarget, ObjectTarget, PatternItem, ValueItem, PatternRest, ValueRest, TargetShorthand, TargetDefault, TargetKeyValue, TargetComputed, TargetPropertyRest, PatternAssignment, Patterns, TargetElements, TargetProperties, YieldBare, begins_import, calls_import, Declarations, DefaultDeclarations, ImportItems, ExportItems, ForwardItems, ImportBare, ImportNames, ImportNamespace, ImportDefault, ImportDefaultNames, ImportDefaultNamespace, ImportShort, ImportAs, ExportNames, ExportFrom, ExportAll, ExportDeclared, ExportValue, ExportDefault, ExportShort, ExportAs, ForwardName, ForwardText, ForwardAs, DeclaredVariables, DeclaredFunction, DeclaredGenerator, DeclaredClass, DefaultFunction, DefaultGenerator, DefaultClass, DefaultClassNamed, ForPatternIn, ForPatternOf}
+use Rattle.mini_print.specs.Text.{escaped}
+use Rattle.mini_print.proofs.Escapes.{unescaped, unescaped_back, escapes_again}
+use Rattle.mini_print.proofs.Reader.{prefix, statement_at, infix_rule, binding, is_sequence, is_left_paren, Neither, bracket, label_or_expression, statement_start, import_at, start}
 
 -- what stands behind a part of this level is no operator that binds tighter: those of its own level
 -- may group to the left
@@ -89,6 +91,8 @@ is_special ForIn = true
 is_special ForOf = true
 is_special ForDeclaredIn = true
 is_special ForDeclaredOf = true
+is_special ForPatternIn = true
+is_special ForPatternOf = true
 is_special KeyValue = true
 is_special BoundKeyValue = true
 is_special (Shorthand s) = true
@@ -235,11 +239,14 @@ abbrev pub ToldUnless : Bool → Sort → Rule → List Part → Type 0
 ToldUnless true s h ps = Unit {0}
 ToldUnless false s h ps = Told s h ps
 
+text_start : (s : List ℕ) → start (Quoted (escaped s)) ≡ Some (TextLiteral s)
+text_start s = ap (λ b. if b then Some (TextLiteral (unescaped (escaped s))) else None) (escapes_again s) ∙ ap (λ y. Some (TextLiteral y)) (unescaped_back s)
+
 pub told_value : (h : Rule) → is_of Values h ≡ true → ToldUnless (is_special h) Values h (form h)
 told_value (Reference s) e = λ ts. no_word (is_reserved s) _ _ e
 told_value (NumberLiteral n) e = λ ts. refl
 told_value (BigIntLiteral n) e = λ ts. refl
-told_value (TextLiteral s) e = λ ts. refl
+told_value (TextLiteral s) e = λ ts. text_start s
 told_value (RegExpLiteral p f) e = λ ts. refl
 told_value Null e = λ ts. refl
 told_value This e = λ ts. refl
@@ -309,6 +316,8 @@ told_statement ForIn e = tt
 told_statement ForOf e = tt
 told_statement ForDeclaredIn e = tt
 told_statement ForDeclaredOf e = tt
+told_statement ForPatternIn e = tt
+told_statement ForPatternOf e = tt
 told_statement Return e = λ ts. refl
 told_statement Throw e = λ ts. refl
 told_statement Debugger e = λ ts. refl
@@ -321,7 +330,7 @@ told_statement Try e = λ ts. refl
 told_statement (ClassDeclared s) e = λ ts. refl
 told_statement (Label s) e = told_label s e
 told_statement ExpressionStatement e = told_expression
-told_statement (ImportBare s) e = λ ts. refl
+told_statement (ImportBare s) e = λ ts. ap (λ y. Some (ImportBare y)) (unescaped_back s)
 told_statement ImportNames e = λ ts. refl
 told_statement ImportNamespace e = λ ts. refl
 told_statement (ImportDefault s) e = tt
@@ -383,7 +392,7 @@ told Catches _ e = absurd (false≢true e)
 told BlockParts BlockPart e = λ ts. refl
 told BlockParts _ e = absurd (false≢true e)
 told KeyNames (KeyWord s) e = λ ts. refl
-told KeyNames (KeyText s) e = λ ts. refl
+told KeyNames (KeyText s) e = λ ts. ap (λ y. Some (KeyText y)) (unescaped_back s)
 told KeyNames (KeyNumber n) e = λ ts. refl
 told KeyNames (PrivateKey s) e = λ ts. refl
 told KeyNames _ e = absurd (false≢true e)
