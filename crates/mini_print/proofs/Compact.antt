@@ -1,5 +1,5 @@
 -- A compact text splits into tokens in one way.
-use Rattle.std.specs.Prelude.{ℕ, ◌≡◌, refl, ◌<◌, ◌^◌, nat_eq, nat_lt, Bool, true, false, not, ◌&&◌, ◌||◌, List, [], ◌∷◌, ◌++◌, codes, Option, Some, None, if◌then◌else◌}
+use Rattle.std.specs.Prelude.{ℕ, ◌≡◌, refl, nat_eq, nat_lt, Bool, true, false, not, ◌&&◌, ◌||◌, List, [], ◌∷◌, ◌++◌, codes, Option, Some, None, if◌then◌else◌}
 use Rattle.std.proofs.Common.{◌∙◌, ap, sym, subst, arith}
 use Rattle.std.proofs.lemmas.Bool.{false≢true, eqb-true, ltb-true, le-ltb}
 use Rattle.std.proofs.lemmas.List.{append_assoc}
@@ -8,10 +8,10 @@ use Rattle.mini_model.specs.Weight.{same_text}
 use Rattle.mini_model.specs.declared.operator.AssignmentOperator.{AssignmentOperator}
 use Rattle.mini_model.specs.declared.operator.AssignmentOperator.TheVariants as assignment
 use Rattle.mini_print.specs.Token.{Token, Word, Punct, Number, BigInt, Quoted, Pattern, Private, Punctuator, LeftParen, RightParen, LeftBracket, RightBracket, LeftBrace, RightBrace, Comma, Semicolon, Colon, Question, Dot, Ellipsis, OptionalDot, Arrow, Plus, Minus, Times, Slash, Percent, Power, PlusPlus, MinusMinus, Bang, Tilde, Ampersand, Bar, Caret, AndAnd, BarBar, QuestionQuestion, ShiftL, ShiftR, ShiftRR, Less, LessEqual, Greater, GreaterEqual, EqualEqual, BangEqual, EqualEqualEqual, BangEqualEqual, Assigns, TemplateWhole, TemplateHead, TemplateMiddle, TemplateTail}
-use Rattle.mini_print.specs.Text.{spelling, assignment_spelling, spelled, is_word_unit, is_digit, are_word_units, is_word, IsLexical, AllLexical, AllLexicalIn, Open, TemplateOpen, BraceOpen, open_behind, may_stand, Outside, is_whole_pattern, has_no_line_end, is_end_next, opens_pattern, begins_pattern, is_pattern, is_letter, are_letters, holds_bare, ends_escaped, is_quotable, starts_with, is_raw}
-use Rattle.mini_print.specs.Compact.{goes_on_with, goes_on_by, first_goes_on, goes_on, is_slash, is_regular, ends_operand, Before, Blank, Operand, Other, behind_by, behind_token, may_enter, is_blank, may_leave, apart, compact_from, compact_text_of, Stands, SplitsAfter, nothing, alone, tight, spaced, SplitsCompactly}
+use Rattle.mini_print.specs.Text.{spelling, assignment_spelling, spelled, is_word_unit, is_digit, are_word_units, is_word, IsLexical, AllLexical, AllLexicalIn, Open, TemplateOpen, BraceOpen, open_behind, may_stand, Outside, is_whole_pattern, has_no_line_end, is_end_next, opens_pattern, begins_pattern, is_pattern, is_letter, are_letters, holds_bare, ends_escaped, is_quotable}
+use Rattle.mini_print.specs.Compact.{goes_on_with, goes_on, is_slash, Before, Blank, Operand, Other, behind_token, may_enter, is_blank, may_leave, apart, compact_from, compact_text_of, Stands, SplitsAfter, nothing, alone, tight, spaced, SplitsCompactly}
 use Rattle.mini_print.proofs.Escapes.{same_itself}
-use Rattle.mini_print.proofs.Split.{both, untrue, or_parts, is_other, is_quote, no_quote, without_first, ends_template, no_template, mark_template, begins_with, word_begins, numeral_begins, is_numeral, are_digits, decimal_is_numeral, number_facts, big_facts, word_facts, classified, punctuator_facts, pushed, quoted_end, quoted_back, piece_end, as_text, as_first, as_further, in_quotes, whole_read, head_read, starts_quote, pattern_end, pattern_back, pattern_opens, some_text, is_empty, append_none, further_stands, tail_stands, token_of, left_of}
+use Rattle.mini_print.proofs.Split.{both, untrue, or_parts, is_other, no_quote, without_first, ends_template, no_template, mark_template, begins_with, word_begins, numeral_begins, is_numeral, are_digits, decimal_is_numeral, number_facts, big_facts, word_facts, classified, punctuator_facts, quoted_end, quoted_back, piece_end, as_text, as_first, as_further, in_quotes, whole_read, head_read, starts_quote, pattern_end, pattern_back, pattern_opens, some_text, is_empty, append_none, further_stands, tail_stands, token_of, left_of}
 
 -- ---- up to the end of a word
 

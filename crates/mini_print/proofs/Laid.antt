@@ -19,7 +19,7 @@ use Rattle.mini_print.proofs.Complete.{statement_ends}
 use Rattle.mini_model.specs.Tree.{Tree, Trees, node, none, ◌▸◌, count, listed, leaf, absent}
 use Rattle.mini_model.specs.Position.{assignment_level}
 use Rattle.mini_print.specs.Token.{Token, Punct, LeftParen, RightParen, RightBrace, Comma, Word, Semicolon, Quoted}
-use Rattle.mini_print.specs.Grammar.{Sort, Values, Statements, Declarators, sort, WithoutIn, Callee, Statement, Declared, left, lookahead, perhaps, option, statements, permits, Lookahead, NoStatement, NoBrace, Goal, Anything, Place, place, Rule, TextLiteral, Least, Zero, One, Two, Gaps, Silent, silent_tree, unwritten, Part, token, part, commas, has, opens, is_opener, Else, Equals, ExpressionStatement, Element, Property, Properties, Key, Cases, CaseEnd, Opener, opener, BoundProperties, Ended, HeadDeclarations, HeadDeclared, fork, HeadEnd, NotAsync, ends_head, KeyWord, KeyText, KeyNumber, KeyName, Link, BoundElements, DefaultsOf, ClassBraces, ClassElements, Extends, Leading, starts_directive, NoDirective, Target, TargetElements, TargetProperties, YieldEnd, NoDeclaration, ImportItems, ExportItems, ForwardItems}
+use Rattle.mini_print.specs.Grammar.{Sort, Values, Statements, Declarators, sort, WithoutIn, Callee, Statement, Declared, left, lookahead, perhaps, option, statements, permits, Lookahead, NoStatement, NoBrace, Goal, Anything, Place, place, Rule, TextLiteral, Least, Zero, One, Two, Gaps, Silent, silent_tree, unwritten, Part, token, part, commas, has, opens, is_opener, Else, Equals, ExpressionStatement, Element, Property, Properties, Key, Cases, CaseEnd, Opener, opener, BoundProperties, Ended, HeadDeclarations, HeadDeclared, fork, HeadEnd, NotAsync, ends_head, KeyWord, KeyText, KeyNumber, KeyName, BoundElements, DefaultsOf, ClassBraces, ClassElements, Extends, starts_directive, NoDirective, Target, TargetElements, TargetProperties, YieldEnd, NoDeclaration, ImportItems, ExportItems, ForwardItems}
 use Rattle.mini_print.specs.Groups.{goal_of, a_left, a_lookahead, Groups, by_rule, Row, end, a_token, a_part, a_list, a_block, a_silent as a_silent_row, gap, has_gaps, none_is_enough, one_is_enough, behind_comma, present, missing, with, without, Items, nothing, last, next, Statements as StatementList, no_more, more, a_fork}
 use Rattle.mini_print.specs.Printed.{is_statements, else_behind, settled, settled_parts, are_printable, Printer, lay, lay_items, lay_block, printer, printers, enclosed, a_part as a_part_of, a_list as a_list_of, a_perhaps, sort_of, wants, a_block as a_block_of, a_silent, is_gap, wanted_goal, plain, has_enough, is_printable, fill, core, has_core, stands, undirected, takes_values, holds_head_in, holds_in}
 use Rattle.mini_print.proofs.Placed.{fits_whole, produced, serves_more, Serves, plain_sort, serves_sort, value_serves, limit, one_limit, limited, in_parentheses}

@@ -1,13 +1,13 @@
 -- How the productions of modules begin.
-use Rattle.std.specs.Prelude.{ℕ, ◌≡◌, refl, Bool, true, false, not, List, [], ◌∷◌, codes, Option, Some, None, if◌then◌else◌, ◌||◌}
+use Rattle.std.specs.Prelude.{ℕ, ◌≡◌, refl, Bool, true, false, List, [], ◌∷◌, codes, Some, if◌then◌else◌}
 use Rattle.std.proofs.Common.{◌∙◌, ap, sym, subst}
 use Rattle.std.proofs.lemmas.Bool.{false≢true}
 use Rattle.mini_model.specs.Weight.{same_text}
 use Rattle.mini_model.specs.Tree.{Tree, Trees}
-use Rattle.mini_print.specs.Token.{Token, Word, Punct, Quoted, Comma, RightParen, RightBracket, RightBrace, Times}
-use Rattle.mini_print.specs.Grammar.{Goal, Place, sort, has, Rule, Part, token, form, permits, ends_property, starts_default, is_word_of, ModuleName, Exportable, DefaultDeclared, KeyWord, KeyText, ImportDefault, ImportDefaultNames, ImportDefaultNamespace, ImportShort, ImportAs, ExportNames, ExportFrom, ExportDeclared, ExportValue, ExportDefault, ExportShort, ExportAs, ForwardName, ForwardText, ForwardAs, DeclaredFunction, DeclaredGenerator, DefaultFunction, DefaultGenerator, DefaultClass, Statements, Declarations, DefaultDeclarations, ImportItems, ExportItems, ForwardItems}
+use Rattle.mini_print.specs.Token.{Token, Word, Punct, Times}
+use Rattle.mini_print.specs.Grammar.{Goal, Place, has, Rule, token, form, ends_property, starts_default, ModuleName, KeyWord, KeyText, ImportDefault, ImportDefaultNames, ImportDefaultNamespace, ImportShort, ImportAs, ExportNames, ExportFrom, ExportDeclared, ExportValue, ExportDefault, ExportShort, ExportAs, ForwardName, ForwardText, ForwardAs, DeclaredFunction, DeclaredGenerator, DefaultFunction, DefaultGenerator, DefaultClass}
 use Rattle.mini_print.specs.Groups.{Groups, by_rule, Row, end, a_token, a_part, a_list, a_lookahead, present, missing, with, without, a_silent}
-use Rattle.mini_print.proofs.Reader.{prefix, statement_at, import_item_at, export_item_at, forward_item_at, declaration_at, default_at, default_class, is_plain_word_next, is_star_next, is_brace_next, bars, behind_bracket}
+use Rattle.mini_print.proofs.Reader.{statement_at, import_item_at, export_item_at, forward_item_at, declaration_at, default_at, default_class, is_plain_word_next, is_star_next, is_brace_next, bars}
 use Rattle.mini_print.specs.Text.{escaped}
 use Rattle.mini_print.proofs.Escapes.{unescaped, unescaped_back}
 use Rattle.mini_print.proofs.Told.{untrue, same_is}

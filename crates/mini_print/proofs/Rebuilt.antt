@@ -15,7 +15,7 @@ use Rattle.mini_model.specs.Templates.{cooked}
 use Rattle.mini_model.specs.declared.kind.MetaPropertyKind.TheVariants as meta
 use Rattle.mini_model.specs.Tree.{Tree, Trees, node, none, ◌▸◌, leaf, absent, is_absent}
 use Rattle.mini_print.specs.Grammar.{Rule, Unary, Part, form, built, has_private, member_shape, Defaulted, same_flag, StaticElement, static_shape, first_shape, constructor_shape, method_kind}
-use Rattle.mini_print.specs.Printed.{settled, settled_parts, is_positive_literal, rule_at, has_body, arrow_of, bare_names, wants, open_form, is_sound, case_of, catch_of, first_is_absent, for_of, for_in_of, for_of_of, declares_first, method_of, second_generates, same_cooked, template_of, is_one, first_raw, second_is_absent, bound_of, computed_method_of, has_default, first_spelling, class_of, class_method_of, class_computed_of, same_member, same_kind, Taker, ABinding, APattern, AValue, taker, element_of, rest_of, assignment_of, target_of, yield_of, import_of, default_import_of, plain_import_of, part_at, has_items, spelling_of, is_text, is_reference, is_repeated, import_item_of, forward_of, local_of, export_item_of, export_of, declares_default, default_of, declared_class_of, assigns_first}
+use Rattle.mini_print.specs.Printed.{settled, settled_parts, is_positive_literal, rule_at, has_body, arrow_of, bare_names, wants, open_form, is_sound, case_of, catch_of, first_is_absent, for_of, for_in_of, for_of_of, declares_first, method_of, second_generates, same_cooked, template_of, is_one, first_raw, second_is_absent, bound_of, computed_method_of, has_default, first_spelling, class_of, class_method_of, class_computed_of, same_member, same_kind, Taker, ABinding, APattern, AValue, taker, element_of, rest_of, assignment_of, target_of, yield_of, import_of, part_at, has_items, spelling_of, is_text, is_reference, is_repeated, import_item_of, export_item_of, export_of, declares_default, default_of, declared_class_of, assigns_first}
 
 -- ---- the production of a node, over its parts, is the node
 
