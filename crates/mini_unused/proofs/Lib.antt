@@ -8,6 +8,8 @@ pub mod Looks
 pub mod NextUses
 pub mod Uneval
 pub mod Rare
+pub mod Spelled
+pub mod Texts
 pub mod Chains
 pub mod Swept
 pub mod Nameless

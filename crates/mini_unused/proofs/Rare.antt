@@ -24,7 +24,7 @@ use Rattle.mini_unused.specs.declared.tallies.Tallies.{Tallies}
 use Rattle.mini_unused.specs.RemoveUnusedDeclaration.{declares_list, is_alone, list_at, let_left, statement_left, list_left}
 use Rattle.mini_unused.specs.SubstituteNext.{reads_in, put_named, is_read_then, declarators_next, list_next, NextGone}
 use Rattle.mini_unused.specs.SubstituteSingleUse.{reads_next, is_read_once, declaration_left, declared_names, initializer, list_single, last_place, NameGone, ReadGone, Gone}
-use Rattle.mini_unused.specs.Tallies.{number_of, bucket, hash_of, one_if, own_tally, tally, tallies, Counted, Covers, Tallied, HasFew, IsRare, is_spelled, is_spelled_first}
+use Rattle.mini_unused.specs.Tallies.{number_of, bucket, hash_of, one_if, own_tally, tally, tallies, Counted, Covers, Tallied, HasFew, IsRare}
 use Rattle.mini_unused.proofs.Unused.{parts_of, a_declaration, Declares}
 use Rattle.mini_unused.proofs.SingleUses.{next_part}
 
@@ -444,29 +444,7 @@ module _ (T : Tallies) (o : Tree) (ts : Trees) (i j : ℕ) (h : i < count ts) (d
         let w = all_of (rest_children (suc i) ts) a.6 b.6 in
         λ k. first k && (not (q k || (s k || (t k || u k))) && (not (p k) && not (v k || w k)))
 
--- ---- a path of first parts
-
-pub leaf_spelled : (x : Name) (t : Tree) (ys : List Name) (b : Bool) → ys ≡ names_of t → (b ≡ true → (r : ℕ) → 1 ≤ own_tally (bucket false r) (bucket false r x) ys) → b ≡ true → (r : ℕ) → 1 ≤ tally (bucket false r) (bucket false r x) t
-leaf_spelled x t ys b e f h r =
-    let own = f h r in
-    let same = ap (own_tally (bucket false r) (bucket false r x)) e in
-    let whole = opened (bucket false r) (bucket false r x) t in
-    omega (arith, own, same, whole)
-
-pub part_spelled : (x : Name) (t u : Tree) (b : Bool) → u ≡ part t 0 → (b ≡ true → (r : ℕ) → 1 ≤ tally (bucket false r) (bucket false r x) u) → b ≡ true → (r : ℕ) → 1 ≤ tally (bucket false r) (bucket false r x) t
-part_spelled x t u b e f h r =
-    let one = f h r in
-    let same = ap (tally (bucket false r) (bucket false r x)) e in
-    let whole = part_of (bucket false r) (bucket false r x) t 0 in
-    omega (arith, one, same, whole)
-
-pub leaf_first : (x : Name) (t : Tree) (ys : List Name) → count (children t) ≡ 0 → ys ≡ names_of t → is_spelled_first x t ≡ is_spelled x ys
-leaf_first x (node h xs n none) ys e f = ap (is_spelled x) (sym f)
-leaf_first x (node h xs n (t ▸ ts)) ys e f = absurd (omega (arith, e))
-
-pub part_first : (x : Name) (t u : Tree) → 0 < count (children t) → u ≡ part t 0 → is_spelled_first x t ≡ is_spelled_first x u
-part_first x (node h xs n none) u e f = absurd (omega (arith, e))
-part_first x (node h xs n (t ▸ ts)) u e f = ap (is_spelled_first x) (sym f)
+-- ---- heads
 
 -- what a head evaluates, and what a loop does that hides its names first
 pub head_spelled : (x : Name) (t u : Tree) (b : Bool) → u ≡ evaluated (evaluated_hidden t) → (b ≡ true → (r : ℕ) → 1 ≤ tally (bucket false r) (bucket false r x) u) → b ≡ true → (r : ℕ) → 1 ≤ tally (bucket false r) (bucket false r x) t

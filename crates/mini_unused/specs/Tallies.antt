@@ -1,6 +1,6 @@
 -- How often names stand in a tree, by buckets of their symbols and of their spellings, and tables
 -- that count no fewer.
-use Rattle.std.specs.Prelude.{ℕ, ◌+◌, ◌*◌, ◌%◌, ◌<◌, ◌≤◌, ◌≡◌, nat_eq, Bool, true, false, List, [], ◌∷◌, length, slice_index, Option, Some, None}
+use Rattle.std.specs.Prelude.{ℕ, ◌+◌, ◌*◌, ◌%◌, ◌<◌, ◌≤◌, ◌≡◌, ◌||◌, nat_eq, Bool, true, false, List, [], ◌∷◌, length, slice_index, Option, Some, None}
 use Rattle.mini_model.specs.declared.name.Name.{Name}
 use Rattle.mini_model.specs.declared.name.SymbolId.{SymbolId}
 use Rattle.mini_model.specs.Tree.{Tree, Trees, node, none, ◌▸◌}
@@ -75,10 +75,14 @@ abbrev pub is_spelled : Name → List Name → Bool
 is_spelled x [] = false
 is_spelled x (y ∷ ys) = same_text x.spelling y.spelling
 
--- so has what stands at the end of the path of first parts
-abbrev pub is_spelled_first : Name → Tree → Bool
-is_spelled_first x (node h ys n none) = is_spelled x ys
-is_spelled_first x (node h ys n (t ▸ ts)) = is_spelled_first x t
+-- a name in a tree has the spelling
+abbrev mutual
+  pub is_spelled_in : Name → Tree → Bool
+  is_spelled_in x (node h ys n ts) = is_spelled x ys || is_any_spelled x ts
+
+  pub is_any_spelled : Name → Trees → Bool
+  is_any_spelled x none = false
+  is_any_spelled x (t ▸ ts) = is_spelled_in x t || is_any_spelled x ts
 
 -- and a statement reads it, with its spelling, after parts that pass the initializer: so it and its
 -- declaration are the only ones in its buckets

@@ -1,6 +1,6 @@
 //! Whether a name stands in a tree.
 
-ghost use Rattle.std.specs.Prelude.{◌≡◌, ◌≤◌};
+ghost use Rattle.std.specs.Prelude.{◌≡◌, ◌≤◌, length, true};
 ghost use Rattle.mini_model.specs.Tree.{count};
 ghost use Rattle.mini_model.specs.Weight.{same_text};
 ghost use Rattle.mini_laws.specs.Symbols.{is_same};
@@ -10,11 +10,27 @@ ghost use Rattle.mini_rows.specs.Unused.{any_names, is_like_one, names};
 use mini_model::{Name, SymbolId, Text};
 use mini_node::{Node, Nodes};
 
+// Two texts are equally long and end alike, so that most that differ are told apart at once.
+fn ends_alike(left: &[u16], right: &[u16]) -> bool
+    ensures lengths { result ≡ true → length left.now ≡ length right.now }
+    ensures same { left.now ≡ right.now → result ≡ true }
+{
+    if left.len() != right.len() {
+        return false;
+    }
+    left.len() == 0 || left[left.len() - 1] == right[right.len() - 1]
+}
+
 /// Whether the two texts are equal, unit by unit.
 pub fn is_same_text(left: &Text, right: &Text) -> bool
     ensures { result ≡ same_text left.now right.now }
 {
-    left.as_slice() == right.as_slice()
+    let left = left.as_slice();
+    let right = right.as_slice();
+    if !ends_alike(left, right) {
+        return false;
+    }
+    left == right
 }
 
 /// Whether the two symbols are equal, or both are absent.

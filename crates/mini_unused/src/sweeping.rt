@@ -170,14 +170,14 @@ fn is_read_there(
     if !declares_name(declarator) {
         return false;
     }
-    if is_rarely_read(
-        tallies,
-        declarator.child(0).name(),
-        declarator.child(1),
-        statements,
-        at,
-    ) {
-        return true;
+    if has_rare_name(tallies, declarator.child(0).name(), 2) {
+        return is_rarely_read(
+            tallies,
+            declarator.child(0).name(),
+            declarator.child(1),
+            statements,
+            at,
+        );
     }
     is_read_once(
         declarator.child(0).name(),
@@ -276,13 +276,13 @@ fn is_read_next(
     if !is_declarator(next) {
         return false;
     }
-    if is_rarely_read_in(
-        tallies,
-        declarator.child(0).name(),
-        declarator.child(1),
-        next.child(1),
-    ) {
-        return true;
+    if has_rare_name(tallies, declarator.child(0).name(), 2) {
+        return is_rarely_read_in(
+            tallies,
+            declarator.child(0).name(),
+            declarator.child(1),
+            next.child(1),
+        );
     }
     is_read_then(
         declarator.child(0).name(),

@@ -4,7 +4,7 @@
 
 ghost use Rattle.std.specs.Prelude.{◌≡◌, ◌≤◌, ◌<◌, ◌+◌, ◌^◌, ℕ, suc, nat_eq, true, false, length, replicate, IfOk};
 ghost use Rattle.mini_model.specs.Tree.{child_or_absent, count};
-ghost use Rattle.mini_node.specs.Children.{names};
+ghost use Rattle.mini_node.specs.Children.{names, rest_children};
 ghost use Rattle.mini_unused.specs.Tallies as row;
 ghost use Rattle.mini_unused.specs.Tallies.{hash_of, number_of, bucket, one_if, own_tally, tally, tallies, Counted, Covers, Tallied, HasFew, IsRare, AreRare, AreRead, AreReadIn};
 
@@ -152,25 +152,42 @@ fn is_spelled(name: &Name, other: &Option<Name>) -> bool
     }
 }
 
-// What stands first in the node, at the end of the path of first parts, has the spelling.
-#[tactic(auto, using(crate::proofs::SingleUses::part_smaller, crate::proofs::Rare::leaf_spelled, crate::proofs::Rare::part_spelled, crate::proofs::Rare::leaf_first, crate::proofs::Rare::part_first))]
-fn is_spelled_first(name: &Name, node: &Node) -> bool
-    ensures told { result ≡ row.is_spelled_first name.now node.now }
-    ensures counted { result ≡ true → (r : ℕ) → 1 ≤ tally (bucket false r) (bucket false r name.now) node.now }
+// A name with the spelling stands in the node.
+#[cycle(spelling)]
+fn is_spelled_in(name: &Name, node: &Node) -> bool
+    ensures { result ≡ row.is_spelled_in name.now node.now }
 {
-    if node.children().len() == 0 {
-        return is_spelled(name, node.name());
-    }
-    is_spelled_first(name, node.child(0))
+    is_spelled(name, node.name()) || is_any_spelled(name, node.children(), 0)
 }
 
-// What a head evaluates, or a loop that hides its names first, has the spelling as what stands
-// first in it.
+// It stands in one of these nodes, from an index on.
+#[cycle(spelling)]
+fn is_any_spelled(name: &Name, nodes: &Nodes, from: usize) -> bool
+    ensures { result ≡ row.is_any_spelled name.now (rest_children from nodes.now) }
+{
+    for at in from..nodes.len() {
+        if is_spelled_in(name, nodes.child(at)) {
+            return true;
+        }
+    }
+    false
+}
+
+// A name with the spelling stands in the node, and so the tables count it.
+#[tactic(auto, using(crate::proofs::Spelled::spelled_counted))]
+fn is_counted_in(name: &Name, node: &Node) -> bool
+    ensures told { result ≡ row.is_spelled_in name.now node.now }
+    ensures counted { result ≡ true → (r : ℕ) → 1 ≤ tally (bucket false r) (bucket false r name.now) node.now }
+{
+    is_spelled_in(name, node)
+}
+
+// A name with the spelling stands in what a head evaluates, or a loop that hides its names first.
 #[tactic(auto, using(crate::proofs::Rare::head_spelled))]
-fn is_spelled_in_head(name: &Name, node: &Node) -> bool
+fn is_counted_in_head(name: &Name, node: &Node) -> bool
     ensures { result ≡ true → (r : ℕ) → 1 ≤ tally (bucket false r) (bucket false r name.now) node.now }
 {
-    is_spelled_first(name, evaluated(evaluated_hidden(node)))
+    is_counted_in(name, evaluated(evaluated_hidden(node)))
 }
 
 /// Whether the statement after the place reads a name, after parts that pass the initializer, and
@@ -190,7 +207,7 @@ pub fn is_rarely_read(
         Some(name) => {
             is_rare(tallies, name, 2)
                 && reads_next(name, init, statements, at)
-                && is_spelled_in_head(name, statements.child(at + 1))
+                && is_counted_in_head(name, statements.child(at + 1))
         }
         None => false,
     }
@@ -203,9 +220,7 @@ pub fn is_rarely_read_in(tallies: &Tallies, name: &Option<Name>, init: &Node, va
 {
     match name {
         Some(name) => {
-            is_rare(tallies, name, 2)
-                && reads_in(name, init, value)
-                && is_spelled_first(name, value)
+            is_rare(tallies, name, 2) && reads_in(name, init, value) && is_counted_in(name, value)
         }
         None => false,
     }
