@@ -47,7 +47,7 @@ use Rattle.mini_again.specs.Carrying.{HasNoRepeat}
 use Rattle.mini_shrink.specs.Exact.{exactly_of}
 use Rattle.mini_writer.specs.Written.{program_data}
 use Rattle.mini_tree.specs.Passes.{PassesReach, MakesPasses}
-use Rattle.mini_peephole.specs.Environments.{name_of, shared_by, foreign_to, is_declared, initialised_at, initialised_for, asks_as, steady_in, environment_with}
+use Rattle.mini_peephole.specs.Environments.{name_of, shared_by, foreign_to, is_declared, initialised_for, asks_as, steady_in, environment_with}
 use Rattle.mini_laws.specs.Foreign.{is_foreign}
 use Rattle.mini_laws.specs.Shared.{is_shared}
 use Rattle.mini_shrink.specs.SameForeign.{DeclaresOnce}

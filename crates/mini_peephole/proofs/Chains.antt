@@ -14,7 +14,7 @@ use Rattle.mini_laws.specs.Fixity.{fixed_by, fixed_in, written_in}
 use Rattle.mini_laws.specs.Scoped.{Scoped}
 use Rattle.mini_laws.specs.State.{Fixed, Writable, Constant, KeepsOld, Writing, Writes}
 use Rattle.mini_laws.specs.Substitution.{alone}
-use Rattle.mini_laws.specs.Symbols.{declared_symbols, times, Distinct}
+use Rattle.mini_laws.specs.Symbols.{declared_symbols, times}
 use Rattle.mini_laws.specs.Value.{Variable, Declared, Global, variable_eq, variables, is_in, choose}
 use Rattle.mini_tree.specs.Passes.{PassesReach, no_pass, one_more}
 use Rattle.mini_tree.specs.Wider.{reaches_of}

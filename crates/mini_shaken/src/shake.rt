@@ -28,11 +28,7 @@ use std::alloc::Global;
 
 // A pass over a program; where it finds nothing, dead items go. The answer says whether anything
 // changed.
-fn turn(
-    alloc: Global,
-    tree: &mut Program,
-    context: &mut TraverseCtx,
-) -> Result<bool, OutOfMemory>
+fn turn(alloc: Global, tree: &mut Program, context: &mut TraverseCtx) -> Result<bool, OutOfMemory>
     requires known { ((o : CompressOptions) × Knows context.old o tree.old) }
     requires once { DeclaresOnce tree.old }
     ensures turns { (o : CompressOptions) → Knows context.old o tree.old → IfOk result (λ changed. Turns o tree.old tree.new changed) }
