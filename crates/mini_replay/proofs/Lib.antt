@@ -1,0 +1,4 @@
+pub mod Indices
+pub mod Searches
+pub mod Entries
+pub mod Checks
