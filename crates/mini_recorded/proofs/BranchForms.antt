@@ -1,11 +1,11 @@
 -- Branches and bodies by their index, and the block in one that becomes its statement.
-use Rattle.std.proofs.Common.{◌≡◌, ℕ, zero, suc, ◌<◌, Bool, true, false, refl, sym, ap, ◌∙◌, subst, arith}
-use Rattle.std.specs.Prelude.{◌&&◌, ◌||◌, nat_eq, Option, Some, None, option_and_then}
+use Rattle.std.proofs.Common.{◌≡◌, ℕ, zero, suc, ◌<◌, Bool, true, false, refl, sym, ap, ◌∙◌, arith}
+use Rattle.std.specs.Prelude.{◌&&◌, ◌||◌, nat_eq, Some, None, option_and_then}
 use Rattle.std.proofs.Math.Dec.{eqb-suc-zero, eqb-suc-suc}
-use Rattle.std.proofs.lemmas.Bool.{and_parts, false≢true}
+use Rattle.std.proofs.lemmas.Bool.{false≢true}
 use Rattle.mini_model.specs.declared.shape.Shape.{Shape}
 use Rattle.mini_model.specs.declared.shape.Shape.TheVariants as shape
-use Rattle.mini_model.specs.Tree.{Tree, Trees, node, none, ◌▸◌, absent, child_or_absent, children, count, shape_of}
+use Rattle.mini_model.specs.Tree.{Tree, Trees, none, ◌▸◌, absent, child_or_absent, children, count, shape_of}
 use Rattle.mini_node.specs.Children.{is_bare, part, with_child, with_part}
 use Rattle.mini_node.specs.Kinds.{is_block}
 use Rattle.mini_node.specs.Lends.{with_children}

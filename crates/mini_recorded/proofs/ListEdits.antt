@@ -1,10 +1,10 @@
 -- What is made of a list of statements, from the place of one on.
 use Rattle.std.proofs.Common.{◌≡◌, ℕ, zero, suc, ◌+◌, ◌<◌, ◌≤◌, Bool, true, false, refl, sym, ap, ◌∙◌, subst, arith}
-use Rattle.std.specs.Prelude.{◌&&◌, nat_lt, Option, Some, None, option_map, option_and_then, if◌then◌else◌, [], ◌∷◌}
+use Rattle.std.specs.Prelude.{◌&&◌, Option, Some, None, option_map, option_and_then, if◌then◌else◌}
 use Rattle.std.proofs.lemmas.Bool.{and_parts, false≢true}
 use Rattle.mini_model.specs.declared.place.Position.{Position}
 use Rattle.mini_model.specs.Paths.{append}
-use Rattle.mini_model.specs.Tree.{Tree, Trees, node, none, ◌▸◌, absent, children, child_or_absent, count, listed, expression_statement}
+use Rattle.mini_model.specs.Tree.{Tree, Trees, none, ◌▸◌, absent, children, child_or_absent, count, listed, expression_statement}
 use Rattle.mini_node.specs.Children.{first_children, part, rest_children, with_child, without}
 use Rattle.mini_node.specs.Kinds.{sequence, is_block, is_empty_statement, is_listed}
 use Rattle.mini_node.specs.Lends.{with_children}

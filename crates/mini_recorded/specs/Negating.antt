@@ -1,5 +1,5 @@
 -- The negation of an expression, by its kind.
-use Rattle.std.specs.Prelude.{ℕ, Bool, true, false, ◌&&◌, ◌||◌, Option, Some, None}
+use Rattle.std.specs.Prelude.{Bool, true, false, ◌&&◌, ◌||◌, Option, Some, None}
 use Rattle.mini_model.specs.declared.operator.BinaryOperator.{BinaryOperator}
 use Rattle.mini_model.specs.declared.operator.BinaryOperator.TheVariants as binary
 use Rattle.mini_model.specs.declared.operator.LogicalOperator.{LogicalOperator}
@@ -7,7 +7,7 @@ use Rattle.mini_model.specs.declared.operator.LogicalOperator.TheVariants.{Or, A
 use Rattle.mini_model.specs.declared.seat.Seat.{Seat}
 use Rattle.mini_model.specs.declared.shape.Shape.{Shape}
 use Rattle.mini_model.specs.declared.shape.Shape.TheVariants as shape
-use Rattle.mini_model.specs.Tree.{Tree, Trees, node, none, ◌▸◌, shape_of, children}
+use Rattle.mini_model.specs.Tree.{Tree, Trees, node, none, ◌▸◌, children}
 use Rattle.mini_model.specs.Position.{operand_seat}
 use Rattle.mini_model.specs.Terms.{is_boolean, has_negated_result, neg_each}
 use Rattle.mini_node.specs.Children.{names_of, number_of, part}

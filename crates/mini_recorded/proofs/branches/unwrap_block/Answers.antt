@@ -1,4 +1,4 @@
-use Rattle.std.proofs.Common.{◌≡◌, ◌<◌, ◌∙◌, ap, sym, arith}
+use Rattle.std.proofs.Common.{◌∙◌, ap, sym, arith}
 use Rattle.mini_model.specs.Tree.{absent, count}
 use Rattle.mini_node.specs.Walks.{count_with}
 use Rattle.mini_log.specs.Walk.{spot}

@@ -1,4 +1,3 @@
-use Rattle.std.proofs.Common.{◌≡◌, ◌+◌, ◌<◌, ◌≤◌, ◌∙◌, refl, sym, ap, subst, arith, add-one}
 use Rattle.mini_model.specs.Tree.{absent}
 use Rattle.mini_recorded.proofs.DeclarationForms.{with_part_is}
 use Rattle.mini_recorded.proofs.declarations.bare.Goals as goal

@@ -1,4 +1,4 @@
-use Rattle.std.proofs.Common.{◌≡◌, ◌+◌, ◌<◌, ◌≤◌, ◌∙◌, refl, sym, ap, subst, arith, add-one}
+use Rattle.std.proofs.Common.{◌∙◌, refl, sym}
 use Rattle.std.specs.Prelude.{◌&&◌}
 use Rattle.mini_model.specs.Tree.{shape_of}
 use Rattle.mini_node.specs.Children.{is_bare, with_child}

@@ -1,4 +1,4 @@
-use Rattle.std.proofs.Common.{◌≡◌, ◌+◌, ◌<◌, ◌≤◌, ◌∙◌, refl, sym, ap, subst, arith, add-one}
+use Rattle.std.proofs.Common.{refl, arith}
 use Rattle.mini_log.specs.ListRows.{bare_export, first_by, within}
 use Rattle.mini_recorded.proofs.ListEdits.{first_made, nothing, past_end}
 use Rattle.mini_recorded.proofs.declarations.bare_export_at.Goals as goal

@@ -1,4 +1,4 @@
-use Rattle.std.proofs.Common.{◌≡◌, ◌+◌, ◌<◌, ◌≤◌, ◌∙◌, refl, sym, ap, subst, arith, add-one}
+use Rattle.std.proofs.Common.{◌∙◌, sym}
 use Rattle.mini_log.specs.ListRows.{bare_export, first_by, in_list}
 use Rattle.mini_recorded.proofs.ListEdits.{list_made, no_list, nothing_made}
 use Rattle.mini_recorded.proofs.declarations.bare_exported.Goals as goal

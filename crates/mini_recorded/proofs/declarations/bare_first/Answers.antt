@@ -1,4 +1,4 @@
-use Rattle.std.proofs.Common.{◌≡◌, ◌+◌, ◌<◌, ◌≤◌, ◌∙◌, refl, sym, ap, subst, arith, add-one}
+use Rattle.std.proofs.Common.{refl, arith}
 use Rattle.mini_recorded.proofs.DeclarationForms.{bares, bares_nothing, has_init}
 use Rattle.mini_recorded.proofs.declarations.bare_first.Goals as goal
 

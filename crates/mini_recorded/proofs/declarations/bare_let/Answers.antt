@@ -1,4 +1,4 @@
-use Rattle.std.proofs.Common.{◌≡◌, ◌+◌, ◌<◌, ◌≤◌, ◌∙◌, refl, sym, ap, subst, arith, add-one}
+use Rattle.std.proofs.Common.{◌∙◌, refl, sym}
 use Rattle.mini_recorded.proofs.DeclarationForms.{let_made, no_let}
 use Rattle.mini_recorded.proofs.declarations.bare_let.Goals as goal
 

@@ -1,4 +1,4 @@
-use Rattle.std.proofs.Common.{◌≡◌, ◌∙◌, ap, sym, arith}
+use Rattle.std.proofs.Common.{◌∙◌, sym, arith}
 use Rattle.mini_recorded.proofs.DeclarationForms.{begins, goes_on, is_there, is_nowhere}
 use Rattle.mini_recorded.proofs.declarations.first_undefined.Goals as goal
 

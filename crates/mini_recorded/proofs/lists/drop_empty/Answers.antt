@@ -1,4 +1,4 @@
-use Rattle.std.proofs.Common.{◌≡◌, ◌+◌, ◌<◌, ◌≤◌, ◌∙◌, refl, sym, ap, subst, arith, add-one}
+use Rattle.std.proofs.Common.{◌∙◌, refl, sym, ap, arith}
 use Rattle.mini_node.specs.Children.{without}
 use Rattle.mini_node.specs.Kinds.{is_empty_statement}
 use Rattle.mini_log.specs.ListRows.{gone, within}

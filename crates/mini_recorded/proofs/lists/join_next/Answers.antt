@@ -1,4 +1,4 @@
-use Rattle.std.proofs.Common.{◌≡◌, ◌+◌, ◌<◌, ◌≤◌, ◌∙◌, refl, sym, ap, subst, arith, add-one}
+use Rattle.std.proofs.Common.{◌+◌, ◌∙◌, sym, ap, arith, add-one}
 use Rattle.mini_node.specs.Walks.{count_with}
 use Rattle.mini_model.specs.Tree.{absent, count}
 use Rattle.mini_log.specs.ListRows.{joined, within}

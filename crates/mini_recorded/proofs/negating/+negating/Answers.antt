@@ -1,4 +1,4 @@
-use Rattle.std.proofs.Common.{◌≡◌, ◌+◌, ◌∙◌, ap, sym, subst, arith}
+use Rattle.std.proofs.Common.{◌≡◌, ◌∙◌, sym, subst, arith}
 use Rattle.std.specs.Prelude.{IfOk}
 use Rattle.mini_model.specs.Position.{operand_seat}
 use Rattle.mini_recorded.proofs.Negations.{neg_turned, neg_opposite, neg_unwrapped, neg_other, none_first, negated_next, negated_all}

@@ -1,4 +1,4 @@
-use Rattle.std.proofs.Common.{◌≡◌, sym, subst}
+use Rattle.std.proofs.Common.{sym, subst}
 use Rattle.mini_log.specs.RowStep.{export_forms, first_lighter}
 use Rattle.mini_checker.specs.Made.{Made}
 use Rattle.mini_recorded.proofs.Stepping.{exported_made, nothing_exported}

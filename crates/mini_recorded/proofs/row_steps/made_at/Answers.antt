@@ -1,5 +1,4 @@
 use Rattle.std.proofs.Common.{◌≡◌, sym, subst}
-use Rattle.std.specs.Prelude.{IfOk}
 use Rattle.std.proofs.lemmas.Result.{IfOk-weaker}
 use Rattle.mini_log.specs.RowStep.{first_lighter, node_forms}
 use Rattle.mini_checker.specs.Forms.{marked}

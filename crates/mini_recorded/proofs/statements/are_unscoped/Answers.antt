@@ -1,4 +1,4 @@
-use Rattle.std.proofs.Common.{◌≡◌, ◌∙◌, ap, sym, arith}
+use Rattle.std.proofs.Common.{◌∙◌, ap, sym, arith}
 use Rattle.mini_node.specs.Walks.{from_first}
 use Rattle.mini_rows.specs.Lists.{are_unscoped}
 use Rattle.mini_recorded.proofs.StatementTests.{unscoped_stops, unscoped_goes_on, unscoped_ends}

@@ -1,12 +1,11 @@
-use Rattle.std.proofs.Common.{◌≡◌, ◌+◌, ◌-◌, ◌*◌, ◌<◌, ◌∙◌, ap, sym, subst, arith}
+use Rattle.std.proofs.Common.{◌≡◌, ◌-◌, ◌∙◌, ap, sym, subst, arith}
 use Rattle.std.specs.Prelude.{IfOk}
 use Rattle.mini_model.specs.Position.{branch_seat}
 use Rattle.mini_model.specs.Terms.{not_of}
-use Rattle.mini_model.specs.Tree.{children, node_count, node_counts}
-use Rattle.mini_node.specs.Children.{part}
+use Rattle.mini_model.specs.Tree.{children}
 use Rattle.mini_node.specs.Kinds.{sequence}
 use Rattle.mini_rows.specs.Negations.{last_by}
-use Rattle.mini_recorded.proofs.Wholes.{of_junction, of_several, of_reversed, of_literal, of_other, last_whole, list_within}
+use Rattle.mini_recorded.proofs.Wholes.{of_junction, of_several, of_reversed, of_literal, of_other, last_whole}
 use Rattle.mini_recorded.proofs.whole.+negating.Goals as goal
 
 pub whole-returns-in-Some : goal.whole-returns-in-Some

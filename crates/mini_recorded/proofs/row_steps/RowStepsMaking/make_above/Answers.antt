@@ -1,4 +1,4 @@
-use Rattle.std.proofs.Common.{◌≡◌, ◌∷◌, sym, subst}
+use Rattle.std.proofs.Common.{◌∷◌, sym, subst}
 use Rattle.std.specs.Prelude.{IfOk}
 use Rattle.mini_log.specs.RowStep.{row_at}
 use Rattle.mini_checker.specs.Forms.{marked}
