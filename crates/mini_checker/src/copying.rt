@@ -51,7 +51,8 @@ fn copy_name(alloc: Global, name: &Name) -> Result<Name, OutOfMemory>
     })
 }
 
-fn copy_own_name(alloc: Global, name: &Option<Name>) -> Result<Option<Name>, OutOfMemory>
+/// A copy of the name of a node, if it has one. The only error is that memory runs out.
+pub fn copy_own_name(alloc: Global, name: &Option<Name>) -> Result<Option<Name>, OutOfMemory>
     ensures { IfOk result (λ copy. copy ≡ name.now) }
 {
     match name {

@@ -18,9 +18,9 @@ use mini_node::{
 };
 use std::alloc::Global;
 
-// A sequence of two parts at least.
+/// Whether it is a sequence of two parts at least.
 #[tactic(auto, using(crate::proofs::Unnegated::several_by_parts, crate::proofs::Unnegated::other_than_several))]
-fn is_several(node: &Node) -> bool
+pub fn is_several(node: &Node) -> bool
     ensures kind { result ≡ is_it_several node.now }
     ensures list { result ≡ true → count (children node.now) ≡ 1 }
     ensures parts { result ≡ true → 1 < count (children (part node.now 0)) }

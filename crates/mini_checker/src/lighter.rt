@@ -20,8 +20,9 @@ pub fn exact_weight(node: &Node, place: Position) -> Result<u64, OutOfMemory>
     }
 }
 
-// Whether the first weighs less than the second, in a place.
-fn is_lighter(first: &Node, second: &Node, place: Position) -> Result<bool, OutOfMemory>
+/// Whether the first weighs less than the second, in a place. Memory counts as run out where one of
+/// them weighs 2^64 - 1 or more.
+pub fn is_lighter(first: &Node, second: &Node, place: Position) -> Result<bool, OutOfMemory>
     ensures { IfOk result (λ lighter. lighter ≡ nat_lt (weight_at place first.now) (weight_at place second.now)) }
 {
     let left = exact_weight(first, place)?;

@@ -88,7 +88,8 @@ fn is_unresolved(node: &Node) -> bool
     is_identifier(node) && is_free_name(node.name())
 }
 
-fn is_undefined(node: &Node) -> bool
+/// Whether it is the name `undefined`, which no scope declares, or `void 0`.
+pub fn is_undefined(node: &Node) -> bool
     ensures { result ≡ term.is_undefined node.now }
 {
     (is_unresolved(node) && is_named_undefined(node.name())) || is_void_zero(node)

@@ -54,10 +54,10 @@ fn is_node(node: &Node) -> bool
     )
 }
 
-// Which child holds the node of ESTree of an index, and which index that has in the child. Where
-// there are fewer nodes the first is the number of children, and the second by how much.
+/// Which child holds the node of ESTree of an index, and which index that has in the child. Where
+/// there are fewer nodes the first is the number of children, and the second by how much.
 #[cycle(indices)]
-fn find(nodes: &Nodes, index: u32) -> (usize, u32)
+pub fn find(nodes: &Nodes, index: u32) -> (usize, u32)
     ensures child { result.0 ≡ spot nodes.now index }
     ensures index { result.1 ≡ index_in nodes.now index }
 {

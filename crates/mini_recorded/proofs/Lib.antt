@@ -1,0 +1,9 @@
+pub mod Booleans
+pub mod Negations
+pub mod Wholes
+pub mod StatementTests
+pub mod ListEdits
+pub mod DeclarationForms
+pub mod BranchForms
+pub mod Lighter
+pub mod Stepping
