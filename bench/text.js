@@ -8,14 +8,14 @@
 // crates/mini_text makes it. The trees are each program of bench/rows, before and after, COUNT
 // programs (3,000) that generate.js makes of SEED (1), and as many pieces of real code that
 // pieces.js finds. Programs are put together, a hundred to a tree, since a call costs more than a
-// text. A line a peer that is installed: the bytes that it writes of the pieces, and by gzip,
+// text; those that aren't read are left out. A line a peer that is installed: the bytes that it writes of the pieces, and by gzip,
 // without rewrites.
 "use strict";
 const { spawnSync } = require("child_process");
 const fs = require("fs");
 const path = require("path");
 const zlib = require("zlib");
-const { parseLeniently, text, written } = require("./estree.js");
+const { isOutside, isUnread, parseLeniently, text, written } = require("./estree.js");
 const { script } = require("./generate.js");
 const { chosenPieces } = require("./pieces.js");
 const { print } = require("./print.js");
@@ -55,7 +55,7 @@ function* rowTexts() {
 function* joined(trees) {
   const waiting = { script: [], module: [] };
   for (const tree of trees) {
-    if (tree === null) continue;
+    if (tree === null || isOutside(tree) || isUnread(tree)) continue;
     if (tree.body.some(isDirective)) {
       yield tree;
       continue;

@@ -1,6 +1,7 @@
 //! The JavaScript text of a tree: its tokens by a table of productions and one walk.
 #![tactic(auto)]
 
+mod defects;
 mod error;
 mod line;
 mod program;

@@ -119,11 +119,17 @@ impl Line {
     /// A number in decimal.
     pub fn number(&mut self, digits: &str, more: &str) -> Result<(), OutOfMemory> {
         self.token(digits)?;
-        for byte in more.as_bytes() {
+        self.more(more)?;
+        self.last = if more.is_empty() { Last::Number } else { Last::Other };
+        Ok(())
+    }
+
+    /// More units of the token before.
+    pub fn more(&mut self, digits: &str) -> Result<(), OutOfMemory> {
+        for byte in digits.as_bytes() {
             self.text.push(u16::from(*byte))?;
             self.unit = u16::from(*byte);
         }
-        self.last = if more.is_empty() { Last::Number } else { Last::Other };
         Ok(())
     }
 
@@ -153,10 +159,7 @@ impl Line {
     pub fn pieces(&mut self, begin: &str, text: &[u16], end: &str) -> Result<(), OutOfMemory> {
         self.token(begin)?;
         self.put(text)?;
-        for byte in end.as_bytes() {
-            self.text.push(u16::from(*byte))?;
-            self.unit = u16::from(*byte);
-        }
+        self.more(end)?;
         self.last = Last::Other;
         Ok(())
     }

@@ -1,9 +1,10 @@
 // Programs.
 
+use crate::defects::refuse_defects;
 use crate::error::PrintError;
 use crate::line::Line;
 use crate::walk::write_statements;
-use mini_model::Text;
+use mini_model::{Numbers, Text};
 use mini_node::Node;
 use std::alloc::Global;
 
@@ -11,6 +12,7 @@ fn print(alloc: Global, program: &Node, spaced: bool) -> Result<Text, PrintError
     let [list] = program.parts() else {
         return Err(PrintError::Unprintable);
     };
+    refuse_defects(Numbers::new(alloc), program)?;
     let mut line = Line::new(alloc, spaced);
     write_statements(&mut line, program, list.parts())?;
     Ok(line.into_text())

@@ -1,5 +1,8 @@
 // Which production a node has, and whether it may stand in a place.
 
+ghost use Rattle.std.specs.Prelude.{◌≤◌};
+ghost use Rattle.mini_model.specs.Tree.{node_count};
+
 use crate::tables::{Goal, Rule};
 use mini_model::{
     BinaryOperator, LogicalOperator, MetaPropertyKind, MethodDefinitionKind, Mix, PropertyKind,
@@ -8,7 +11,10 @@ use mini_model::{
 use mini_node::Node;
 
 /// The node without the inner expressions round it.
-pub fn shown(node: &Node) -> &Node {
+#[tactic(auto, using(crate::proofs::Sizes::node_within))]
+pub fn shown(node: &Node) -> &Node
+    ensures { node_count result.now ≤ node_count node.now }
+{
     match node.shape() {
         Shape::InnerExpression => match node.parts() {
             [only] => shown(only),

@@ -1,5 +1,7 @@
 // The productions, and what stands in each from left to right: a line a production.
 
+ghost use Rattle.std.specs.Prelude.{◌≤◌, length};
+
 use mini_model::{
     AssignmentOperator, BinaryOperator, LogicalOperator, UnaryOperator, UpdateOperator,
     VariableDeclarationKind,
@@ -485,7 +487,9 @@ const LAST_OF_TWO: [Piece; 2] = [Piece::Unwritten, Piece::Part(Some(Goal::Target
 const FIRST_OF_TWO: [Piece; 2] = [Piece::Part(Some(Goal::Target), 0), Piece::Unwritten];
 
 /// What stands in a production.
-pub fn form(rule: Rule) -> &'static [Piece] {
+pub fn form(rule: Rule) -> &'static [Piece]
+    ensures { length result.now ≤ 16 }
+{
     match rule {
         Rule::Reference | Rule::NumberLiteral | Rule::BigIntLiteral | Rule::TextLiteral | Rule::RegExpLiteral | Rule::PropertyName | Rule::BindingName | Rule::PrivateName => &OWN,
         Rule::NegativeNumber => &NEGATIVE_NUMBER,

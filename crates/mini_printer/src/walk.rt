@@ -1,5 +1,9 @@
 // From node to node.
 
+ghost use Rattle.std.specs.Prelude.{◌≤◌, IfSome};
+ghost use Rattle.mini_model.specs.Tree.{node_count, node_counts};
+ghost use Rattle.mini_node.specs.Children.{trees_of};
+
 use crate::error::PrintError;
 use crate::line::Line;
 use crate::rules::{
@@ -76,12 +80,15 @@ fn access_place(goal: Goal) -> Place {
 
 // The place of the first part of a production that begins with a part of itself.
 fn leading_place(rule: Rule, goal: Goal) -> Option<Place> {
-    match form(rule) {
-        [Piece::Left(level), ..] => Some(at_place(goal, *level)),
-        [Piece::Access, ..] => Some(access_place(goal)),
-        [Piece::LeftOperand, ..] => Some(left_place(rule, goal)),
-        [Piece::Part(own, level), ..] => Some(at_place(goal_of(goal, *own), *level)),
-        [Piece::Commas(own, _), ..] => Some(at_place(list_goal(goal, *own), 1)),
+    let [first, ..] = form(rule) else {
+        return None;
+    };
+    match first {
+        Piece::Left(level) => Some(at_place(goal, *level)),
+        Piece::Access => Some(access_place(goal)),
+        Piece::LeftOperand => Some(left_place(rule, goal)),
+        Piece::Part(own, level) => Some(at_place(goal_of(goal, *own), *level)),
+        Piece::Commas(own, _) => Some(at_place(list_goal(goal, *own), 1)),
         _ => None,
     }
 }
@@ -106,7 +113,10 @@ fn is_async(text: &Text) -> bool {
     }
 }
 
-fn first_item(parts: &[Node]) -> Option<&Node> {
+#[tactic(auto, using(crate::proofs::Sizes::node_within))]
+fn first_item(parts: &[Node]) -> Option<&Node>
+    ensures { IfSome result (λ first. node_count first.now ≤ node_counts (trees_of parts.now)) }
+{
     match parts {
         [list] => match list.shape() {
             Shape::Listed => list.parts().first(),
@@ -117,6 +127,7 @@ fn first_item(parts: &[Node]) -> Option<&Node> {
     }
 }
 
+#[tactic(auto, using(crate::proofs::Sizes::node_within))]
 fn lead_of(node: &Node, there: Place) -> Lead {
     let node = shown(node);
     let Some(rule) = rule_in(there.goal, node) else {
@@ -147,9 +158,30 @@ fn is_permitted(restriction: Lookahead, node: &Node, there: Place) -> bool {
     }
 }
 
+// A number without the zeros that it ends in, and how many those are.
+fn without_zeros(value: u64) -> (u64, u32) {
+    let mut left = value;
+    let mut zeros: u32 = 0;
+    for _ in 0..20 {
+        if left == 0 || left % 10 != 0 {
+            return (left, zeros);
+        }
+        left = left / 10;
+        zeros = zeros.saturating_add(1);
+    }
+    (left, zeros)
+}
+
 fn write_number(line: &mut Line, value: u64) -> Result<(), PrintError> {
     let mut buffer = Buffer::new();
-    line.number(buffer.format(value), "")?;
+    let (left, zeros) = without_zeros(value);
+    if line.is_spaced() || zeros < 3 {
+        line.number(buffer.format(value), "")?;
+        return Ok(());
+    }
+    let mut power = Buffer::new();
+    line.number(buffer.format(left), "e")?;
+    line.more(power.format(zeros))?;
     Ok(())
 }
 
@@ -218,16 +250,21 @@ fn is_absent(node: &Node) -> bool {
 
 // Whether an `else` stands next, before these pieces.
 fn is_else_next(pieces: &[Piece], parts: &[Node], follows: bool) -> bool {
-    match (pieces, parts) {
-        ([], _) => follows,
-        ([Piece::Option(opener, _, _), rest @ ..], [part, more @ ..]) => {
+    let [piece, rest @ ..] = pieces else {
+        return follows;
+    };
+    let [part, more @ ..] = parts else {
+        return false;
+    };
+    match piece {
+        Piece::Option(opener, _, _) => {
             if is_absent(part) {
                 is_else_next(rest, more, follows)
             } else {
                 matches!(opener, Opener::Else)
             }
         }
-        ([Piece::Unwritten, rest @ ..], [_, more @ ..]) => is_else_next(rest, more, follows),
+        Piece::Unwritten => is_else_next(rest, more, follows),
         _ => false,
     }
 }
@@ -271,6 +308,7 @@ fn third_is_absent(parts: &[Node]) -> bool {
 
 // A node in its place, before an `else` or not.
 #[cycle(writing)]
+#[tactic(auto, using(crate::proofs::Sizes::node_within))]
 pub fn write_node(
     line: &mut Line,
     node: &Node,
@@ -299,6 +337,7 @@ pub fn write_node(
 }
 
 #[cycle(writing)]
+#[tactic(auto, using(crate::proofs::Sizes::node_within))]
 fn write_enclosed(line: &mut Line, node: &Node) -> Result<(), PrintError> {
     line.token("(")?;
     write_node(line, node, at_place(Goal::Anything, 0), false)?;
@@ -308,6 +347,7 @@ fn write_enclosed(line: &mut Line, node: &Node) -> Result<(), PrintError> {
 
 // The pieces of a production, over the parts that are left.
 #[cycle(writing)]
+#[tactic(auto, using(crate::proofs::Sizes::node_within))]
 fn write_pieces(
     line: &mut Line,
     node: &Node,
@@ -378,6 +418,7 @@ fn is_computed(node: &Node) -> bool {
 
 // A part of a production in its place.
 #[cycle(writing)]
+#[tactic(auto, using(crate::proofs::Sizes::node_within))]
 fn write_part(
     line: &mut Line,
     node: &Node,
@@ -426,6 +467,7 @@ fn write_part(
 }
 
 #[cycle(writing)]
+#[tactic(auto, using(crate::proofs::Sizes::node_within))]
 fn write_key(line: &mut Line, computed: bool, key: &Node) -> Result<(), PrintError> {
     if !computed {
         return write_node(line, key, at_place(Goal::KeyName, 0), false);
@@ -437,6 +479,7 @@ fn write_key(line: &mut Line, computed: bool, key: &Node) -> Result<(), PrintErr
 }
 
 #[cycle(writing)]
+#[tactic(auto, using(crate::proofs::Sizes::node_within))]
 fn write_items(line: &mut Line, goal: Goal, gaps: bool, items: &[Node]) -> Result<(), PrintError> {
     let mut left = items;
     for item in items {
@@ -458,6 +501,7 @@ fn write_items(line: &mut Line, goal: Goal, gaps: bool, items: &[Node]) -> Resul
 }
 
 #[cycle(writing)]
+#[tactic(auto, using(crate::proofs::Sizes::node_within))]
 fn write_block(
     line: &mut Line,
     goal: Goal,
@@ -518,6 +562,7 @@ fn is_bare_text(node: &Node) -> bool {
 
 // The directives and the statements of a program or a function.
 #[cycle(writing)]
+#[tactic(auto, using(crate::proofs::Sizes::node_within))]
 pub fn write_statements(line: &mut Line, node: &Node, items: &[Node]) -> Result<(), PrintError> {
     write_directives(line, node)?;
     match items {
@@ -537,6 +582,7 @@ pub fn write_statements(line: &mut Line, node: &Node, items: &[Node]) -> Result<
 }
 
 #[cycle(writing)]
+#[tactic(auto, using(crate::proofs::Sizes::node_within))]
 fn write_body(line: &mut Line, node: &Node, body: &Node) -> Result<(), PrintError> {
     let [list] = body.parts() else {
         return Err(PrintError::Unprintable);
@@ -556,6 +602,7 @@ fn raw_text(chunk: &Node) -> Option<&Text> {
 
 // The chunks of a template, with an expression between any two.
 #[cycle(writing)]
+#[tactic(auto, using(crate::proofs::Sizes::node_within))]
 fn write_chunks(line: &mut Line, quasis: &Node, expressions: &Node) -> Result<(), PrintError> {
     let mut left = expressions.parts();
     let mut begin = "`";
@@ -577,6 +624,7 @@ fn write_chunks(line: &mut Line, quasis: &Node, expressions: &Node) -> Result<()
 }
 
 #[cycle(writing)]
+#[tactic(auto, using(crate::proofs::Sizes::node_within))]
 fn write_imported(line: &mut Line, items: &[Node]) -> Result<(), PrintError> {
     let mut open = false;
     let mut some = false;

@@ -2,7 +2,7 @@ ghost use Rattle.std.specs.Prelude.{◌≡◌, ◌<◌};
 // From the bytes in to the bytes out.
 
 use mini_estree::read_program;
-use mini_model::{MinifyError, Text};
+use mini_model::{MinifyError, Numbers, Text};
 use mini_printer::{PrintError, print_compact, print_program};
 use mini_run::{Sink, Source, Steps, Stopped, Words, read_all, write_all};
 use serde_json::Value;
@@ -118,6 +118,35 @@ fn note(alloc: Global, error: &MinifyError) -> Result<String, AllocError> {
     Ok(told)
 }
 
+// The path of a node: its places below the program.
+fn push_path(alloc: Global, told: &mut String, at: &Numbers) -> Result<(), AllocError> {
+    for place in at.as_slice() {
+        told.push('/')?;
+        told.push_str(place.to_string(alloc)?.as_str())?;
+    }
+    Ok(())
+}
+
+fn place_note(alloc: Global, name: &str, at: &Numbers) -> Result<String, AllocError> {
+    let mut told = String::new(alloc);
+    told.push_str("refused: ")?;
+    told.push_str(name)?;
+    told.push_str(" at ")?;
+    push_path(alloc, &mut told, at)?;
+    told.push('\n')?;
+    Ok(told)
+}
+
+// The line that tells why a program isn't printed.
+fn print_note(alloc: Global, error: &PrintError) -> Result<String, AllocError> {
+    match error {
+        PrintError::Reserved { at } => place_note(alloc, "Reserved", at),
+        PrintError::BadText { at } => place_note(alloc, "BadText", at),
+        PrintError::OutOfMemory => String::from_str(alloc, "refused: OutOfMemory\n"),
+        PrintError::Unprintable => String::from_str(alloc, "refused: Unprintable\n"),
+    }
+}
+
 fn tell<E: Sink>(notes: &mut E, line: &[u8]) {
     match write_all(notes, line) {
         Ok(()) => (),
@@ -136,10 +165,13 @@ fn finish<K: Sink, E: Sink>(alloc: Global, outcome: Outcome, sink: &mut K, notes
             }
             Err(_) => Status::OutOfMemory,
         },
-        Outcome::Unprinted(_) => {
-            tell(notes, "refused: Unprintable\n".as_bytes());
-            Status::Refused
-        }
+        Outcome::Unprinted(error) => match print_note(alloc, &error) {
+            Ok(text) => {
+                tell(notes, text.as_bytes());
+                Status::Refused
+            }
+            Err(_) => Status::OutOfMemory,
+        },
         Outcome::Answer(text) => match write_all(sink, text.as_bytes()) {
             Ok(()) => Status::Done,
             Err(_) => Status::WriteFault,
