@@ -1,6 +1,7 @@
 // Which production a node has, and whether it may stand in a place.
 
-ghost use Rattle.std.specs.Prelude.{◌≤◌};
+ghost use Rattle.std.specs.Prelude.{◌≡◌, ◌≤◌};
+ghost use Rattle.mini_model.specs.Position.{binary_level, logical_level, mix_of};
 ghost use Rattle.mini_model.specs.Tree.{node_count};
 
 use crate::tables::{Goal, Rule};
@@ -345,7 +346,10 @@ pub fn at_place(goal: Goal, level: u8) -> Place {
 }
 
 /// How tightly an operator of two operands binds.
-pub fn binary_level(operator: BinaryOperator) -> u8 {
+pub fn binary_level(operator: BinaryOperator) -> u8
+    ensures value { result ≡ binary_level operator }
+    ensures bound { result ≤ 13 }
+{
     match operator {
         BinaryOperator::BitwiseOr => 5,
         BinaryOperator::BitwiseXor => 6,
@@ -370,7 +374,10 @@ pub fn binary_level(operator: BinaryOperator) -> u8 {
 }
 
 /// How tightly a logical operator binds.
-pub fn logical_level(operator: LogicalOperator) -> u8 {
+pub fn logical_level(operator: LogicalOperator) -> u8
+    ensures value { result ≡ logical_level operator }
+    ensures bound { result ≤ 4 }
+{
     match operator {
         LogicalOperator::Coalesce | LogicalOperator::Or => 3,
         LogicalOperator::And => 4,
@@ -378,7 +385,9 @@ pub fn logical_level(operator: LogicalOperator) -> u8 {
 }
 
 /// What the operands of a logical operator may not be.
-pub fn mix_of(operator: LogicalOperator) -> Mix {
+pub fn mix_of(operator: LogicalOperator) -> Mix
+    ensures { result ≡ mix_of operator }
+{
     match operator {
         LogicalOperator::Coalesce => Mix::InCoalesce,
         LogicalOperator::Or | LogicalOperator::And => Mix::InAndOr,

@@ -604,21 +604,19 @@ fn raw_text(chunk: &Node) -> Option<&Text> {
 #[cycle(writing)]
 #[tactic(auto, using(crate::proofs::Sizes::node_within))]
 fn write_chunks(line: &mut Line, quasis: &Node, expressions: &Node) -> Result<(), PrintError> {
-    let mut left = expressions.parts();
-    let mut begin = "`";
-    for chunk in quasis.parts() {
-        let Some(raw) = raw_text(chunk) else {
+    let between = expressions.parts();
+    let chunks = quasis.parts();
+    for at in 0..chunks.len() {
+        let Some(raw) = raw_text(&chunks[at]) else {
             return Err(PrintError::Unprintable);
         };
-        match left {
-            [expression, more @ ..] => {
-                line.pieces(begin, raw.as_slice(), "${")?;
-                write_node(line, expression, at_place(Goal::Anything, 0), false)?;
-                left = more;
-            }
-            [] => line.pieces(begin, raw.as_slice(), "`")?,
+        let begin = if at == 0 { "`" } else { "}" };
+        if at < between.len() {
+            line.pieces(begin, raw.as_slice(), "${")?;
+            write_node(line, &between[at], at_place(Goal::Anything, 0), false)?;
+        } else {
+            line.pieces(begin, raw.as_slice(), "`")?;
         }
-        begin = "}";
     }
     Ok(())
 }
