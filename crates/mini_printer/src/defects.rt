@@ -14,10 +14,45 @@ enum Defect {
 
 // The words that name nothing (ECMA-262, ReservedWord, and those that this printer leaves out).
 const RESERVED: [&str; 39] = [
-    "await", "break", "case", "catch", "class", "const", "continue", "debugger", "default", "delete",
-    "do", "else", "enum", "export", "extends", "false", "finally", "for", "function", "if", "import",
-    "in", "instanceof", "let", "new", "null", "return", "super", "switch", "this", "throw", "true",
-    "try", "typeof", "var", "void", "while", "with", "yield",
+    "await",
+    "break",
+    "case",
+    "catch",
+    "class",
+    "const",
+    "continue",
+    "debugger",
+    "default",
+    "delete",
+    "do",
+    "else",
+    "enum",
+    "export",
+    "extends",
+    "false",
+    "finally",
+    "for",
+    "function",
+    "if",
+    "import",
+    "in",
+    "instanceof",
+    "let",
+    "new",
+    "null",
+    "return",
+    "super",
+    "switch",
+    "this",
+    "throw",
+    "true",
+    "try",
+    "typeof",
+    "var",
+    "void",
+    "while",
+    "with",
+    "yield",
 ];
 
 const BACKSLASH: u16 = b'\\' as u16;
@@ -175,7 +210,11 @@ fn text_defect(good: bool) -> Option<Defect> {
 
 fn name_defect(node: &Node) -> Option<Defect> {
     match name_text(node) {
-        Some(text) => if is_reserved(text) { Some(Defect::Reserved) } else { None },
+        Some(text) => if is_reserved(text) {
+            Some(Defect::Reserved)
+        } else {
+            None
+        },
         None => None,
     }
 }

@@ -120,7 +120,11 @@ impl Line {
     pub fn number(&mut self, digits: &str, more: &str) -> Result<(), OutOfMemory> {
         self.token(digits)?;
         self.more(more)?;
-        self.last = if more.is_empty() { Last::Number } else { Last::Other };
+        self.last = if more.is_empty() {
+            Last::Number
+        } else {
+            Last::Other
+        };
         Ok(())
     }
 
@@ -174,7 +178,11 @@ impl Line {
 
     /// A text in quotes.
     pub fn quoted(&mut self, text: &[u16]) -> Result<(), OutOfMemory> {
-        let quote = if self.spaced { b'"' as u16 } else { best_quote(text) };
+        let quote = if self.spaced {
+            b'"' as u16
+        } else {
+            best_quote(text)
+        };
         self.begin(quote)?;
         self.text.push(quote)?;
         for unit in text {
@@ -236,5 +244,9 @@ fn best_quote(text: &[u16]) -> u16 {
             single = single.saturating_add(1);
         }
     }
-    if double > single { b'\'' as u16 } else { b'"' as u16 }
+    if double > single {
+        b'\'' as u16
+    } else {
+        b'"' as u16
+    }
 }

@@ -34,7 +34,11 @@ fn number_rule(value: i64) -> Rule {
 }
 
 fn update_rule(operator: mini_model::UpdateOperator, prefix: bool) -> Rule {
-    if prefix { Rule::Prefix(operator) } else { Rule::Postfix(operator) }
+    if prefix {
+        Rule::Prefix(operator)
+    } else {
+        Rule::Postfix(operator)
+    }
 }
 
 fn function_rule(declaration: bool, generator: bool) -> Rule {
@@ -48,8 +52,16 @@ fn function_rule(declaration: bool, generator: bool) -> Rule {
 
 fn property_rule(kind: PropertyKind, method: bool, shorthand: bool, computed: bool) -> Rule {
     match kind {
-        PropertyKind::Get => if computed { Rule::KeyedGetter } else { Rule::Getter },
-        PropertyKind::Set => if computed { Rule::KeyedSetter } else { Rule::Setter },
+        PropertyKind::Get => if computed {
+            Rule::KeyedGetter
+        } else {
+            Rule::Getter
+        },
+        PropertyKind::Set => if computed {
+            Rule::KeyedSetter
+        } else {
+            Rule::Setter
+        },
         PropertyKind::Init => match (method, shorthand, computed) {
             (true, _, true) => Rule::KeyedMethod,
             (true, _, false) => Rule::MethodProperty,
@@ -121,8 +133,9 @@ fn part_rule(shape: &Shape) -> Option<Rule> {
         Shape::ObjectPattern => Some(Rule::ObjectPattern),
         Shape::ArrayPattern => Some(Rule::ArrayPattern),
         Shape::RestElement => Some(Rule::Rest),
-        Shape::BindingProperty(shorthand, computed) =>
-            Some(binding_property_rule(*shorthand, *computed)),
+        Shape::BindingProperty(shorthand, computed) => Some(binding_property_rule(
+            *shorthand, *computed,
+        )),
         Shape::AssignmentPattern => Some(Rule::WithDefault),
         Shape::ObjectAssignmentTarget => Some(Rule::ObjectTarget),
         Shape::ArrayAssignmentTarget => Some(Rule::ArrayTarget),
@@ -133,8 +146,9 @@ fn part_rule(shape: &Shape) -> Option<Rule> {
         Shape::MethodDefinition(kind, _, _) => Some(method_rule(*kind)),
         Shape::PropertyDefinition(_, _) => Some(Rule::Field),
         Shape::StaticBlock => Some(Rule::StaticBlock),
-        Shape::ObjectProperty(kind, method, shorthand, computed) =>
-            Some(property_rule(*kind, *method, *shorthand, *computed)),
+        Shape::ObjectProperty(kind, method, shorthand, computed) => Some(property_rule(
+            *kind, *method, *shorthand, *computed,
+        )),
         Shape::SpreadElement => Some(Rule::Spread),
         _ => statement_rule(shape),
     }
@@ -162,10 +176,12 @@ fn literal_rule(shape: &Shape) -> Option<Rule> {
 // The production of an access.
 fn access_rule(shape: &Shape) -> Option<Rule> {
     match shape {
-        Shape::StaticMemberExpression(false) | Shape::PrivateFieldExpression(false) =>
-            Some(Rule::Member),
-        Shape::StaticMemberExpression(true) | Shape::PrivateFieldExpression(true) =>
-            Some(Rule::OptionalMember),
+        Shape::StaticMemberExpression(false) | Shape::PrivateFieldExpression(false) => Some(
+            Rule::Member,
+        ),
+        Shape::StaticMemberExpression(true) | Shape::PrivateFieldExpression(true) => Some(
+            Rule::OptionalMember,
+        ),
         Shape::ComputedMemberExpression(false) => Some(Rule::Index),
         Shape::ComputedMemberExpression(true) => Some(Rule::OptionalIndex),
         Shape::CallExpression(false) => Some(Rule::Call),
@@ -194,8 +210,7 @@ fn shape_rule(shape: &Shape) -> Option<Rule> {
         Shape::ConditionalExpression => Some(Rule::Conditional),
         Shape::SequenceExpression => Some(Rule::Sequence),
         Shape::ArrowFunctionExpression(_) => Some(Rule::Arrow),
-        Shape::Function(declaration, generator, _) =>
-            Some(function_rule(*declaration, *generator)),
+        Shape::Function(declaration, generator, _) => Some(function_rule(*declaration, *generator)),
         Shape::YieldExpression(false) => Some(Rule::Yield),
         Shape::YieldExpression(true) => Some(Rule::YieldFrom),
         Shape::MetaProperty(MetaPropertyKind::NewTarget) => Some(Rule::NewTarget),
@@ -251,7 +266,10 @@ fn has_default(parts: &[Node]) -> bool {
 
 fn exports_declaration(parts: &[Node]) -> bool {
     match shown_part(parts, 0) {
-        Some(part) => matches!(part.shape(), Shape::Function(true, _, _) | Shape::Class(true)),
+        Some(part) => matches!(
+            part.shape(),
+            Shape::Function(true, _, _) | Shape::Class(true)
+        ),
         None => false,
     }
 }
@@ -525,8 +543,15 @@ pub fn is_enclosed(place: Place, rule: Rule) -> bool {
 /// The goal of the expressions at the end of a production.
 pub fn heir(goal: Goal) -> Goal {
     match goal {
-        Goal::Declared | Goal::Element | Goal::Property | Goal::Target | Goal::ClassItem
-        | Goal::Bound | Goal::Parameter | Goal::BoundProperty | Goal::Default => Goal::Anything,
+        Goal::Declared
+        | Goal::Element
+        | Goal::Property
+        | Goal::Target
+        | Goal::ClassItem
+        | Goal::Bound
+        | Goal::Parameter
+        | Goal::BoundProperty
+        | Goal::Default => Goal::Anything,
         Goal::HeadDeclared => Goal::WithoutIn,
         other => other,
     }

@@ -265,7 +265,6 @@ pub enum Piece {
     ExportPair,
 }
 
-
 const OWN: [Piece; 1] = [Piece::Own];
 
 const NEGATIVE_NUMBER: [Piece; 2] = [Piece::Token("-"), Piece::Own];
@@ -278,25 +277,68 @@ const TRUE: [Piece; 1] = [Piece::Token("true")];
 
 const FALSE: [Piece; 1] = [Piece::Token("false")];
 
-const ARRAY: [Piece; 3] = [Piece::Token("["), Piece::Commas(Some(Goal::Element), true), Piece::Token("]")];
+const ARRAY: [Piece; 3] = [
+    Piece::Token("["),
+    Piece::Commas(Some(Goal::Element), true),
+    Piece::Token("]"),
+];
 
-const OBJECT: [Piece; 3] = [Piece::Token("{"), Piece::Commas(Some(Goal::Property), false), Piece::Token("}")];
+const OBJECT: [Piece; 3] = [
+    Piece::Token("{"),
+    Piece::Commas(Some(Goal::Property), false),
+    Piece::Token("}"),
+];
 
-const KEY_VALUE: [Piece; 3] = [Piece::Part(Some(Goal::KeyName), 0), Piece::Token(":"), Piece::Part(None, 1)];
+const KEY_VALUE: [Piece; 3] = [
+    Piece::Part(Some(Goal::KeyName), 0),
+    Piece::Token(":"),
+    Piece::Part(None, 1),
+];
 
-const COMPUTED: [Piece; 5] = [Piece::Token("["), Piece::Part(Some(Goal::Anything), 1), Piece::Token("]"), Piece::Token(":"), Piece::Part(None, 1)];
+const COMPUTED: [Piece; 5] = [
+    Piece::Token("["),
+    Piece::Part(Some(Goal::Anything), 1),
+    Piece::Token("]"),
+    Piece::Token(":"),
+    Piece::Part(None, 1),
+];
 
 const SPREAD: [Piece; 2] = [Piece::Token("..."), Piece::Part(None, 1)];
 
-const MEMBER: [Piece; 3] = [Piece::Access, Piece::Token("."), Piece::Part(Some(Goal::AfterDot), 0)];
+const MEMBER: [Piece; 3] = [
+    Piece::Access,
+    Piece::Token("."),
+    Piece::Part(Some(Goal::AfterDot), 0),
+];
 
-const INDEX: [Piece; 4] = [Piece::Access, Piece::Token("["), Piece::Part(Some(Goal::Anything), 0), Piece::Token("]")];
+const INDEX: [Piece; 4] = [
+    Piece::Access,
+    Piece::Token("["),
+    Piece::Part(Some(Goal::Anything), 0),
+    Piece::Token("]"),
+];
 
-const NEW: [Piece; 5] = [Piece::Token("new"), Piece::Part(Some(Goal::Callee), 16), Piece::Token("("), Piece::Commas(Some(Goal::Element), false), Piece::Token(")")];
+const NEW: [Piece; 5] = [
+    Piece::Token("new"),
+    Piece::Part(Some(Goal::Callee), 16),
+    Piece::Token("("),
+    Piece::Commas(Some(Goal::Element), false),
+    Piece::Token(")"),
+];
 
-const CALL: [Piece; 4] = [Piece::Access, Piece::Token("("), Piece::Commas(Some(Goal::Element), false), Piece::Token(")")];
+const CALL: [Piece; 4] = [
+    Piece::Access,
+    Piece::Token("("),
+    Piece::Commas(Some(Goal::Element), false),
+    Piece::Token(")"),
+];
 
-const IMPORT: [Piece; 4] = [Piece::Token("import"), Piece::Token("("), Piece::Part(Some(Goal::Anything), 1), Piece::Token(")")];
+const IMPORT: [Piece; 4] = [
+    Piece::Token("import"),
+    Piece::Token("("),
+    Piece::Part(Some(Goal::Anything), 1),
+    Piece::Token(")"),
+];
 
 const POSTFIX: [Piece; 2] = [Piece::Left(16), Piece::Operator];
 
@@ -306,179 +348,557 @@ const UNARY: [Piece; 2] = [Piece::Operator, Piece::Part(None, 14)];
 
 const BINARY: [Piece; 3] = [Piece::LeftOperand, Piece::Operator, Piece::RightOperand];
 
-const CONDITIONAL: [Piece; 5] = [Piece::Left(3), Piece::Token("?"), Piece::Part(Some(Goal::Anything), 1), Piece::Token(":"), Piece::Part(None, 1)];
+const CONDITIONAL: [Piece; 5] = [
+    Piece::Left(3),
+    Piece::Token("?"),
+    Piece::Part(Some(Goal::Anything), 1),
+    Piece::Token(":"),
+    Piece::Part(None, 1),
+];
 
 const ASSIGNMENT: [Piece; 3] = [Piece::Left(17), Piece::Operator, Piece::Part(None, 1)];
 
 const SEQUENCE: [Piece; 1] = [Piece::Commas(None, false)];
 
-const ARROW: [Piece; 5] = [Piece::Token("("), Piece::Commas(Some(Goal::Parameter), false), Piece::Token(")"), Piece::Token("=>"), Piece::Restricted(Lookahead::NoBrace, None, 1)];
+const ARROW: [Piece; 5] = [
+    Piece::Token("("),
+    Piece::Commas(Some(Goal::Parameter), false),
+    Piece::Token(")"),
+    Piece::Token("=>"),
+    Piece::Restricted(Lookahead::NoBrace, None, 1),
+];
 
-const ARROW_BLOCK: [Piece; 5] = [Piece::Token("("), Piece::Commas(Some(Goal::Parameter), false), Piece::Token(")"), Piece::Token("=>"), Piece::Body];
+const ARROW_BLOCK: [Piece; 5] = [
+    Piece::Token("("),
+    Piece::Commas(Some(Goal::Parameter), false),
+    Piece::Token(")"),
+    Piece::Token("=>"),
+    Piece::Body,
+];
 
-const BLOCK: [Piece; 3] = [Piece::Token("{"), Piece::Statements(Goal::Statement), Piece::Token("}")];
+const BLOCK: [Piece; 3] = [
+    Piece::Token("{"),
+    Piece::Statements(Goal::Statement),
+    Piece::Token("}"),
+];
 
-const VARIABLES: [Piece; 3] = [Piece::Operator, Piece::Commas(Some(Goal::Declared), false), Piece::End];
+const VARIABLES: [Piece; 3] = [
+    Piece::Operator,
+    Piece::Commas(Some(Goal::Declared), false),
+    Piece::End,
+];
 
-const DECLARATOR: [Piece; 2] = [Piece::Part(Some(Goal::Bound), 0), Piece::Option(Opener::Equals, None, 1)];
+const DECLARATOR: [Piece; 2] = [
+    Piece::Part(Some(Goal::Bound), 0),
+    Piece::Option(Opener::Equals, None, 1),
+];
 
 const EMPTY: [Piece; 1] = [Piece::Token(";")];
 
-const EXPRESSION_STATEMENT: [Piece; 2] = [Piece::Restricted(Lookahead::NoStatement, Some(Goal::Anything), 0), Piece::End];
+const EXPRESSION_STATEMENT: [Piece; 2] = [
+    Piece::Restricted(Lookahead::NoStatement, Some(Goal::Anything), 0),
+    Piece::End,
+];
 
-const IF: [Piece; 6] = [Piece::Token("if"), Piece::Token("("), Piece::Part(Some(Goal::Anything), 0), Piece::Token(")"), Piece::Part(Some(Goal::Statement), 0), Piece::Option(Opener::Else, Some(Goal::Statement), 0)];
+const IF: [Piece; 6] = [
+    Piece::Token("if"),
+    Piece::Token("("),
+    Piece::Part(Some(Goal::Anything), 0),
+    Piece::Token(")"),
+    Piece::Part(Some(Goal::Statement), 0),
+    Piece::Option(Opener::Else, Some(Goal::Statement), 0),
+];
 
-const DO_WHILE: [Piece; 7] = [Piece::Token("do"), Piece::Part(Some(Goal::Statement), 0), Piece::Token("while"), Piece::Token("("), Piece::Part(Some(Goal::Anything), 0), Piece::Token(")"), Piece::End];
+const DO_WHILE: [Piece; 7] = [
+    Piece::Token("do"),
+    Piece::Part(Some(Goal::Statement), 0),
+    Piece::Token("while"),
+    Piece::Token("("),
+    Piece::Part(Some(Goal::Anything), 0),
+    Piece::Token(")"),
+    Piece::End,
+];
 
-const WHILE: [Piece; 5] = [Piece::Token("while"), Piece::Token("("), Piece::Part(Some(Goal::Anything), 0), Piece::Token(")"), Piece::Part(Some(Goal::Statement), 0)];
+const WHILE: [Piece; 5] = [
+    Piece::Token("while"),
+    Piece::Token("("),
+    Piece::Part(Some(Goal::Anything), 0),
+    Piece::Token(")"),
+    Piece::Part(Some(Goal::Statement), 0),
+];
 
-const FOR: [Piece; 9] = [Piece::Token("for"), Piece::Token("("), Piece::Perhaps(Goal::WithoutIn), Piece::Token(";"), Piece::Perhaps(Goal::Anything), Piece::Token(";"), Piece::Perhaps(Goal::Anything), Piece::Token(")"), Piece::Part(Some(Goal::Statement), 0)];
+const FOR: [Piece; 9] = [
+    Piece::Token("for"),
+    Piece::Token("("),
+    Piece::Perhaps(Goal::WithoutIn),
+    Piece::Token(";"),
+    Piece::Perhaps(Goal::Anything),
+    Piece::Token(";"),
+    Piece::Perhaps(Goal::Anything),
+    Piece::Token(")"),
+    Piece::Part(Some(Goal::Statement), 0),
+];
 
-const RETURN: [Piece; 3] = [Piece::Token("return"), Piece::Perhaps(Goal::Anything), Piece::End];
+const RETURN: [Piece; 3] = [
+    Piece::Token("return"),
+    Piece::Perhaps(Goal::Anything),
+    Piece::End,
+];
 
-const THROW: [Piece; 3] = [Piece::Token("throw"), Piece::Part(Some(Goal::Anything), 0), Piece::End];
+const THROW: [Piece; 3] = [
+    Piece::Token("throw"),
+    Piece::Part(Some(Goal::Anything), 0),
+    Piece::End,
+];
 
 const DEBUGGER: [Piece; 2] = [Piece::Token("debugger"), Piece::End];
 
-const BREAK: [Piece; 3] = [Piece::Token("break"), Piece::Perhaps(Goal::LabelName), Piece::End];
+const BREAK: [Piece; 3] = [
+    Piece::Token("break"),
+    Piece::Perhaps(Goal::LabelName),
+    Piece::End,
+];
 
-const CONTINUE: [Piece; 3] = [Piece::Token("continue"), Piece::Perhaps(Goal::LabelName), Piece::End];
+const CONTINUE: [Piece; 3] = [
+    Piece::Token("continue"),
+    Piece::Perhaps(Goal::LabelName),
+    Piece::End,
+];
 
-const FUNCTION: [Piece; 6] = [Piece::Token("function"), Piece::Perhaps(Goal::Binding), Piece::Token("("), Piece::Commas(Some(Goal::Parameter), false), Piece::Token(")"), Piece::Body];
+const FUNCTION: [Piece; 6] = [
+    Piece::Token("function"),
+    Piece::Perhaps(Goal::Binding),
+    Piece::Token("("),
+    Piece::Commas(Some(Goal::Parameter), false),
+    Piece::Token(")"),
+    Piece::Body,
+];
 
-const FUNCTION_BODY: [Piece; 3] = [Piece::Token("{"), Piece::Statements(Goal::Statement), Piece::Token("}")];
+const FUNCTION_BODY: [Piece; 3] = [
+    Piece::Token("{"),
+    Piece::Statements(Goal::Statement),
+    Piece::Token("}"),
+];
 
-const GENERATOR: [Piece; 7] = [Piece::Token("function"), Piece::Token("*"), Piece::Perhaps(Goal::Binding), Piece::Token("("), Piece::Commas(Some(Goal::Parameter), false), Piece::Token(")"), Piece::Body];
+const GENERATOR: [Piece; 7] = [
+    Piece::Token("function"),
+    Piece::Token("*"),
+    Piece::Perhaps(Goal::Binding),
+    Piece::Token("("),
+    Piece::Commas(Some(Goal::Parameter), false),
+    Piece::Token(")"),
+    Piece::Body,
+];
 
 const YIELD: [Piece; 2] = [Piece::Token("yield"), Piece::Part(None, 1)];
 
-const YIELD_FROM: [Piece; 3] = [Piece::Token("yield"), Piece::Token("*"), Piece::Part(None, 1)];
+const YIELD_FROM: [Piece; 3] = [
+    Piece::Token("yield"),
+    Piece::Token("*"),
+    Piece::Part(None, 1),
+];
 
-const SUPER_MEMBER: [Piece; 4] = [Piece::Token("super"), Piece::Token("."), Piece::Unwritten, Piece::Part(Some(Goal::AfterDot), 0)];
+const SUPER_MEMBER: [Piece; 4] = [
+    Piece::Token("super"),
+    Piece::Token("."),
+    Piece::Unwritten,
+    Piece::Part(Some(Goal::AfterDot), 0),
+];
 
-const SUPER_INDEX: [Piece; 5] = [Piece::Token("super"), Piece::Token("["), Piece::Unwritten, Piece::Part(Some(Goal::Anything), 0), Piece::Token("]")];
+const SUPER_INDEX: [Piece; 5] = [
+    Piece::Token("super"),
+    Piece::Token("["),
+    Piece::Unwritten,
+    Piece::Part(Some(Goal::Anything), 0),
+    Piece::Token("]"),
+];
 
-const SUPER_CALL: [Piece; 5] = [Piece::Token("super"), Piece::Token("("), Piece::Unwritten, Piece::Commas(Some(Goal::Element), false), Piece::Token(")")];
+const SUPER_CALL: [Piece; 5] = [
+    Piece::Token("super"),
+    Piece::Token("("),
+    Piece::Unwritten,
+    Piece::Commas(Some(Goal::Element), false),
+    Piece::Token(")"),
+];
 
-const NEW_TARGET: [Piece; 5] = [Piece::Token("new"), Piece::Token("."), Piece::Token("target"), Piece::Unwritten, Piece::Unwritten];
+const NEW_TARGET: [Piece; 5] = [
+    Piece::Token("new"),
+    Piece::Token("."),
+    Piece::Token("target"),
+    Piece::Unwritten,
+    Piece::Unwritten,
+];
 
-const IMPORT_META: [Piece; 5] = [Piece::Token("import"), Piece::Token("."), Piece::Token("meta"), Piece::Unwritten, Piece::Unwritten];
+const IMPORT_META: [Piece; 5] = [
+    Piece::Token("import"),
+    Piece::Token("."),
+    Piece::Token("meta"),
+    Piece::Unwritten,
+    Piece::Unwritten,
+];
 
-const PRIVATE_IN: [Piece; 4] = [Piece::Own, Piece::Token("in"), Piece::Unwritten, Piece::Part(None, 10)];
+const PRIVATE_IN: [Piece; 4] = [
+    Piece::Own,
+    Piece::Token("in"),
+    Piece::Unwritten,
+    Piece::Part(None, 10),
+];
 
-const LABEL: [Piece; 4] = [Piece::Own, Piece::Token(":"), Piece::Unwritten, Piece::Part(Some(Goal::Statement), 0)];
+const LABEL: [Piece; 4] = [
+    Piece::Own,
+    Piece::Token(":"),
+    Piece::Unwritten,
+    Piece::Part(Some(Goal::Statement), 0),
+];
 
-const SWITCH: [Piece; 7] = [Piece::Token("switch"), Piece::Token("("), Piece::Part(Some(Goal::Anything), 0), Piece::Token(")"), Piece::Token("{"), Piece::Statements(Goal::CaseItem), Piece::Token("}")];
+const SWITCH: [Piece; 7] = [
+    Piece::Token("switch"),
+    Piece::Token("("),
+    Piece::Part(Some(Goal::Anything), 0),
+    Piece::Token(")"),
+    Piece::Token("{"),
+    Piece::Statements(Goal::CaseItem),
+    Piece::Token("}"),
+];
 
-const CASE: [Piece; 4] = [Piece::Token("case"), Piece::Part(Some(Goal::Anything), 0), Piece::Token(":"), Piece::Statements(Goal::Statement)];
+const CASE: [Piece; 4] = [
+    Piece::Token("case"),
+    Piece::Part(Some(Goal::Anything), 0),
+    Piece::Token(":"),
+    Piece::Statements(Goal::Statement),
+];
 
-const DEFAULT_CASE: [Piece; 4] = [Piece::Token("default"), Piece::Token(":"), Piece::Unwritten, Piece::Statements(Goal::Statement)];
+const DEFAULT_CASE: [Piece; 4] = [
+    Piece::Token("default"),
+    Piece::Token(":"),
+    Piece::Unwritten,
+    Piece::Statements(Goal::Statement),
+];
 
-const TRY: [Piece; 4] = [Piece::Token("try"), Piece::Part(Some(Goal::BlockOnly), 0), Piece::Option(Opener::Catch, Some(Goal::Catching), 0), Piece::Option(Opener::Finally, Some(Goal::BlockOnly), 0)];
+const TRY: [Piece; 4] = [
+    Piece::Token("try"),
+    Piece::Part(Some(Goal::BlockOnly), 0),
+    Piece::Option(Opener::Catch, Some(Goal::Catching), 0),
+    Piece::Option(Opener::Finally, Some(Goal::BlockOnly), 0),
+];
 
-const CATCH_PARAM: [Piece; 4] = [Piece::Token("("), Piece::Part(Some(Goal::Bound), 0), Piece::Token(")"), Piece::Part(Some(Goal::BlockOnly), 0)];
+const CATCH_PARAM: [Piece; 4] = [
+    Piece::Token("("),
+    Piece::Part(Some(Goal::Bound), 0),
+    Piece::Token(")"),
+    Piece::Part(Some(Goal::BlockOnly), 0),
+];
 
 const CATCH_BARE: [Piece; 2] = [Piece::Unwritten, Piece::Part(Some(Goal::BlockOnly), 0)];
 
-const OBJECT_PATTERN: [Piece; 3] = [Piece::Token("{"), Piece::Commas(Some(Goal::BoundProperty), false), Piece::Token("}")];
+const OBJECT_PATTERN: [Piece; 3] = [
+    Piece::Token("{"),
+    Piece::Commas(Some(Goal::BoundProperty), false),
+    Piece::Token("}"),
+];
 
-const ARRAY_PATTERN: [Piece; 3] = [Piece::Token("["), Piece::Commas(Some(Goal::Parameter), true), Piece::Token("]")];
+const ARRAY_PATTERN: [Piece; 3] = [
+    Piece::Token("["),
+    Piece::Commas(Some(Goal::Parameter), true),
+    Piece::Token("]"),
+];
 
 const REST: [Piece; 2] = [Piece::Token("..."), Piece::Part(Some(Goal::Bound), 0)];
 
-const BOUND_KEY_VALUE: [Piece; 3] = [Piece::Part(Some(Goal::KeyName), 0), Piece::Token(":"), Piece::Part(Some(Goal::Bound), 0)];
+const BOUND_KEY_VALUE: [Piece; 3] = [
+    Piece::Part(Some(Goal::KeyName), 0),
+    Piece::Token(":"),
+    Piece::Part(Some(Goal::Bound), 0),
+];
 
-const BOUND_COMPUTED: [Piece; 5] = [Piece::Token("["), Piece::Part(Some(Goal::Anything), 1), Piece::Token("]"), Piece::Token(":"), Piece::Part(Some(Goal::Bound), 0)];
+const BOUND_COMPUTED: [Piece; 5] = [
+    Piece::Token("["),
+    Piece::Part(Some(Goal::Anything), 1),
+    Piece::Token("]"),
+    Piece::Token(":"),
+    Piece::Part(Some(Goal::Bound), 0),
+];
 
-const FOR_IN: [Piece; 7] = [Piece::Token("for"), Piece::Token("("), Piece::Part(Some(Goal::WithoutIn), 17), Piece::Token("in"), Piece::Part(Some(Goal::Anything), 0), Piece::Token(")"), Piece::Part(Some(Goal::Statement), 0)];
+const FOR_IN: [Piece; 7] = [
+    Piece::Token("for"),
+    Piece::Token("("),
+    Piece::Part(Some(Goal::WithoutIn), 17),
+    Piece::Token("in"),
+    Piece::Part(Some(Goal::Anything), 0),
+    Piece::Token(")"),
+    Piece::Part(Some(Goal::Statement), 0),
+];
 
-const FOR_OF: [Piece; 7] = [Piece::Token("for"), Piece::Token("("), Piece::Restricted(Lookahead::NotAsync, Some(Goal::WithoutIn), 17), Piece::Token("of"), Piece::Part(Some(Goal::Anything), 1), Piece::Token(")"), Piece::Part(Some(Goal::Statement), 0)];
+const FOR_OF: [Piece; 7] = [
+    Piece::Token("for"),
+    Piece::Token("("),
+    Piece::Restricted(Lookahead::NotAsync, Some(Goal::WithoutIn), 17),
+    Piece::Token("of"),
+    Piece::Part(Some(Goal::Anything), 1),
+    Piece::Token(")"),
+    Piece::Part(Some(Goal::Statement), 0),
+];
 
-const FOR_DECLARED: [Piece; 9] = [Piece::Token("for"), Piece::Token("("), Piece::Part(Some(Goal::HeadDeclaration), 0), Piece::Token(";"), Piece::Perhaps(Goal::Anything), Piece::Token(";"), Piece::Perhaps(Goal::Anything), Piece::Token(")"), Piece::Part(Some(Goal::Statement), 0)];
+const FOR_DECLARED: [Piece; 9] = [
+    Piece::Token("for"),
+    Piece::Token("("),
+    Piece::Part(Some(Goal::HeadDeclaration), 0),
+    Piece::Token(";"),
+    Piece::Perhaps(Goal::Anything),
+    Piece::Token(";"),
+    Piece::Perhaps(Goal::Anything),
+    Piece::Token(")"),
+    Piece::Part(Some(Goal::Statement), 0),
+];
 
-const FOR_DECLARED_IN: [Piece; 7] = [Piece::Token("for"), Piece::Token("("), Piece::Part(Some(Goal::HeadDeclaration), 0), Piece::Token("in"), Piece::Part(Some(Goal::Anything), 0), Piece::Token(")"), Piece::Part(Some(Goal::Statement), 0)];
+const FOR_DECLARED_IN: [Piece; 7] = [
+    Piece::Token("for"),
+    Piece::Token("("),
+    Piece::Part(Some(Goal::HeadDeclaration), 0),
+    Piece::Token("in"),
+    Piece::Part(Some(Goal::Anything), 0),
+    Piece::Token(")"),
+    Piece::Part(Some(Goal::Statement), 0),
+];
 
-const FOR_DECLARED_OF: [Piece; 7] = [Piece::Token("for"), Piece::Token("("), Piece::Part(Some(Goal::HeadDeclaration), 0), Piece::Token("of"), Piece::Part(Some(Goal::Anything), 1), Piece::Token(")"), Piece::Part(Some(Goal::Statement), 0)];
+const FOR_DECLARED_OF: [Piece; 7] = [
+    Piece::Token("for"),
+    Piece::Token("("),
+    Piece::Part(Some(Goal::HeadDeclaration), 0),
+    Piece::Token("of"),
+    Piece::Part(Some(Goal::Anything), 1),
+    Piece::Token(")"),
+    Piece::Part(Some(Goal::Statement), 0),
+];
 
-const HEAD_VARIABLES: [Piece; 2] = [Piece::Operator, Piece::Commas(Some(Goal::HeadDeclared), false)];
+const HEAD_VARIABLES: [Piece; 2] = [
+    Piece::Operator,
+    Piece::Commas(Some(Goal::HeadDeclared), false),
+];
 
-const METHOD_PROPERTY: [Piece; 2] = [Piece::Part(Some(Goal::KeyName), 0), Piece::Part(Some(Goal::MethodValue), 0)];
+const METHOD_PROPERTY: [Piece; 2] = [
+    Piece::Part(Some(Goal::KeyName), 0),
+    Piece::Part(Some(Goal::MethodValue), 0),
+];
 
-const GETTER: [Piece; 3] = [Piece::Token("get"), Piece::Part(Some(Goal::KeyName), 0), Piece::Part(Some(Goal::MethodValue), 0)];
+const GETTER: [Piece; 3] = [
+    Piece::Token("get"),
+    Piece::Part(Some(Goal::KeyName), 0),
+    Piece::Part(Some(Goal::MethodValue), 0),
+];
 
-const SETTER: [Piece; 3] = [Piece::Token("set"), Piece::Part(Some(Goal::KeyName), 0), Piece::Part(Some(Goal::MethodValue), 0)];
+const SETTER: [Piece; 3] = [
+    Piece::Token("set"),
+    Piece::Part(Some(Goal::KeyName), 0),
+    Piece::Part(Some(Goal::MethodValue), 0),
+];
 
-const GENERATOR_PROPERTY: [Piece; 3] = [Piece::Token("*"), Piece::Part(Some(Goal::KeyName), 0), Piece::Part(Some(Goal::GeneratorValue), 0)];
+const GENERATOR_PROPERTY: [Piece; 3] = [
+    Piece::Token("*"),
+    Piece::Part(Some(Goal::KeyName), 0),
+    Piece::Part(Some(Goal::GeneratorValue), 0),
+];
 
-const METHOD_FUNCTION: [Piece; 5] = [Piece::Unwritten, Piece::Token("("), Piece::Commas(Some(Goal::Parameter), false), Piece::Token(")"), Piece::Body];
+const METHOD_FUNCTION: [Piece; 5] = [
+    Piece::Unwritten,
+    Piece::Token("("),
+    Piece::Commas(Some(Goal::Parameter), false),
+    Piece::Token(")"),
+    Piece::Body,
+];
 
 const SHORTHAND: [Piece; 3] = [Piece::Own, Piece::Unwritten, Piece::Unwritten];
 
 const YIELD_NOTHING: [Piece; 2] = [Piece::Token("yield"), Piece::Unwritten];
 
-const BARE_NEW: [Piece; 3] = [Piece::Token("new"), Piece::Part(Some(Goal::Callee), 16), Piece::Unwritten];
+const BARE_NEW: [Piece; 3] = [
+    Piece::Token("new"),
+    Piece::Part(Some(Goal::Callee), 16),
+    Piece::Unwritten,
+];
 
-const NAME_ARROW: [Piece; 3] = [Piece::Commas(Some(Goal::Parameter), false), Piece::Token("=>"), Piece::Restricted(Lookahead::NoBrace, None, 1)];
+const NAME_ARROW: [Piece; 3] = [
+    Piece::Commas(Some(Goal::Parameter), false),
+    Piece::Token("=>"),
+    Piece::Restricted(Lookahead::NoBrace, None, 1),
+];
 
-const NAME_ARROW_BLOCK: [Piece; 3] = [Piece::Commas(Some(Goal::Parameter), false), Piece::Token("=>"), Piece::Body];
+const NAME_ARROW_BLOCK: [Piece; 3] = [
+    Piece::Commas(Some(Goal::Parameter), false),
+    Piece::Token("=>"),
+    Piece::Body,
+];
 
 const CHAIN: [Piece; 1] = [Piece::Part(None, 16)];
 
-const OPTIONAL_MEMBER: [Piece; 3] = [Piece::Access, Piece::Token("?."), Piece::Part(Some(Goal::AfterDot), 0)];
+const OPTIONAL_MEMBER: [Piece; 3] = [
+    Piece::Access,
+    Piece::Token("?."),
+    Piece::Part(Some(Goal::AfterDot), 0),
+];
 
-const OPTIONAL_INDEX: [Piece; 5] = [Piece::Access, Piece::Token("?."), Piece::Token("["), Piece::Part(Some(Goal::Anything), 0), Piece::Token("]")];
+const OPTIONAL_INDEX: [Piece; 5] = [
+    Piece::Access,
+    Piece::Token("?."),
+    Piece::Token("["),
+    Piece::Part(Some(Goal::Anything), 0),
+    Piece::Token("]"),
+];
 
-const OPTIONAL_CALL: [Piece; 5] = [Piece::Access, Piece::Token("?."), Piece::Token("("), Piece::Commas(Some(Goal::Element), false), Piece::Token(")")];
+const OPTIONAL_CALL: [Piece; 5] = [
+    Piece::Access,
+    Piece::Token("?."),
+    Piece::Token("("),
+    Piece::Commas(Some(Goal::Element), false),
+    Piece::Token(")"),
+];
 
 const TEMPLATE: [Piece; 1] = [Piece::Chunks];
 
 const TAGGED_TEMPLATE: [Piece; 2] = [Piece::Access, Piece::Part(Some(Goal::Anything), 16)];
 
-const WITH_DEFAULT: [Piece; 3] = [Piece::Part(Some(Goal::Target), 17), Piece::Token("="), Piece::Part(None, 1)];
+const WITH_DEFAULT: [Piece; 3] = [
+    Piece::Part(Some(Goal::Target), 17),
+    Piece::Token("="),
+    Piece::Part(None, 1),
+];
 
 const TARGET_SHORTHAND: [Piece; 2] = [Piece::Unwritten, Piece::Part(Some(Goal::Target), 1)];
 
-const OBJECT_TARGET: [Piece; 3] = [Piece::Token("{"), Piece::Commas(Some(Goal::Target), false), Piece::Token("}")];
+const OBJECT_TARGET: [Piece; 3] = [
+    Piece::Token("{"),
+    Piece::Commas(Some(Goal::Target), false),
+    Piece::Token("}"),
+];
 
-const ARRAY_TARGET: [Piece; 3] = [Piece::Token("["), Piece::Commas(Some(Goal::Target), true), Piece::Token("]")];
+const ARRAY_TARGET: [Piece; 3] = [
+    Piece::Token("["),
+    Piece::Commas(Some(Goal::Target), true),
+    Piece::Token("]"),
+];
 
-const TARGET_PROPERTY: [Piece; 3] = [Piece::Key, Piece::Token(":"), Piece::Part(Some(Goal::Target), 1)];
+const TARGET_PROPERTY: [Piece; 3] = [
+    Piece::Key,
+    Piece::Token(":"),
+    Piece::Part(Some(Goal::Target), 1),
+];
 
 const TARGET_REST: [Piece; 2] = [Piece::Token("..."), Piece::Part(Some(Goal::Target), 17)];
 
-const KEYED_METHOD: [Piece; 3] = [Piece::Static, Piece::Key, Piece::Part(Some(Goal::MethodValue), 0)];
+const KEYED_METHOD: [Piece; 3] = [
+    Piece::Static,
+    Piece::Key,
+    Piece::Part(Some(Goal::MethodValue), 0),
+];
 
-const KEYED_GETTER: [Piece; 4] = [Piece::Static, Piece::Token("get"), Piece::Key, Piece::Part(Some(Goal::MethodValue), 0)];
+const KEYED_GETTER: [Piece; 4] = [
+    Piece::Static,
+    Piece::Token("get"),
+    Piece::Key,
+    Piece::Part(Some(Goal::MethodValue), 0),
+];
 
-const KEYED_SETTER: [Piece; 4] = [Piece::Static, Piece::Token("set"), Piece::Key, Piece::Part(Some(Goal::MethodValue), 0)];
+const KEYED_SETTER: [Piece; 4] = [
+    Piece::Static,
+    Piece::Token("set"),
+    Piece::Key,
+    Piece::Part(Some(Goal::MethodValue), 0),
+];
 
-const KEYED_GENERATOR: [Piece; 4] = [Piece::Static, Piece::Token("*"), Piece::Key, Piece::Part(Some(Goal::GeneratorValue), 0)];
+const KEYED_GENERATOR: [Piece; 4] = [
+    Piece::Static,
+    Piece::Token("*"),
+    Piece::Key,
+    Piece::Part(Some(Goal::GeneratorValue), 0),
+];
 
-const CLASS: [Piece; 5] = [Piece::Token("class"), Piece::Perhaps(Goal::Binding), Piece::Option(Opener::Extends, Some(Goal::Anything), 16), Piece::Part(Some(Goal::ClassBody), 0), Piece::Unwritten];
+const CLASS: [Piece; 5] = [
+    Piece::Token("class"),
+    Piece::Perhaps(Goal::Binding),
+    Piece::Option(Opener::Extends, Some(Goal::Anything), 16),
+    Piece::Part(Some(Goal::ClassBody), 0),
+    Piece::Unwritten,
+];
 
-const CLASS_BODY: [Piece; 3] = [Piece::Token("{"), Piece::Statements(Goal::ClassItem), Piece::Token("}")];
+const CLASS_BODY: [Piece; 3] = [
+    Piece::Token("{"),
+    Piece::Statements(Goal::ClassItem),
+    Piece::Token("}"),
+];
 
-const FIELD: [Piece; 4] = [Piece::Static, Piece::Key, Piece::Option(Opener::Equals, Some(Goal::Anything), 1), Piece::End];
+const FIELD: [Piece; 4] = [
+    Piece::Static,
+    Piece::Key,
+    Piece::Option(Opener::Equals, Some(Goal::Anything), 1),
+    Piece::End,
+];
 
-const STATIC_BLOCK: [Piece; 4] = [Piece::Token("static"), Piece::Token("{"), Piece::Statements(Goal::Statement), Piece::Token("}")];
+const STATIC_BLOCK: [Piece; 4] = [
+    Piece::Token("static"),
+    Piece::Token("{"),
+    Piece::Statements(Goal::Statement),
+    Piece::Token("}"),
+];
 
-const IMPORT_DECLARATION: [Piece; 4] = [Piece::Token("import"), Piece::Imported, Piece::Part(Some(Goal::KeyName), 0), Piece::End];
+const IMPORT_DECLARATION: [Piece; 4] = [
+    Piece::Token("import"),
+    Piece::Imported,
+    Piece::Part(Some(Goal::KeyName), 0),
+    Piece::End,
+];
 
-const EXPORT_DECLARATION: [Piece; 4] = [Piece::Token("export"), Piece::Part(Some(Goal::Statement), 0), Piece::Unwritten, Piece::Unwritten];
+const EXPORT_DECLARATION: [Piece; 4] = [
+    Piece::Token("export"),
+    Piece::Part(Some(Goal::Statement), 0),
+    Piece::Unwritten,
+    Piece::Unwritten,
+];
 
-const EXPORT_LIST: [Piece; 7] = [Piece::Token("export"), Piece::Unwritten, Piece::Token("{"), Piece::Commas(Some(Goal::Property), false), Piece::Token("}"), Piece::Option(Opener::From, Some(Goal::KeyName), 0), Piece::End];
+const EXPORT_LIST: [Piece; 7] = [
+    Piece::Token("export"),
+    Piece::Unwritten,
+    Piece::Token("{"),
+    Piece::Commas(Some(Goal::Property), false),
+    Piece::Token("}"),
+    Piece::Option(Opener::From, Some(Goal::KeyName), 0),
+    Piece::End,
+];
 
-const EXPORT_ALL: [Piece; 6] = [Piece::Token("export"), Piece::Token("*"), Piece::Option(Opener::As, Some(Goal::KeyName), 0), Piece::Token("from"), Piece::Part(Some(Goal::KeyName), 0), Piece::End];
+const EXPORT_ALL: [Piece; 6] = [
+    Piece::Token("export"),
+    Piece::Token("*"),
+    Piece::Option(Opener::As, Some(Goal::KeyName), 0),
+    Piece::Token("from"),
+    Piece::Part(Some(Goal::KeyName), 0),
+    Piece::End,
+];
 
-const EXPORT_DEFAULT: [Piece; 4] = [Piece::Token("export"), Piece::Token("default"), Piece::Restricted(Lookahead::NoDeclaration, Some(Goal::Anything), 1), Piece::End];
+const EXPORT_DEFAULT: [Piece; 4] = [
+    Piece::Token("export"),
+    Piece::Token("default"),
+    Piece::Restricted(Lookahead::NoDeclaration, Some(Goal::Anything), 1),
+    Piece::End,
+];
 
-const EXPORT_DEFAULT_DECLARATION: [Piece; 3] = [Piece::Token("export"), Piece::Token("default"), Piece::Part(Some(Goal::Statement), 0)];
+const EXPORT_DEFAULT_DECLARATION: [Piece; 3] = [
+    Piece::Token("export"),
+    Piece::Token("default"),
+    Piece::Part(Some(Goal::Statement), 0),
+];
 
-const IMPORT_SPECIFIER: [Piece; 3] = [Piece::Part(Some(Goal::KeyName), 0), Piece::Token("as"), Piece::Part(Some(Goal::Bound), 0)];
+const IMPORT_SPECIFIER: [Piece; 3] = [
+    Piece::Part(Some(Goal::KeyName), 0),
+    Piece::Token("as"),
+    Piece::Part(Some(Goal::Bound), 0),
+];
 
 const IMPORT_DEFAULT: [Piece; 1] = [Piece::Part(Some(Goal::Bound), 0)];
 
-const IMPORT_NAMESPACE: [Piece; 3] = [Piece::Token("*"), Piece::Token("as"), Piece::Part(Some(Goal::Bound), 0)];
+const IMPORT_NAMESPACE: [Piece; 3] = [
+    Piece::Token("*"),
+    Piece::Token("as"),
+    Piece::Part(Some(Goal::Bound), 0),
+];
 
 const EXPORT_SPECIFIER: [Piece; 1] = [Piece::ExportPair];
 
@@ -491,7 +911,14 @@ pub fn form(rule: Rule) -> &'static [Piece]
     ensures { length result.now ≤ 16 }
 {
     match rule {
-        Rule::Reference | Rule::NumberLiteral | Rule::BigIntLiteral | Rule::TextLiteral | Rule::RegExpLiteral | Rule::PropertyName | Rule::BindingName | Rule::PrivateName => &OWN,
+        Rule::Reference
+        | Rule::NumberLiteral
+        | Rule::BigIntLiteral
+        | Rule::TextLiteral
+        | Rule::RegExpLiteral
+        | Rule::PropertyName
+        | Rule::BindingName
+        | Rule::PrivateName => &OWN,
         Rule::NegativeNumber => &NEGATIVE_NUMBER,
         Rule::Null => &NULL,
         Rule::This => &THIS,

@@ -7,8 +7,8 @@ ghost use Rattle.mini_node.specs.Children.{trees_of};
 use crate::error::PrintError;
 use crate::line::Line;
 use crate::rules::{
-    Place, at_place, binary_level, heir, is_enclosed, logical_level, mix_of, name_text, rule_in, shown,
-    shown_part,
+    Place, at_place, binary_level, heir, is_enclosed, logical_level, mix_of, name_text, rule_in,
+    shown, shown_part,
 };
 use crate::tables::{Goal, Lookahead, Opener, Piece, Rule, form};
 use itoa::Buffer;
@@ -16,7 +16,9 @@ use mini_model::{
     BinaryOperator, Mix, Shape, Text, TextList, UpdateOperator, VariableDeclarationKind,
 };
 use mini_node::Node;
-use mini_writer::{assignment_word, binary_word, logical_word, unary_word, update_word, variable_word};
+use mini_writer::{
+    assignment_word, binary_word, logical_word, unary_word, update_word, variable_word,
+};
 
 /// What a node begins with.
 #[derive(Clone, Copy, PartialEq, Eq)]
@@ -99,7 +101,11 @@ fn own_lead(rule: Rule, node: &Node) -> Lead {
         Rule::Object | Rule::ObjectPattern | Rule::ObjectTarget | Rule::Block => Lead::Brace,
         Rule::FunctionExpression | Rule::GeneratorExpression | Rule::Class(_) => Lead::Declaration,
         Rule::Reference => match name_text(node) {
-            Some(text) => if is_async(text) { Lead::Async } else { Lead::Other },
+            Some(text) => if is_async(text) {
+                Lead::Async
+            } else {
+                Lead::Other
+            },
             None => Lead::Other,
         },
         _ => Lead::Other,
@@ -194,8 +200,10 @@ fn write_big(line: &mut Line, value: u128) -> Result<(), PrintError> {
 // The node that holds the token of a production: a label, a key, or the node itself.
 fn owner(rule: Rule, node: &Node) -> Option<&Node> {
     match rule {
-        Rule::Label | Rule::PrivateIn | Rule::Shorthand | Rule::BoundShorthand =>
-            shown_part(node.parts(), 0),
+        Rule::Label | Rule::PrivateIn | Rule::Shorthand | Rule::BoundShorthand => shown_part(
+            node.parts(),
+            0,
+        ),
         _ => Some(node),
     }
 }
@@ -208,8 +216,10 @@ fn write_own(line: &mut Line, rule: Rule, node: &Node) -> Result<(), PrintError>
         Shape::NumericLiteral(value) => write_number(line, value.unsigned_abs()),
         Shape::BigIntLiteral(value) => write_big(line, *value),
         Shape::StringLiteral(text) => Ok(line.quoted(text.as_slice())?),
-        Shape::RegExpLiteral(pattern, flags) =>
-            Ok(line.pattern(pattern.text().as_slice(), flags.text().as_slice())?),
+        Shape::RegExpLiteral(pattern, flags) => Ok(line.pattern(
+            pattern.text().as_slice(),
+            flags.text().as_slice(),
+        )?),
         Shape::PrivateIdentifier(text) => Ok(line.private(text.as_slice())?),
         _ => match name_text(holder) {
             Some(text) => Ok(line.name(text.as_slice())?),
@@ -433,7 +443,12 @@ fn write_part(
         Piece::Access => write_node(line, part, access_place(goal), next),
         Piece::LeftOperand => write_node(line, part, left_place(rule, goal), next),
         Piece::RightOperand => write_node(line, part, right_place(rule, goal), next),
-        Piece::Part(own, level) => write_node(line, part, at_place(goal_of(goal, own), level), next),
+        Piece::Part(own, level) => write_node(
+            line,
+            part,
+            at_place(goal_of(goal, own), level),
+            next,
+        ),
         Piece::Restricted(restriction, own, level) => {
             let there = at_place(goal_of(goal, own), level);
             if is_permitted(restriction, part, there) {

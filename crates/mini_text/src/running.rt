@@ -154,7 +154,12 @@ fn tell<E: Sink>(notes: &mut E, line: &[u8]) {
     }
 }
 
-fn finish<K: Sink, E: Sink>(alloc: Global, outcome: Outcome, sink: &mut K, notes: &mut E) -> Status {
+fn finish<K: Sink, E: Sink>(
+    alloc: Global,
+    outcome: Outcome,
+    sink: &mut K,
+    notes: &mut E,
+) -> Status {
     match outcome {
         Outcome::NoRoom => Status::OutOfMemory,
         Outcome::Unread => Status::NotJson,
