@@ -10,7 +10,8 @@
 // pieces.js finds. Programs are put together, a hundred to a tree, since a call costs more than a
 // text, and are taken one by one where one of them is refused, as a name that is a reserved word is;
 // those that aren't read are left out. A line a peer that is installed: the bytes that it writes of the pieces, and by gzip,
-// without rewrites.
+// without rewrites. PEERS names another root than / to look for them in, and NODE_PATH its
+// usr/share/nodejs.
 "use strict";
 const { spawnSync } = require("child_process");
 const fs = require("fs");
