@@ -1,5 +1,5 @@
--- The nodes that have no text, and what keeps them from it: a name that is a reserved word, or a
--- text that can't be written as it is.
+-- The nodes that have no text, and what keeps them from it: a name that is a reserved word, a text
+-- that can't be written as it is, or an import of what no text imports.
 use Rattle.std.specs.Prelude.{ℕ, ◌+◌, ◌≡◌, refl, nat_eq, Bool, true, false, ◌&&◌, ◌||◌, not, List, [], ◌∷◌, ◌++◌, map, codes, Option, Some, None, if◌then◌else◌}
 use Rattle.mini_model.specs.declared.name.Name.{Name}
 use Rattle.mini_model.specs.declared.shape.Shape.{Shape}
@@ -12,7 +12,8 @@ use Rattle.mini_print.specs.Text.{is_pattern, are_letters, has_no_line_end}
 pub data Cause : Type 0 where
   -- an identifier that reads, writes, binds or labels is named by a reserved word
   Reserved : Cause
-  -- a regular expression, a directive or a piece of a template that can't be written
+  -- a regular expression, a directive or a piece of a template that can't be written, or an import
+  -- whose default isn't first or whose namespace has another name beside it
   BadText : Cause
 
 -- ---- texts that are written as they are
@@ -49,14 +50,48 @@ abbrev pub are_directives : List (List ℕ) → Bool
 are_directives [] = true
 are_directives (s ∷ ss) = is_directive s && are_directives ss
 
+abbrev pub is_raw_piece : Tree → Bool
+is_raw_piece (node (shape.TemplateElement b s c) xs n us) = is_raw false s
+is_raw_piece _ = true
+
 abbrev pub are_raw : Trees → Bool
 are_raw none = true
-are_raw (node (shape.TemplateElement b s c) xs n us ▸ ts) = is_raw false s && are_raw ts
-are_raw (t ▸ ts) = are_raw ts
+are_raw (t ▸ ts) = is_raw_piece t && are_raw ts
+
+-- the items of a list field
+abbrev pub items_of : Tree → Trees
+items_of (node shape.Listed xs n us) = us
+items_of _ = none
 
 abbrev pub first_list : Trees → Trees
-first_list (node shape.Listed xs n us ▸ ts) = us
-first_list _ = none
+first_list none = none
+first_list (t ▸ ts) = items_of t
+
+-- what an import brings (16.2.2): a default, and behind it either a namespace or names
+abbrev pub is_default : Tree → Bool
+is_default (node shape.ImportDefaultSpecifier xs n us) = true
+is_default _ = false
+
+abbrev pub is_namespace : Tree → Bool
+is_namespace (node shape.ImportNamespaceSpecifier xs n us) = true
+is_namespace _ = false
+
+abbrev pub are_names : Trees → Bool
+are_names none = true
+are_names (t ▸ ts) = (not (is_default t) && not (is_namespace t)) && are_names ts
+
+abbrev pub is_namespace_alone : Trees → Bool
+is_namespace_alone none = false
+is_namespace_alone (t ▸ none) = is_namespace t
+is_namespace_alone (t ▸ (u ▸ ts)) = false
+
+-- behind a default
+abbrev pub is_rest : Trees → Bool
+is_rest ts = is_namespace_alone ts || are_names ts
+
+abbrev pub are_specifiers : Trees → Bool
+are_specifiers none = true
+are_specifiers (t ▸ ts) = if is_default t then is_rest ts else is_rest (t ▸ ts)
 
 -- ---- a node's own cause
 
@@ -66,6 +101,7 @@ has_text (shape.Program b ds) ts = are_directives ds
 has_text (shape.Function d g ds) ts = are_directives ds
 has_text (shape.ArrowFunctionExpression ds) ts = are_directives ds
 has_text shape.TemplateLiteral ts = are_raw (first_list ts)
+has_text shape.ImportDeclaration ts = are_specifiers (first_list ts)
 has_text _ ts = true
 
 -- a name, which is a label or not
@@ -106,8 +142,12 @@ abbrev mutual
   faults_among l none i = []
   faults_among l (t ▸ ts) i = faults_inside l t i ++ faults_among l ts (i + width t)
 
+-- of a node of ESTree, which may be a label, and of what stands below it
+abbrev pub faults_at : Bool → Tree → List Fault
+faults_at l (node h xs n ts) = faults_by (cause_of l h xs ts) ++ faults_among (has_label h) ts 0
+
 abbrev pub faults_of : Tree → List Fault
-faults_of (node h xs n ts) = faults_by (cause_of false h xs ts) ++ faults_among (has_label h) ts 0
+faults_of = faults_at false
 
 abbrev pub head : List Fault → Option Fault
 head [] = None
@@ -155,3 +195,26 @@ of_directives = (refl, refl)
 of_a_template : first_fault (program_of [] (expression_statement (node shape.TemplateLiteral [] 0 (listed (leaf (shape.TemplateElement true (codes "a${") None) ▸ none) ▸ listed none ▸ none)))) ≡ Some (record { at = 0 ∷ 0 ∷ []; cause = BadText })
 unfolding program_of
 of_a_template = refl
+
+-- a default behind a name, and a namespace beside one
+name_of : List ℕ → Name
+name_of s = unresolved s
+
+imported : Trees → Tree
+imported ts = program_of [] (node shape.ImportDeclaration [] 0 (listed ts ▸ leaf (shape.StringLiteral (codes "m")) ▸ none))
+
+bound : List ℕ → Tree
+bound s = node shape.BindingIdentifier (name_of s ∷ []) 0 none
+
+default_of : List ℕ → Tree
+default_of s = node shape.ImportDefaultSpecifier [] 0 (bound s ▸ none)
+
+all_of : List ℕ → Tree
+all_of s = node shape.ImportNamespaceSpecifier [] 0 (bound s ▸ none)
+
+one_of : List ℕ → Tree
+one_of s = node shape.ImportSpecifier [] 0 (leaf (shape.IdentifierName s) ▸ bound s ▸ none)
+
+of_imports : (first_fault (imported (one_of (codes "a") ▸ default_of (codes "b") ▸ none)) ≡ Some (record { at = 0 ∷ []; cause = BadText })) × (first_fault (imported (all_of (codes "a") ▸ one_of (codes "b") ▸ none)) ≡ Some (record { at = 0 ∷ []; cause = BadText })) × (first_fault (imported (default_of (codes "a") ▸ all_of (codes "b") ▸ none)) ≡ None) × (first_fault (imported (default_of (codes "a") ▸ one_of (codes "b") ▸ one_of (codes "c") ▸ none)) ≡ None)
+unfolding program_of name_of imported bound default_of all_of one_of
+of_imports = (refl, refl, refl, refl)

@@ -1,329 +1,348 @@
-// What can't be printed: names that are reserved words, and texts that can't stand in a program.
+//! What can't be printed: names that are reserved words, texts that can't stand in a program, and
+//! imports that no text has.
+
+ghost use Rattle.std.specs.Prelude.{◌≡◌, ◌+◌, ◌++◌, ◌∷◌, [], true, false, ◌&&◌, not, reverse, IfOk, OnOk, IfErr, None, Some, option_map};
+ghost use Rattle.mini_model.specs.Paths.{width, is_node as is_it_node};
+ghost use Rattle.mini_model.specs.Tree.{shape_of, children};
+ghost use Rattle.mini_node.specs.Children.{names, names_of, trees_of};
+ghost use Rattle.mini_print.specs.Grammar as grammar;
+ghost use Rattle.mini_print.specs.Unprintable as unprintable;
+ghost use Rattle.mini_printer.specs.Faults as faults;
 
 use crate::error::PrintError;
-use crate::rules::name_text;
-use mini_model::{Numbers, OutOfMemory, Shape, Text, TextList};
-use mini_node::Node;
+use crate::writable::{are_directives, is_raw, is_regular_expression, is_reserved};
+use mini_model::{Name, Numbers, OutOfMemory, Shape};
+use mini_node::{Node, Nodes};
+use std::alloc::Global;
 
 /// Why a node can't be printed.
 #[derive(Clone, Copy)]
-enum Defect {
+pub enum Cause {
+    /// It is an identifier that reads, writes, binds or labels, and a reserved word.
     Reserved,
+    /// It has a text that can't stand in a program, or it is an import that no text has.
     BadText,
 }
 
-// The words that name nothing (ECMA-262, ReservedWord, and those that this printer leaves out).
-const RESERVED: [&str; 39] = [
-    "await",
-    "break",
-    "case",
-    "catch",
-    "class",
-    "const",
-    "continue",
-    "debugger",
-    "default",
-    "delete",
-    "do",
-    "else",
-    "enum",
-    "export",
-    "extends",
-    "false",
-    "finally",
-    "for",
-    "function",
-    "if",
-    "import",
-    "in",
-    "instanceof",
-    "let",
-    "new",
-    "null",
-    "return",
-    "super",
-    "switch",
-    "this",
-    "throw",
-    "true",
-    "try",
-    "typeof",
-    "var",
-    "void",
-    "while",
-    "with",
-    "yield",
-];
-
-const BACKSLASH: u16 = b'\\' as u16;
-
-fn is_word(text: &Text, word: &str) -> bool {
-    let units = text.as_slice();
-    let bytes = word.as_bytes();
-    if units.len() != bytes.len() {
-        return false;
-    }
-    for at in 0..bytes.len() {
-        if at >= units.len() || units[at] != u16::from(bytes[at]) {
-            return false;
-        }
-    }
-    true
+/// A node that can't be printed.
+#[derive(Drop)]
+pub struct Fault {
+    /// Its path: at each node from the program on, the place of the next among the nodes of ESTree
+    /// below it.
+    pub at: Numbers,
+    /// Why it can't be printed.
+    pub cause: Cause,
 }
 
-fn is_reserved(text: &Text) -> bool {
-    for word in &RESERVED {
-        if is_word(text, word) {
-            return true;
-        }
-    }
-    false
+// A node that can't be printed, with its path from the node back to where the search began.
+#[derive(Drop)]
+struct Found {
+    back: Numbers,
+    cause: Cause,
 }
 
-fn ends_line(unit: u16) -> bool {
-    matches!(unit, 0x0A | 0x0D | 0x2028 | 0x2029)
+// How far a search came: past these nodes, to the place behind them; or to a node that can't be
+// printed.
+#[derive(Drop)]
+enum Sought {
+    Past(u32),
+    At(Found),
 }
 
-// Whether a pattern begins as a comment, a division or an assignment would (ECMA-262,
-// RegularExpressionFirstChar).
-fn begins_badly(pattern: &[u16]) -> bool {
-    match pattern {
-        [] => true,
-        [first, second, ..] => {
-            *first == b'*' as u16
-                || *first == b' ' as u16
-                || (*first == b'=' as u16 && *second == b' ' as u16)
-        }
-        [first] => *first == b'*' as u16 || *first == b' ' as u16,
+// ---- a node's own cause
+
+fn is_named_reserved(name: &Option<Name>) -> bool
+    ensures { result ≡ faults.is_named_reserved (names name.now) }
+{
+    match name {
+        Some(name) => is_reserved(name.spelling.as_slice()),
+        None => false,
     }
 }
 
-// Whether a pattern ends where the literal does (ECMA-262, RegularExpressionBody).
-fn is_closed(pattern: &[u16]) -> bool {
-    let mut in_class = false;
-    let mut escaped = false;
-    for unit in pattern {
-        if ends_line(*unit) {
-            return false;
-        }
-        if escaped {
-            escaped = false;
-        } else if *unit == BACKSLASH {
-            escaped = true;
-        } else if *unit == b'[' as u16 {
-            in_class = true;
-        } else if *unit == b']' as u16 {
-            in_class = false;
-        } else if *unit == b'/' as u16 && !in_class {
-            return false;
-        }
-    }
-    !in_class && !escaped
-}
-
-fn are_letters(flags: &[u16]) -> bool {
-    for unit in flags {
-        if !matches!(*unit, 0x41..=0x5A | 0x61..=0x7A) {
-            return false;
-        }
-    }
-    true
-}
-
-fn is_good_pattern(pattern: &[u16], flags: &[u16]) -> bool {
-    !begins_badly(pattern) && is_closed(pattern) && are_letters(flags)
-}
-
-// Whether a text can stand in quotes as it is: in either, if it holds no more than the other.
-fn is_good_directive(text: &[u16]) -> bool {
-    let mut escaped = false;
-    let mut double = false;
-    let mut single = false;
-    for unit in text {
-        if ends_line(*unit) {
-            return false;
-        }
-        if escaped {
-            escaped = false;
-        } else if *unit == BACKSLASH {
-            escaped = true;
-        } else if *unit == b'"' as u16 {
-            double = true;
-        } else if *unit == b'\'' as u16 {
-            single = true;
-        }
-    }
-    !escaped && !(double && single)
-}
-
-fn are_good_directives(texts: &TextList) -> bool {
-    for text in texts.as_slice() {
-        if !is_good_directive(text.as_slice()) {
-            return false;
-        }
-    }
-    true
-}
-
-// Whether a raw text can stand in a template (ECMA-262, TemplateCharacters).
-fn is_good_chunk(raw: &[u16]) -> bool {
-    let mut escaped = false;
-    let mut dollar = false;
-    for unit in raw {
-        if *unit == 0x0D {
-            return false;
-        }
-        if escaped {
-            escaped = false;
-            dollar = false;
-            continue;
-        }
-        if *unit == b'`' as u16 || (dollar && *unit == b'{' as u16) {
-            return false;
-        }
-        escaped = *unit == BACKSLASH;
-        dollar = *unit == b'$' as u16;
-    }
-    !escaped
-}
-
-fn are_good_chunks(parts: &[Node]) -> bool {
-    let [quasis, ..] = parts else {
-        return true;
-    };
-    for chunk in quasis.parts() {
-        match chunk.shape() {
-            Shape::TemplateElement(_, raw, _) => {
-                if !is_good_chunk(raw.text().as_slice()) {
-                    return false;
-                }
-            }
-            _ => {}
-        }
-    }
-    true
-}
-
-fn text_defect(good: bool) -> Option<Defect> {
-    if good { None } else { Some(Defect::BadText) }
-}
-
-fn name_defect(node: &Node) -> Option<Defect> {
-    match name_text(node) {
-        Some(text) => if is_reserved(text) {
-            Some(Defect::Reserved)
-        } else {
-            None
-        },
-        None => None,
-    }
-}
-
-// The defect of a node itself; a label's name is told by the node above it.
-fn own_defect(node: &Node, is_label: bool) -> Option<Defect> {
+fn is_reserved_name(node: &Node, label: bool) -> bool
+    ensures { result ≡ unprintable.is_reserved_name label (shape_of node.now) (names_of node.now) }
+{
     match node.shape() {
-        Shape::Identifier | Shape::BindingIdentifier => name_defect(node),
-        Shape::IdentifierName(_) => if is_label { name_defect(node) } else { None },
-        Shape::RegExpLiteral(pattern, flags) => text_defect(is_good_pattern(
-            pattern.text().as_slice(),
-            flags.text().as_slice(),
-        )),
-        Shape::Program(_, texts) => text_defect(are_good_directives(texts)),
-        Shape::Function(_, _, texts) => text_defect(are_good_directives(texts)),
-        Shape::ArrowFunctionExpression(texts) => text_defect(are_good_directives(texts)),
-        Shape::TemplateLiteral => text_defect(are_good_chunks(node.parts())),
-        _ => None,
+        Shape::Identifier | Shape::BindingIdentifier => is_named_reserved(node.name()),
+        Shape::IdentifierName(text) => label && is_reserved(text.as_slice()),
+        _ => false,
     }
 }
 
-fn has_label(shape: &Shape) -> bool {
+fn is_raw_piece(piece: &Node) -> bool
+    ensures { result ≡ unprintable.is_raw_piece piece.now }
+{
+    match piece.shape() {
+        Shape::TemplateElement(_, raw, _) => is_raw(raw.text().as_slice()),
+        _ => true,
+    }
+}
+
+#[tactic(auto, using(crate::proofs::Scans::pieces_go_on, crate::proofs::Scans::pieces_stop, crate::proofs::Scans::pieces_end))]
+fn are_raw(pieces: &[Node]) -> bool
+    ensures { result ≡ unprintable.are_raw (trees_of pieces.now) }
+{
+    for piece in pieces {
+        if !is_raw_piece(piece) {
+            return false;
+        }
+    }
+    true
+}
+
+fn is_default(specifier: &Node) -> bool
+    ensures { result ≡ unprintable.is_default specifier.now }
+{
+    matches!(specifier.shape(), Shape::ImportDefaultSpecifier)
+}
+
+fn is_namespace(specifier: &Node) -> bool
+    ensures { result ≡ unprintable.is_namespace specifier.now }
+{
+    matches!(specifier.shape(), Shape::ImportNamespaceSpecifier)
+}
+
+fn is_named(specifier: &Node) -> bool
+    ensures { result ≡ (not (unprintable.is_default specifier.now) && not (unprintable.is_namespace specifier.now)) }
+{
+    !is_default(specifier) && !is_namespace(specifier)
+}
+
+#[tactic(auto, using(crate::proofs::Scans::names_go_on, crate::proofs::Scans::names_stop, crate::proofs::Scans::names_end))]
+fn are_names(specifiers: &[Node]) -> bool
+    ensures { result ≡ unprintable.are_names (trees_of specifiers.now) }
+{
+    for specifier in specifiers {
+        if !is_named(specifier) {
+            return false;
+        }
+    }
+    true
+}
+
+fn is_namespace_alone(specifiers: &[Node]) -> bool
+    ensures { result ≡ unprintable.is_namespace_alone (trees_of specifiers.now) }
+{
+    match specifiers {
+        [] => false,
+        [only] => is_namespace(only),
+        [_, _, ..] => false,
+    }
+}
+
+fn is_rest(specifiers: &[Node]) -> bool
+    ensures { result ≡ unprintable.is_rest (trees_of specifiers.now) }
+{
+    is_namespace_alone(specifiers) || are_names(specifiers)
+}
+
+fn are_specifiers(specifiers: &[Node]) -> bool
+    ensures { result ≡ unprintable.are_specifiers (trees_of specifiers.now) }
+{
+    match specifiers {
+        [] => true,
+        [first, rest @ ..] => if is_default(first) {
+            is_rest(rest)
+        } else {
+            is_rest(specifiers)
+        },
+    }
+}
+
+fn items_of(node: &Node) -> &[Node]
+    ensures { trees_of result.now ≡ unprintable.items_of node.now }
+{
+    match node.shape() {
+        Shape::Listed => node.parts(),
+        _ => &[],
+    }
+}
+
+fn first_list(parts: &[Node]) -> &[Node]
+    ensures { trees_of result.now ≡ unprintable.first_list (trees_of parts.now) }
+{
+    match parts {
+        [] => &[],
+        [first, ..] => items_of(first),
+    }
+}
+
+fn has_text(node: &Node) -> bool
+    ensures { result ≡ unprintable.has_text (shape_of node.now) (children node.now) }
+{
+    match node.shape() {
+        Shape::RegExpLiteral(pattern, flags) => {
+            is_regular_expression(pattern.text().as_slice(), flags.text().as_slice())
+        }
+        Shape::Program(_, texts)
+        | Shape::Function(_, _, texts)
+        | Shape::ArrowFunctionExpression(texts) => are_directives(texts),
+        Shape::TemplateLiteral => are_raw(first_list(node.parts())),
+        Shape::ImportDeclaration => are_specifiers(first_list(node.parts())),
+        _ => true,
+    }
+}
+
+fn cause_of(node: &Node, label: bool) -> Option<Cause>
+    ensures { option_map faults.cause_of result ≡ faults.own_cause label node.now }
+{
+    if is_reserved_name(node, label) {
+        Some(Cause::Reserved)
+    } else if has_text(node) {
+        None
+    } else {
+        Some(Cause::BadText)
+    }
+}
+
+// ---- the search
+
+// Whether it is a node of ESTree, and neither absent nor what holds others.
+fn is_node(node: &Node) -> bool
+    ensures { result ≡ is_it_node node.now }
+{
+    !matches!(
+        node.shape(),
+        Shape::Absent | Shape::Listed | Shape::InnerExpression
+    )
+}
+
+fn is_missing(node: &Node) -> bool
+    ensures { result ≡ faults.is_missing node.now }
+{
+    matches!(node.shape(), Shape::Absent)
+}
+
+fn has_label(shape: &Shape) -> bool
+    ensures { result ≡ unprintable.has_label shape.now }
+{
     matches!(
         shape,
         Shape::LabeledStatement | Shape::BreakStatement | Shape::ContinueStatement
     )
 }
 
-// A node that stands below another: the next of its parts that are counted.
-#[cycle(searching)]
-#[tactic(auto, using(crate::proofs::Sizes::node_within))]
-fn search_next(
-    path: &mut Numbers,
-    node: &Node,
-    is_label: bool,
-    count: &mut u32,
-) -> Result<Option<Defect>, OutOfMemory> {
-    if matches!(node.shape(), Shape::Absent) {
-        return Ok(None);
+// The next place; a node has no more children than a place can tell.
+fn next_place(at: u32) -> Result<u32, OutOfMemory>
+    ensures { IfOk result (λ next. next ≡ at + 1) }
+{
+    match at.checked_add(1) {
+        Some(next) => Ok(next),
+        None => Err(OutOfMemory),
     }
-    path.push(*count)?;
-    *count = count.saturating_add(1);
-    let found = search(path, node, is_label)?;
-    if found.is_none() {
-        let _ = path.pop();
-    }
+}
+
+fn put_below(at: u32, found: Found) -> Result<Found, OutOfMemory>
+    ensures { IfOk result (λ below. faults.found below ≡ unprintable.below at (faults.found found)) }
+{
+    let mut found = found;
+    found.back.push(at)?;
     Ok(found)
 }
 
-// The first defect in preorder; the path leads to it then, and is as before where there is none.
-#[cycle(searching)]
-#[tactic(auto, using(crate::proofs::Sizes::node_within))]
-fn search(path: &mut Numbers, node: &Node, is_label: bool) -> Result<Option<Defect>, OutOfMemory> {
-    match node.shape() {
-        Shape::InnerExpression => match node.parts() {
-            [only] => return search(path, only, is_label),
-            _ => {}
+// The first node that can't be printed among a node, which may be a label, and those below it. In
+// the node's place is a place of ESTree: it stands for itself, for its items, or for nothing.
+#[cycle(search)]
+fn search(alloc: Global, node: &Node, label: bool, at: u32) -> Result<Sought, OutOfMemory>
+    ensures { IfOk result (λ sought. faults.Seeks sought (unprintable.faults_inside label node.now at) (at + width node.now)) }
+{
+    if is_node(node) {
+        search_node(alloc, node, label, at)
+    } else if is_missing(node) {
+        Ok(Sought::Past(at))
+    } else {
+        search_all(alloc, node.children(), false, at)
+    }
+}
+
+// The same of a node of ESTree.
+#[cycle(search)]
+fn search_node(alloc: Global, node: &Node, label: bool, at: u32) -> Result<Sought, OutOfMemory>
+    ensures { IfOk result (λ sought. faults.SeeksNode sought (unprintable.faults_at label node.now) at) }
+{
+    match first_below(alloc, node, label)? {
+        Some(found) => Ok(Sought::At(put_below(at, found)?)),
+        None => Ok(Sought::Past(next_place(at)?)),
+    }
+}
+
+// The first from a node of ESTree on, with the path from there.
+#[cycle(search)]
+fn first_below(alloc: Global, node: &Node, label: bool) -> Result<Option<Found>, OutOfMemory>
+    ensures { IfOk result (λ first. option_map faults.found first ≡ unprintable.head (unprintable.faults_at label node.now)) }
+{
+    match cause_of(node, label) {
+        Some(cause) => Ok(Some(Found {
+            back: Numbers::new(alloc),
+            cause,
+        })),
+        None => match search_all(alloc, node.children(), has_label(node.shape()), 0)? {
+            Sought::At(found) => Ok(Some(found)),
+            Sought::Past(_) => Ok(None),
         },
-        _ => {}
     }
-    let own = own_defect(node, is_label);
-    if own.is_some() {
-        return Ok(own);
-    }
-    let labels = has_label(node.shape());
-    let again = matches!(node.shape(), Shape::Class(_));
-    let mut count: u32 = 0;
-    let mut at: usize = 0;
-    for part in node.parts() {
-        let unwritten = again && at == 3;
-        at = at.saturating_add(1);
-        if unwritten {
-            continue;
-        }
-        let found = if matches!(part.shape(), Shape::Listed) {
-            search_items(path, part.parts(), &mut count)?
-        } else {
-            search_next(path, part, labels, &mut count)?
-        };
-        if found.is_some() {
-            return Ok(found);
-        }
-    }
-    Ok(None)
 }
 
-#[cycle(searching)]
-#[tactic(auto, using(crate::proofs::Sizes::node_within))]
-fn search_items(
-    path: &mut Numbers,
-    items: &[Node],
-    count: &mut u32,
-) -> Result<Option<Defect>, OutOfMemory> {
-    for item in items {
-        let found = search_next(path, item, false, count)?;
-        if found.is_some() {
-            return Ok(found);
+#[cycle(search)]
+fn search_all(alloc: Global, nodes: &Nodes, label: bool, at: u32) -> Result<Sought, OutOfMemory>
+    ensures { IfOk result (λ sought. faults.Seeks sought (unprintable.faults_among label nodes.now at) (at + faults.widths nodes.now)) }
+{
+    let mut place = at;
+    for i in 0..nodes.len() {
+        match search(alloc, nodes.child(i), label, place)? {
+            Sought::Past(next) => place = next,
+            Sought::At(found) => return Ok(Sought::At(found)),
         }
     }
-    Ok(None)
+    Ok(Sought::Past(place))
 }
 
-/// Refuses a program that has a node that can't be printed: the error has the path of the first, in
-/// preorder, by the places among the children of ESTree, absent parts left out.
-pub fn refuse_defects(path: Numbers, program: &Node) -> Result<(), PrintError> {
-    let mut path = path;
-    match search(&mut path, program, false)? {
-        None => Ok(()),
-        Some(Defect::Reserved) => Err(PrintError::Reserved { at: path }),
-        Some(Defect::BadText) => Err(PrintError::BadText { at: path }),
+// The path from where the search began.
+#[tactic(auto, using(crate::proofs::Searches::turns, crate::proofs::Searches::turns_end))]
+fn turned(alloc: Global, back: Numbers) -> Result<Numbers, OutOfMemory>
+    ensures { IfOk result (λ path. path ≡ reverse back) }
+{
+    let mut back = back;
+    let mut path = Numbers::new(alloc);
+    while let Some(index) = back.pop() {
+        path.push(index)?;
+    }
+    Ok(path)
+}
+
+/// The first node, in preorder, that can't be printed.
+///
+/// The only error is that memory runs out.
+pub fn first_fault(alloc: Global, program: &Node) -> Result<Option<Fault>, OutOfMemory>
+    ensures { IfOk result (λ fault. option_map faults.fault fault ≡ unprintable.first_fault program.now) }
+{
+    match first_below(alloc, program, false)? {
+        Some(found) => Ok(Some(Fault {
+            at: turned(alloc, found.back)?,
+            cause: found.cause,
+        })),
+        None => Ok(None),
+    }
+}
+
+fn error_of(fault: Fault) -> PrintError
+    ensures { faults.Tells result (Some (faults.fault fault)) }
+{
+    match fault.cause {
+        Cause::Reserved => PrintError::Reserved { at: fault.at },
+        Cause::BadText => PrintError::BadText { at: fault.at },
+    }
+}
+
+/// Refuses a program that has a node that can't be printed, by the first, in preorder.
+pub fn refuse_defects(alloc: Global, program: &Node) -> Result<(), PrintError>
+    ensures printable { OnOk result (unprintable.first_fault program.now ≡ None) }
+    ensures refused { IfErr result (λ error. faults.Tells error (unprintable.first_fault program.now)) }
+{
+    match first_fault(alloc, program) {
+        Ok(None) => Ok(()),
+        Ok(Some(fault)) => Err(error_of(fault)),
+        Err(_) => Err(PrintError::OutOfMemory),
     }
 }

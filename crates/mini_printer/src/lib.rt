@@ -1,13 +1,9 @@
-//! The JavaScript text of a tree: its tokens by a table of productions and one walk.
+//! The JavaScript text of a program: what has none.
 #![tactic(auto)]
 
 mod defects;
 mod error;
-mod line;
-mod program;
-mod rules;
-mod tables;
-mod walk;
+mod writable;
 
+pub use defects::{Cause, Fault, first_fault, refuse_defects};
 pub use error::PrintError;
-pub use program::{print_compact, print_program};
