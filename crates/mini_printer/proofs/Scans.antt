@@ -5,7 +5,7 @@ use Rattle.std.proofs.lemmas.List.{at_drop_more, at_drop_all}
 use Rattle.mini_print.specs.Text.{PatternMode, Outside, InClass, Escaped, EscapedInClass, next_mode, ends_pattern, is_whole_pattern, is_line_end, has_no_line_end, is_letter, are_letters}
 use Rattle.mini_model.specs.Tree.{Tree}
 use Rattle.mini_node.specs.Children.{trees_of}
-use Rattle.mini_print.specs.Unprintable.{starts_with, is_raw, holds_bare, ends_escaped, is_directive, are_directives, is_raw_piece, are_raw, is_default, is_namespace, are_names}
+use Rattle.mini_print.specs.Unprintable.{starts_with, is_raw, holds_bare, ends_escaped, is_directive, are_directives, is_raw_piece, are_raw, is_default, is_namespace, are_names, is_pattern_rest, are_plain_rests}
 use Rattle.mini_printer.specs.Faults.{mode_of, may_stand}
 use Rattle.mini_printer.specs.declared.writable.PatternMode.{PatternMode as Mode}
 
@@ -160,3 +160,15 @@ names_stop ts i t h d e inv = sym inv ∙ names_step ts i t false h d e
 
 pub names_end : (ts : List Tree) (i : ℕ) → length ts ≤ i → are_names (trees_of (drop i ts)) ≡ are_names (trees_of ts) → are_names (trees_of ts) ≡ true
 names_end ts i h inv = sym inv ∙ at_drop_all (λ us. are_names (trees_of us)) ts i h
+
+rests_step : (ts : List Tree) (i : ℕ) (t : Tree) (b : Bool) → i < length ts → t ≡ get_or ts i t → b ≡ is_pattern_rest t → are_plain_rests (trees_of (drop i ts)) ≡ (not b && are_plain_rests (trees_of (drop (i + 1) ts)))
+rests_step ts i t b h d e = at_drop_more (λ us. are_plain_rests (trees_of us)) ts i t h ∙ ap (λ c. not c && are_plain_rests (trees_of (drop (i + 1) ts))) (ap is_pattern_rest (sym d) ∙ sym e)
+
+pub rests_go_on : (ts : List Tree) (i : ℕ) (t : Tree) → i < length ts → t ≡ get_or ts i t → false ≡ is_pattern_rest t → are_plain_rests (trees_of (drop i ts)) ≡ are_plain_rests (trees_of ts) → are_plain_rests (trees_of (drop (i + 1) ts)) ≡ are_plain_rests (trees_of ts)
+rests_go_on ts i t h d e inv = sym (rests_step ts i t false h d e) ∙ inv
+
+pub rests_stop : (ts : List Tree) (i : ℕ) (t : Tree) → i < length ts → t ≡ get_or ts i t → true ≡ is_pattern_rest t → are_plain_rests (trees_of (drop i ts)) ≡ are_plain_rests (trees_of ts) → are_plain_rests (trees_of ts) ≡ false
+rests_stop ts i t h d e inv = sym inv ∙ rests_step ts i t true h d e
+
+pub rests_end : (ts : List Tree) (i : ℕ) → length ts ≤ i → are_plain_rests (trees_of (drop i ts)) ≡ are_plain_rests (trees_of ts) → are_plain_rests (trees_of ts) ≡ true
+rests_end ts i h inv = sym inv ∙ at_drop_all (λ us. are_plain_rests (trees_of us)) ts i h

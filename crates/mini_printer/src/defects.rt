@@ -1,8 +1,8 @@
 //! What can't be printed: names that are reserved words, texts that can't stand in a program, and
-//! imports that no text has.
+//! parts that stand together in no text.
 
 ghost use Rattle.std.specs.Prelude.{◌≡◌, ◌+◌, ◌++◌, ◌∷◌, [], true, false, ◌&&◌, not, reverse, IfOk, OnOk, IfErr, None, Some, option_map};
-ghost use Rattle.mini_model.specs.Paths.{width, is_node as is_it_node};
+ghost use Rattle.mini_model.specs.Paths.{child_at, width, is_node as is_it_node};
 ghost use Rattle.mini_model.specs.Tree.{shape_of, children};
 ghost use Rattle.mini_node.specs.Children.{names, names_of, trees_of};
 ghost use Rattle.mini_print.specs.Grammar as grammar;
@@ -11,7 +11,7 @@ ghost use Rattle.mini_printer.specs.Faults as faults;
 
 use crate::error::PrintError;
 use crate::writable::{are_directives, is_raw, is_regular_expression, is_reserved};
-use mini_model::{Name, Numbers, OutOfMemory, Shape};
+use mini_model::{MethodDefinitionKind, Name, Numbers, OutOfMemory, PropertyKind, Shape};
 use mini_node::{Node, Nodes};
 use std::alloc::Global;
 
@@ -20,7 +20,9 @@ use std::alloc::Global;
 pub enum Cause {
     /// It is an identifier that reads, writes, binds or labels, and a reserved word.
     Reserved,
-    /// It has a text that can't stand in a program, or it is an import that no text has.
+    /// It has a text that can't stand in a program, or parts that stand together in no text: an
+    /// import whose default isn't first or whose namespace has another name beside it, an accessor
+    /// that is a generator, or an object that is assigned to and whose rest is a pattern.
     BadText,
 }
 
@@ -168,6 +170,76 @@ fn first_list(parts: &[Node]) -> &[Node]
     }
 }
 
+fn generates(node: &Node) -> bool
+    ensures { result ≡ unprintable.generates node.now }
+{
+    match node.shape() {
+        Shape::Function(_, generator, _) => *generator,
+        _ => false,
+    }
+}
+
+// Whether the value of a property or a method is a generator.
+fn is_generator(parts: &Nodes) -> bool
+    ensures { result ≡ unprintable.is_generator (child_at parts.now 1) }
+{
+    match parts.get(1) {
+        Some(value) => generates(value),
+        None => false,
+    }
+}
+
+fn is_accessor(kind: PropertyKind) -> bool
+    ensures { result ≡ unprintable.is_accessor kind }
+{
+    matches!(kind, PropertyKind::Get | PropertyKind::Set)
+}
+
+fn is_class_accessor(kind: MethodDefinitionKind) -> bool
+    ensures { result ≡ unprintable.is_class_accessor kind }
+{
+    matches!(kind, MethodDefinitionKind::Get | MethodDefinitionKind::Set)
+}
+
+fn is_pattern_target(node: &Node) -> bool
+    ensures { result ≡ unprintable.is_pattern_target node.now }
+{
+    matches!(
+        node.shape(),
+        Shape::ObjectAssignmentTarget | Shape::ArrayAssignmentTarget
+    )
+}
+
+fn begins_with_pattern(parts: &Nodes) -> bool
+    ensures { result ≡ unprintable.is_pattern_in (child_at parts.now 0) }
+{
+    match parts.get(0) {
+        Some(target) => is_pattern_target(target),
+        None => false,
+    }
+}
+
+fn is_pattern_rest(property: &Node) -> bool
+    ensures { result ≡ unprintable.is_pattern_rest property.now }
+{
+    match property.shape() {
+        Shape::RestElement => begins_with_pattern(property.children()),
+        _ => false,
+    }
+}
+
+#[tactic(auto, using(crate::proofs::Scans::rests_go_on, crate::proofs::Scans::rests_stop, crate::proofs::Scans::rests_end))]
+fn are_plain_rests(properties: &[Node]) -> bool
+    ensures { result ≡ unprintable.are_plain_rests (trees_of properties.now) }
+{
+    for property in properties {
+        if is_pattern_rest(property) {
+            return false;
+        }
+    }
+    true
+}
+
 fn has_text(node: &Node) -> bool
     ensures { result ≡ unprintable.has_text (shape_of node.now) (children node.now) }
 {
@@ -180,6 +252,11 @@ fn has_text(node: &Node) -> bool
         | Shape::ArrowFunctionExpression(texts) => are_directives(texts),
         Shape::TemplateLiteral => are_raw(first_list(node.parts())),
         Shape::ImportDeclaration => are_specifiers(first_list(node.parts())),
+        Shape::ObjectProperty(kind, ..) => !(is_accessor(*kind) && is_generator(node.children())),
+        Shape::MethodDefinition(kind, ..) => {
+            !(is_class_accessor(*kind) && is_generator(node.children()))
+        }
+        Shape::ObjectAssignmentTarget => are_plain_rests(first_list(node.parts())),
         _ => true,
     }
 }

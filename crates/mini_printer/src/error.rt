@@ -9,7 +9,7 @@ pub enum PrintError {
     OutOfMemory,
     /// The name at the path is a reserved word.
     Reserved { at: Numbers },
-    /// The text at the path can't stand in a program, or no text has the import there.
+    /// The text at the path can't stand in a program, or no text has the parts of the node there.
     BadText { at: Numbers },
     /// A node isn't printed.
     Unprintable,

@@ -3,7 +3,9 @@
 
 mod defects;
 mod error;
+mod laws;
 mod writable;
 
 pub use defects::{Cause, Fault, first_fault, refuse_defects};
 pub use error::PrintError;
+pub use laws::faults_are_there;
