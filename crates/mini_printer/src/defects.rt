@@ -300,7 +300,7 @@ fn has_label(shape: &Shape) -> bool
     )
 }
 
-// The next place; a node has no more children than a place can tell.
+// The next place. The only error is that a number in a path can't tell it.
 fn next_place(at: u32) -> Result<u32, OutOfMemory>
     ensures { IfOk result (λ next. next ≡ at + 1) }
 {
@@ -318,8 +318,8 @@ fn put_below(at: u32, found: Found) -> Result<Found, OutOfMemory>
     Ok(found)
 }
 
-// The first node that can't be printed among a node, which may be a label, and those below it. In
-// the node's place is a place of ESTree: it stands for itself, for its items, or for nothing.
+// The first node that can't be printed of a child, which may be a label, and those below it. The
+// child is the node of ESTree in this place, holds those from there on, or is absent.
 #[cycle(search)]
 fn search(alloc: Global, node: &Node, label: bool, at: u32) -> Result<Sought, OutOfMemory>
     ensures { IfOk result (λ sought. faults.Seeks sought (unprintable.faults_inside label node.now at) (at + width node.now)) }
@@ -390,7 +390,8 @@ fn turned(alloc: Global, back: Numbers) -> Result<Numbers, OutOfMemory>
 
 /// The first node, in preorder, that can't be printed.
 ///
-/// The only error is that memory runs out.
+/// The only error is that memory runs out, or that a node has more children than a number in a path
+/// can tell, which is 2^32 - 1.
 pub fn first_fault(alloc: Global, program: &Node) -> Result<Option<Fault>, OutOfMemory>
     ensures { IfOk result (λ fault. option_map faults.fault fault ≡ unprintable.first_fault program.now) }
 {
