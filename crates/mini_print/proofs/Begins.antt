@@ -1,5 +1,5 @@
 -- The machine begins the production that the next tokens are of.
-use Rattle.std.specs.Prelude.{ℕ, ◌≡◌, refl, ◌≤◌, Bool, true, false, not, List, [], ◌∷◌, codes, Option, Some, None, if◌then◌else◌, ◌||◌}
+use Rattle.std.specs.Prelude.{ℕ, ◌≡◌, refl, ◌≤◌, Bool, true, false, not, List, [], ◌∷◌, codes, Some, None, if◌then◌else◌, ◌||◌}
 use Rattle.std.proofs.Common.{◌∙◌, ap, sym, subst, arith}
 use Rattle.std.proofs.lemmas.Bool.{false≢true}
 use Rattle.mini_model.specs.declared.kind.VariableDeclarationKind.TheVariants.{Var, Let, Const}
@@ -9,14 +9,17 @@ use Rattle.mini_model.specs.declared.operator.UnaryOperator.TheVariants as unary
 use Rattle.mini_model.specs.declared.operator.UpdateOperator.TheVariants.{Increment, Decrement}
 use Rattle.mini_model.specs.Tree.{Tree, Trees}
 use Rattle.mini_print.specs.Token.{Token, Word, Punct, Comma, Semicolon, RightParen, RightBracket, RightBrace, Arrow as ArrowToken, LeftBrace, Times, Dot, Colon, LeftParen, Quoted, Number, OptionalDot, LeftBracket, Private, Assigns, Ellipsis, TemplateMiddle, TemplateTail}
-use Rattle.mini_print.specs.Grammar.{Goal, Anything, WithoutIn, Callee, Body, Element, ArrowBlock, FunctionBody, NoBrace, permits, is_left_brace, Sort, Values, Names, Bindings, Statements, Declarators, Properties, Bodies, sort, heir, Place, Rule, Parenthesized, Arrow, Prefix, Unary, Variables, Least, Zero, One, Two, Gaps, Equals, Part, token, left, part, commas, lookahead, form, level, is_of, excluded, NewTarget, Yield, YieldFrom, GeneratorExpression, GeneratorDeclaration, CatchParam, CatchBare, Cases, Catches, BlockParts, is_allowed, same_sort, rule_sort, New, FunctionExpression, FunctionDeclaration, CatchParam, perhaps, option, statements, unwritten, BoundKeyValue, BoundShorthand, Shorthand, BoundProperties, KeyValue, has, ends_property, is_colon_next, ForIn, ForOf, ForDeclared, ForDeclaredIn, ForDeclaredOf, HeadVariables, HeadDeclarations, fork, For, is_word_of, MethodProperty, Getter, Setter, GeneratorProperty, MethodFunction, GeneratorMethod, Methods, GeneratorMethods, Key, KeyWord, KeyText, KeyNumber, KeyNames, KeyName, Chain, FirstMember, FirstCall, LinkCall, OptionalMember, Link, TemplateRests, TagTemplates, FirstLinks, Links, Defaulted, BoundDefault, ComputedMethod, ComputedGenerator, BoundElements, DefaultsOf, Computed, Rest, ClassPlain, ClassMethod, ClassComputedMethod, ClassGenerator, ClassComputedGenerator, ClassGetter, ClassComputedGetter, ClassSetter, ClassComputedSetter, Field, ComputedField, StaticElement, StaticInit, PrivateKey, ClassKey, ClassBodies, ClassElements, Leadings, ArrayTarget, ObjectTarget, PatternItem, ValueItem, PatternRest, ValueRest, TargetShorthand, TargetDefault, TargetKeyValue, PatternAssignment, TargetPattern, Target, Patterns, TargetElements, TargetProperties, Object, Array, YieldBare, ends_yield}
-use Rattle.mini_print.specs.Groups.{Groups, by_rule, Row, end, a_token, a_left, a_part, a_list, a_lookahead, present, missing, with, without, a_silent, a_fork}
+use Rattle.mini_print.specs.Grammar.{Goal, Anything, WithoutIn, Callee, Body, Element, ArrowBlock, FunctionBody, NoBrace, permits, is_left_brace, Sort, Values, Statements, Properties, Bodies, sort, heir, Place, Rule, Parenthesized, Arrow, Prefix, Unary, Variables, Zero, One, Two, Gaps, Equals, Part, token, left, part, commas, lookahead, form, level, is_of, excluded, NewTarget, Yield, YieldFrom, GeneratorExpression, GeneratorDeclaration, CatchParam, CatchBare, Catches, is_allowed, same_sort, rule_sort, New, FunctionExpression, FunctionDeclaration, CatchParam, perhaps, option, statements, unwritten, BoundKeyValue, BoundShorthand, Shorthand, BoundProperties, KeyValue, has, ends_property, is_colon_next, ForIn, ForOf, ForDeclared, ForDeclaredIn, ForDeclaredOf, HeadVariables, fork, For, is_word_of, MethodProperty, Getter, Setter, GeneratorProperty, MethodFunction, GeneratorMethod, Methods, GeneratorMethods, Key, KeyWord, KeyText, KeyNumber, KeyName, Chain, FirstMember, FirstCall, LinkCall, OptionalMember, Link, FirstLinks, Links, Defaulted, BoundDefault, ComputedMethod, ComputedGenerator, BoundElements, Computed, Rest, ClassPlain, ClassMethod, ClassComputedMethod, ClassGenerator, ClassComputedGenerator, ClassGetter, ClassComputedGetter, ClassSetter, ClassComputedSetter, Field, ComputedField, StaticElement, StaticInit, PrivateKey, ClassKey, ClassElements, ArrayTarget, ObjectTarget, PatternItem, ValueItem, PatternRest, ValueRest, TargetShorthand, TargetDefault, TargetKeyValue, PatternAssignment, TargetPattern, Target, TargetElements, TargetProperties, Object, Array, YieldBare, ends_yield, Declarations, DefaultDeclarations, ImportItems, ExportItems, ForwardItems, ImportDefault, ImportDefaultNames, ImportDefaultNamespace, ImportShort, ImportAs, ExportNames, ExportFrom, ExportDeclared, ExportValue, ExportDefault, ExportShort, ForwardName, ForwardText, ForwardAs, DeclaredVariables, DeclaredFunction, DefaultFunction, DefaultClass, ForPatternIn, ForPatternOf}
+use Rattle.mini_print.specs.Groups.{Groups, by_rule, Row, end, a_token, a_left, a_part, a_list, a_lookahead, present, missing, with, without, a_silent}
 use Rattle.mini_print.specs.Printed.{is_statements}
-use Rattle.mini_print.proofs.Reader.{start_at, arrow_rule, is_brace_next, prefix, power, next_power, ends, is_left_paren, is_arrow_next, behind_bracket, tail, bars, is_star_next, is_dot_next, is_paren_next, statement_at, property_at, bound_at, declares, end_words, is_word_next, accessor, first_link, optional_link, link_at, is_equals_next, is_bracket_next, computed_accessor, is_name_end, class_rule, keyed_member, worded_member, member_at, rest_element, element_at, target_property_at}
-use Rattle.mini_print.proofs.Told.{is_values, inner, ToldBy, Told, told, ToldByTwo, is_special, ToldUnless, is_forked, both, untrue, defaults_are}
+use Rattle.mini_print.proofs.Reader.{start_at, arrow_rule, is_brace_next, prefix, power, next_power, ends, is_left_paren, is_arrow_next, tail, bars, is_star_next, is_dot_next, is_paren_next, statement_at, property_at, bound_at, end_words, is_word_next, accessor, first_link, optional_link, link_at, is_equals_next, is_bracket_next, computed_accessor, is_name_end, class_rule, keyed_member, worded_member, member_at, rest_element, element_at, target_property_at}
+use Rattle.mini_print.proofs.Told.{is_values, inner, ToldBy, Told, told, ToldByTwo, is_special, ToldUnless, is_forked, both, untrue}
 use Rattle.mini_print.proofs.Tidy.{Tidy, TidyBehind, Starting, is_name_next, is_key_next, opens_next}
 use Rattle.mini_print.proofs.Table.{is_no_value}
 use Rattle.mini_print.proofs.Powers.{first_open, target_open, neutral, neutral_items}
+use Rattle.mini_print.proofs.Placed.{same_sort_is as of_sort}
+use Rattle.mini_print.proofs.Heads.{list_row, for_begins, declared_for_begins, pattern_in_begins, pattern_of_begins}
+use Rattle.mini_print.proofs.Modules.{not_star, token_row, import_default_begins, import_default_names_begins, import_default_namespace_begins, export_names_begins, export_from_begins, export_declared_begins, export_value_begins, export_default_begins, declared_function_begins, default_function_begins, default_class_begins, import_short_begins, import_as_begins, export_short_begins, forward_name_begins, forward_text_begins, forward_as_begins}
 
 -- ---- what begins a production
 
@@ -131,6 +134,9 @@ no_paren (Unary unary.Typeof) e = refl
 no_paren (Unary unary.Void) e = refl
 no_paren (Unary unary.Delete) e = refl
 no_paren (Variables Var) e = refl
+no_paren (DeclaredVariables Var) e = refl
+no_paren (DeclaredVariables Let) e = refl
+no_paren (DeclaredVariables Const) e = refl
 no_paren (HeadVariables Var) e = refl
 no_paren (HeadVariables Let) e = refl
 no_paren (HeadVariables Const) e = refl
@@ -145,67 +151,6 @@ sorted s h e = (both (same_sort s (rule_sort h)) (is_allowed h) e).0
 pub of_values : (s : Sort) → same_sort s Values ≡ true → is_values s ≡ true
 of_values Values e = refl
 of_values _ e = absurd (false≢true e)
-
-pub of_sort : (s u : Sort) → same_sort s u ≡ true → s ≡ u
-of_sort Values Values e = refl
-of_sort Statements Statements e = refl
-of_sort Catches Catches e = refl
-of_sort Values _ e = absurd (false≢true e)
-of_sort Statements _ e = absurd (false≢true e)
-of_sort Catches _ e = absurd (false≢true e)
-of_sort Names Names e = refl
-of_sort Names _ e = absurd (false≢true e)
-of_sort Bindings Bindings e = refl
-of_sort Bindings _ e = absurd (false≢true e)
-of_sort Declarators Declarators e = refl
-of_sort Declarators _ e = absurd (false≢true e)
-of_sort Properties Properties e = refl
-of_sort Properties _ e = absurd (false≢true e)
-of_sort Bodies Bodies e = refl
-of_sort Bodies _ e = absurd (false≢true e)
-of_sort Cases Cases e = refl
-of_sort Cases _ e = absurd (false≢true e)
-of_sort BoundProperties BoundProperties e = refl
-of_sort BoundProperties _ e = absurd (false≢true e)
-of_sort HeadDeclarations HeadDeclarations e = refl
-of_sort HeadDeclarations _ e = absurd (false≢true e)
-of_sort Methods Methods e = refl
-of_sort Methods _ e = absurd (false≢true e)
-of_sort GeneratorMethods GeneratorMethods e = refl
-of_sort GeneratorMethods _ e = absurd (false≢true e)
-of_sort KeyNames KeyNames e = refl
-of_sort KeyNames _ e = absurd (false≢true e)
-of_sort TemplateRests TemplateRests e = refl
-of_sort TemplateRests _ e = absurd (false≢true e)
-of_sort TagTemplates TagTemplates e = refl
-of_sort TagTemplates _ e = absurd (false≢true e)
-of_sort FirstLinks FirstLinks e = refl
-of_sort FirstLinks _ e = absurd (false≢true e)
-of_sort Links Links e = refl
-of_sort Links _ e = absurd (false≢true e)
-of_sort BoundElements BoundElements e = refl
-of_sort BoundElements _ e = absurd (false≢true e)
-of_sort (DefaultsOf b s) (DefaultsOf d t) e = defaults_are b d s t e
-of_sort (DefaultsOf b s) _ e = absurd (false≢true e)
-of_sort ClassBodies ClassBodies e = refl
-of_sort ClassBodies _ e = absurd (false≢true e)
-of_sort ClassElements ClassElements e = refl
-of_sort ClassElements _ e = absurd (false≢true e)
-of_sort Leadings Leadings e = refl
-of_sort Leadings _ e = absurd (false≢true e)
-of_sort Patterns Patterns e = refl
-of_sort Patterns _ e = absurd (false≢true e)
-of_sort TargetElements TargetElements e = refl
-of_sort TargetElements _ e = absurd (false≢true e)
-of_sort TargetProperties TargetProperties e = refl
-of_sort TargetProperties _ e = absurd (false≢true e)
-of_sort BlockParts BlockParts e = refl
-of_sort BlockParts _ e = absurd (false≢true e)
-
-pub not_star : (ts : List Token) → bars ts ≡ false → is_star_next ts ≡ false
-not_star [] e = refl
-not_star (Punct Times ∷ ts) e = absurd (false≢true (sym e))
-not_star (x ∷ ts) e = refl
 
 pub not_dot : (ts : List Token) → bars ts ≡ false → is_dot_next ts ≡ false
 not_dot [] e = refl
@@ -385,26 +330,6 @@ bound_default_begins s (a_token _ _ _ _ _ _ (a_silent _ _ _ _ _ _ (a_part _ _ _ 
 pub defaulted_begins : {g : Goal} {ks : Trees} {ts r : List Token} → Row g (form Defaulted) ks ts r → prefix BoundElements ts ≡ Some Defaulted
 defaulted_begins (a_part _ _ _ _ _ _ _ ts _ _ c d) = ap (λ b. Some (if b then Rest else Defaulted)) (first_open c).2
 
--- no expression begins as a declaration
-pub undeclared : (ts : List Token) → bars ts ≡ false → declares ts ≡ false
-undeclared [] e = refl
-undeclared (Word s ∷ ts) e = by (is_word_of end_words s) (same_text s (codes "var")) (same_text s (codes "let")) (same_text s (codes "const")) e
-  where
-    by : (a b c d : Bool) → (a || (b || (c || (d || (same_text s (codes "in") || false))))) ≡ false → (b || (c || (d || false))) ≡ false
-    by false false false false e = refl
-    by true b c d e = absurd (false≢true (sym e))
-    by false true c d e = absurd (false≢true (sym e))
-    by false false true d e = absurd (false≢true (sym e))
-    by false false false true e = absurd (false≢true (sym e))
-undeclared (x ∷ ts) e = refl
-
-pub for_begins : {g : Goal} {ks : Trees} {ts r : List Token} → Row g (form For) ks ts r → statement_at ts ≡ Some For
-for_begins (a_token _ _ _ _ _ _ (a_token _ _ _ _ _ _ (present _ _ _ _ _ ts _ _ c d))) = ap (λ b. Some (if b then ForDeclared else For)) (undeclared ts (first_open c))
-for_begins (a_token _ _ _ _ _ _ (a_token _ _ _ _ _ _ (missing _ _ _ _ _ _ (a_fork _ _ _ _ _ (a_token _ _ _ _ _ _ d))))) = refl
-
-pub declared_for_begins : {g : Goal} {ks : Trees} {ts r : List Token} → Row g (form ForDeclared) ks ts r → statement_at ts ≡ Some ForDeclared
-declared_for_begins (a_token _ _ _ _ _ _ (a_token _ _ _ _ _ _ (a_part _ _ _ _ _ _ _ ts _ _ c d))) = ap (λ b. Some (if b then ForDeclared else For)) (first_open c)
-
 -- the links of a chain
 pub named_link : (ts : List Token) → is_name_next ts ≡ true → (first_link ts ≡ FirstMember) × (optional_link ts ≡ OptionalMember)
 named_link [] e = absurd (false≢true e)
@@ -453,9 +378,6 @@ pub paren_ends : (ts : List Token) → is_paren_next ts ≡ true → is_name_end
 paren_ends [] e = absurd (false≢true e)
 paren_ends (Punct LeftParen ∷ ts) e = refl
 paren_ends (x ∷ ts) e = absurd (false≢true e)
-
-pub token_row : {g : Goal} {x : Token} {ks : Trees} {ts r : List Token} → Row g (token x ∷ []) ks ts r → ts ≡ x ∷ r
-token_row (a_token _ _ _ _ _ _ (end _ _)) = refl
 
 pub key_case : (h : Rule) → {g : Goal} {ks : Trees} {ts r : List Token} → Row g (form h) ks ts r → has ClassKey h ≡ true → is_name_end r ≡ true → member_at ts ≡ Some (keyed_member r)
 key_case (KeyWord s) {r} d f e = ap member_at (token_row d) ∙ ap (λ b. Some (if b then keyed_member r else worded_member s r)) e
@@ -537,9 +459,6 @@ same_exclusion _ e = refl
 pub object_begins : {g : Goal} {ks : Trees} {ts r : List Token} → Row g (form Object) ks ts r → is_values (sort g) ≡ true → excluded g Object ≡ false → next_power g r ≤ 18 → prefix (sort g) ts ≡ Some Object
 object_begins {g} (a_token _ y _ _ ts _ (a_list _ _ _ _ is _ _ m _ c (a_token _ z _ _ _ _ (end _ r)))) v x q =
     value_prefix g (y ∷ ts) v ∙ ap (λ y. if is_equals_next y then Some PatternAssignment else Some Object) (neutral_items c 0) ∙ ap (λ b. if b then Some PatternAssignment else Some Object) (no_assignment g r v (same_exclusion g x) q)
-
-pub list_row : {g : Goal} {x y : Token} {o : Option Goal} {l : Least} {ks : Trees} {ts r : List Token} → Row g (token x ∷ commas o l ∷ token y ∷ []) ks ts r → (us : List Token) × (ts ≡ x ∷ us) × ((d : ℕ) → behind_bracket d us ≡ behind_bracket d (y ∷ r))
-list_row (a_token _ _ _ _ us _ (a_list _ _ _ _ _ _ _ _ _ c (a_token _ _ _ _ _ _ (end _ _)))) = (us, refl, neutral_items c)
 
 pub pattern_case : (h : Rule) → {g : Goal} {ks : Trees} {ts r : List Token} → Row g (form h) ks ts r → has TargetPattern h ≡ true → is_equals_next r ≡ true → start_at ts ≡ Some PatternAssignment
 pattern_case ArrayTarget d f e = let w = list_row d in ap start_at w.1 ∙ ap (λ y. if is_equals_next y then Some PatternAssignment else Some Array) (w.2 0) ∙ ap (λ b. if b then Some PatternAssignment else Some Array) e
@@ -651,6 +570,25 @@ specially MethodFunction e f {g} {ks} {ts} d v q X = ap (λ s. prefix s ts) (of_
 specially GeneratorMethod e f {g} {ks} {ts} d v q X = ap (λ s. prefix s ts) (of_sort (sort g) GeneratorMethods (sorted (sort g) GeneratorMethod v))
 specially For e f {g} {ks} {ts} d v q X = ap (λ s. prefix s ts) (of_sort (sort g) Statements (sorted (sort g) For v)) ∙ for_begins d
 specially ForDeclared e f {g} {ks} {ts} d v q X = ap (λ s. prefix s ts) (of_sort (sort g) Statements (sorted (sort g) ForDeclared v)) ∙ declared_for_begins d
+specially (ImportDefault n) e f {g} {ks} {ts} d v q X = ap (λ s. prefix s ts) (of_sort (sort g) Statements (sorted (sort g) (ImportDefault n) v)) ∙ import_default_begins n d
+specially (ImportDefaultNames n) e f {g} {ks} {ts} d v q X = ap (λ s. prefix s ts) (of_sort (sort g) Statements (sorted (sort g) (ImportDefaultNames n) v)) ∙ import_default_names_begins n d
+specially (ImportDefaultNamespace n) e f {g} {ks} {ts} d v q X = ap (λ s. prefix s ts) (of_sort (sort g) Statements (sorted (sort g) (ImportDefaultNamespace n) v)) ∙ import_default_namespace_begins n d
+specially ExportNames e f {g} {ks} {ts} d v q X = ap (λ s. prefix s ts) (of_sort (sort g) Statements (sorted (sort g) ExportNames v)) ∙ export_names_begins d
+specially ExportFrom e f {g} {ks} {ts} d v q X = ap (λ s. prefix s ts) (of_sort (sort g) Statements (sorted (sort g) ExportFrom v)) ∙ export_from_begins d
+specially ExportDeclared e f {g} {ks} {ts} d v q X = ap (λ s. prefix s ts) (of_sort (sort g) Statements (sorted (sort g) ExportDeclared v)) ∙ export_declared_begins d
+specially ExportValue e f {g} {ks} {ts} d v q X = ap (λ s. prefix s ts) (of_sort (sort g) Statements (sorted (sort g) ExportValue v)) ∙ export_value_begins d
+specially ExportDefault e f {g} {ks} {ts} d v q X = ap (λ s. prefix s ts) (of_sort (sort g) Statements (sorted (sort g) ExportDefault v)) ∙ export_default_begins d
+specially (ImportShort n) e f {g} {ks} {ts} d v q X = ap (λ s. prefix s ts) (of_sort (sort g) ImportItems (sorted (sort g) (ImportShort n) v)) ∙ import_short_begins n d
+specially ImportAs e f {g} {ks} {ts} d v q X = ap (λ s. prefix s ts) (of_sort (sort g) ImportItems (sorted (sort g) ImportAs v)) ∙ import_as_begins d
+specially (ExportShort n) e f {g} {ks} {ts} d v q X = ap (λ s. prefix s ts) (of_sort (sort g) ExportItems (sorted (sort g) (ExportShort n) v)) ∙ export_short_begins n d
+specially (ForwardName n) e f {g} {ks} {ts} d v q X = ap (λ s. prefix s ts) (of_sort (sort g) ForwardItems (sorted (sort g) (ForwardName n) v)) ∙ forward_name_begins n d
+specially (ForwardText n) e f {g} {ks} {ts} d v q X = ap (λ s. prefix s ts) (of_sort (sort g) ForwardItems (sorted (sort g) (ForwardText n) v)) ∙ forward_text_begins n d
+specially ForwardAs e f {g} {ks} {ts} d v q X = ap (λ s. prefix s ts) (of_sort (sort g) ForwardItems (sorted (sort g) ForwardAs v)) ∙ forward_as_begins d
+specially DeclaredFunction e f {g} {ks} {ts} d v q X = ap (λ s. prefix s ts) (of_sort (sort g) Declarations (sorted (sort g) DeclaredFunction v)) ∙ declared_function_begins d
+specially DefaultFunction e f {g} {ks} {ts} d v q X = ap (λ s. prefix s ts) (of_sort (sort g) DefaultDeclarations (sorted (sort g) DefaultFunction v)) ∙ default_function_begins d
+specially DefaultClass e f {g} {ks} {ts} d v q X = ap (λ s. prefix s ts) (of_sort (sort g) DefaultDeclarations (sorted (sort g) DefaultClass v)) ∙ default_class_begins d
+specially ForPatternIn e f {g} {ks} {ts} d v q X = ap (λ s. prefix s ts) (of_sort (sort g) Statements (sorted (sort g) ForPatternIn v)) ∙ pattern_in_begins d
+specially ForPatternOf e f {g} {ks} {ts} d v q X = ap (λ s. prefix s ts) (of_sort (sort g) Statements (sorted (sort g) ForPatternOf v)) ∙ pattern_of_begins d
 specially ForIn e f d v q X = absurd (false≢true (sym f))
 specially ForOf e f d v q X = absurd (false≢true (sym f))
 specially ForDeclaredIn e f d v q X = absurd (false≢true (sym f))
@@ -685,6 +623,8 @@ led_plainly ForIn e = absurd (false≢true e)
 led_plainly ForOf e = absurd (false≢true e)
 led_plainly ForDeclaredIn e = absurd (false≢true e)
 led_plainly ForDeclaredOf e = absurd (false≢true e)
+led_plainly ForPatternIn e = absurd (false≢true e)
+led_plainly ForPatternOf e = absurd (false≢true e)
 led_plainly MethodProperty e = absurd (false≢true e)
 led_plainly Getter e = absurd (false≢true e)
 led_plainly Setter e = absurd (false≢true e)
@@ -718,6 +658,23 @@ led_plainly ValueRest e = absurd (false≢true e)
 led_plainly TargetKeyValue e = absurd (false≢true e)
 led_plainly (TargetShorthand s) e = absurd (false≢true e)
 led_plainly (TargetDefault s) e = absurd (false≢true e)
+led_plainly (ImportDefault s) e = absurd (false≢true e)
+led_plainly (ImportDefaultNames s) e = absurd (false≢true e)
+led_plainly (ImportDefaultNamespace s) e = absurd (false≢true e)
+led_plainly ExportNames e = absurd (false≢true e)
+led_plainly ExportFrom e = absurd (false≢true e)
+led_plainly ExportDeclared e = absurd (false≢true e)
+led_plainly ExportValue e = absurd (false≢true e)
+led_plainly ExportDefault e = absurd (false≢true e)
+led_plainly (ImportShort s) e = absurd (false≢true e)
+led_plainly ImportAs e = absurd (false≢true e)
+led_plainly (ExportShort s) e = absurd (false≢true e)
+led_plainly (ForwardName s) e = absurd (false≢true e)
+led_plainly (ForwardText s) e = absurd (false≢true e)
+led_plainly ForwardAs e = absurd (false≢true e)
+led_plainly DeclaredFunction e = absurd (false≢true e)
+led_plainly DefaultFunction e = absurd (false≢true e)
+led_plainly DefaultClass e = absurd (false≢true e)
 led_plainly _ e = refl
 
 pub led_unforked : (h : Rule) → is_led (form h) ≡ true → is_forked h ≡ false
@@ -726,10 +683,6 @@ led_unforked ForOf e = absurd (false≢true e)
 led_unforked ForDeclaredIn e = absurd (false≢true e)
 led_unforked ForDeclaredOf e = absurd (false≢true e)
 led_unforked _ e = refl
-
-pub either : {A : Type 0} (b : Bool) → b ≡ b → (b ≡ true → A) → (b ≡ false → A) → A
-either true e f g = f refl
-either false e f g = g refl
 
 -- the parts behind the first one of a loop's head
 abbrev pub behind_head : List Part → List Part

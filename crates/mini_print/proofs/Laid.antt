@@ -7,16 +7,19 @@ use Rattle.mini_model.specs.declared.seat.Mix.{Mix}
 use Rattle.mini_model.specs.declared.seat.Mix.TheVariants as mix
 use Rattle.mini_model.specs.declared.shape.Shape.{Shape}
 use Rattle.mini_model.specs.declared.shape.Shape.TheVariants as shape
-use Rattle.mini_print.proofs.Stated.{list_not_else}
-use Rattle.mini_print.proofs.Told.{is_values, both}
+use Rattle.mini_model.specs.Weight.{same_text}
+use Rattle.mini_print.specs.Text.{escaped}
+use Rattle.mini_print.proofs.Escapes.{unescaped}
+use Rattle.mini_print.proofs.Stated.{list_not_else, no_text}
+use Rattle.mini_print.proofs.Told.{is_values, both, same_is}
 use Rattle.mini_print.proofs.Tidy.{Starting}
-use Rattle.mini_print.proofs.Reader.{is_right_brace, is_brace_next}
+use Rattle.mini_print.proofs.Reader.{is_right_brace, is_brace_next, is_weak}
 use Rattle.mini_print.proofs.Powers.{first_open}
 use Rattle.mini_print.proofs.Complete.{statement_ends}
 use Rattle.mini_model.specs.Tree.{Tree, Trees, node, none, ◌▸◌, count, listed, leaf, absent}
 use Rattle.mini_model.specs.Position.{assignment_level}
 use Rattle.mini_print.specs.Token.{Token, Punct, LeftParen, RightParen, RightBrace, Comma, Word, Semicolon, Quoted}
-use Rattle.mini_print.specs.Grammar.{Sort, Values, Statements, Declarators, sort, WithoutIn, Callee, Statement, Declared, left, lookahead, perhaps, option, statements, permits, Lookahead, NoStatement, NoBrace, Goal, Anything, Place, place, Rule, TextLiteral, Least, Zero, One, Two, Gaps, Silent, silent_tree, unwritten, Part, token, part, commas, has, opens, is_opener, Else, Equals, ExpressionStatement, Element, Property, Properties, Key, Cases, CaseEnd, Opener, opener, BoundProperties, Ended, HeadDeclarations, HeadDeclared, fork, HeadEnd, NotAsync, ends_head, KeyWord, KeyText, KeyNumber, KeyName, Link, BoundElements, DefaultsOf, ClassBraces, ClassElements, Extends, Leading, starts_directive, NoDirective, Target, TargetElements, TargetProperties, YieldEnd}
+use Rattle.mini_print.specs.Grammar.{Sort, Values, Statements, Declarators, sort, WithoutIn, Callee, Statement, Declared, left, lookahead, perhaps, option, statements, permits, Lookahead, NoStatement, NoBrace, Goal, Anything, Place, place, Rule, TextLiteral, Least, Zero, One, Two, Gaps, Silent, silent_tree, unwritten, Part, token, part, commas, has, opens, is_opener, Else, Equals, ExpressionStatement, Element, Property, Properties, Key, Cases, CaseEnd, Opener, opener, BoundProperties, Ended, HeadDeclarations, HeadDeclared, fork, HeadEnd, NotAsync, ends_head, KeyWord, KeyText, KeyNumber, KeyName, BoundElements, DefaultsOf, ClassBraces, ClassElements, Extends, starts_directive, NoDirective, Target, TargetElements, TargetProperties, YieldEnd, NoDeclaration, ImportItems, ExportItems, ForwardItems}
 use Rattle.mini_print.specs.Groups.{goal_of, a_left, a_lookahead, Groups, by_rule, Row, end, a_token, a_part, a_list, a_block, a_silent as a_silent_row, gap, has_gaps, none_is_enough, one_is_enough, behind_comma, present, missing, with, without, Items, nothing, last, next, Statements as StatementList, no_more, more, a_fork}
 use Rattle.mini_print.specs.Printed.{is_statements, else_behind, settled, settled_parts, are_printable, Printer, lay, lay_items, lay_block, printer, printers, enclosed, a_part as a_part_of, a_list as a_list_of, a_perhaps, sort_of, wants, a_block as a_block_of, a_silent, is_gap, wanted_goal, plain, has_enough, is_printable, fill, core, has_core, stands, undirected, takes_values, holds_head_in, holds_in}
 use Rattle.mini_print.proofs.Placed.{fits_whole, produced, serves_more, Serves, plain_sort, serves_sort, value_serves, limit, one_limit, limited, in_parentheses}
@@ -32,7 +35,7 @@ flag g r = is_statements (sort g) && opens Else r
 abbrev pub Good : Tree → Type 0
 Good t = ((p : Place) (w : Goal) → Serves w p.goal → is_printable (a_part_of w) t ≡ true → p.level ≤ limit w → (r : List Token) → Ready (sort p.goal) r → Groups p (settled (flag p.goal r) t) ((printer t).one p r) r) ×
     ((g w : Goal) (l : Least) → Serves w g → is_printable (a_list_of w l) t ≡ true → stands_in_rows (sort g) ≡ false → (r : List Token) → Ready (sort g) r → (is : Trees) × (settled false t ≡ listed is) × Items g l is ((printer t).items g (has_gaps l) r) r) ×
-    ((i : Goal) → is_printable (a_block_of i) t ≡ true → InBlock i → (r : List Token) → (i ≡ Statement → opens Else r ≡ false) → Ready (sort i) r → (is : Trees) × (settled false t ≡ listed is) × StatementList i is ((printer t).block i r) r) ×
+    ((i : Goal) → is_printable (a_block_of i) t ≡ true → InBlock i → (r : List Token) → (is_statements (sort i) ≡ true → opens Else r ≡ false) → Ready (sort i) r → (is : Trees) × (settled false t ≡ listed is) × StatementList i is ((printer t).block i r) r) ×
     ((v : Silent) → is_printable (a_silent v) t ≡ true → settled false t ≡ silent_tree v)
 
 abbrev pub AllGood : Trees → Type 0
@@ -71,6 +74,9 @@ ready_comma BoundProperties e r = refl
 ready_comma TargetElements e r = refl
 ready_comma TargetProperties e r = refl
 ready_comma BoundElements e r = refl
+ready_comma ImportItems e r = refl
+ready_comma ExportItems e r = refl
+ready_comma ForwardItems e r = refl
 ready_comma (DefaultsOf b s) e r = refl
 ready_comma Statements e r = absurd (false≢true (sym e))
 ready_comma Cases e r = absurd (false≢true (sym e))
@@ -111,6 +117,12 @@ ready s TargetElements _ a g ks r y = absurd a
 ready s TargetProperties [] a g ks r y = a r y
 ready s TargetProperties (token x ∷ ps) a g ks r y = a
 ready s TargetProperties _ a g ks r y = absurd a
+ready s ImportItems (token x ∷ ps) a g ks r y = a
+ready s ImportItems _ a g ks r y = absurd a
+ready s ExportItems (token x ∷ ps) a g ks r y = a
+ready s ExportItems _ a g ks r y = absurd a
+ready s ForwardItems (token x ∷ ps) a g ks r y = a
+ready s ForwardItems _ a g ks r y = absurd a
 ready s BoundElements [] a g ks r y = a r y
 ready s BoundElements (token x ∷ ps) a g ks r y = a
 ready s BoundElements _ a g ks r y = absurd a
@@ -132,21 +144,13 @@ brace_no_else (Punct RightBrace) e = refl
 brace_no_else x e = absurd (false≢true e)
 
 -- behind such a list nothing goes on that it holds
-pub tail_ready : (s : Sort) (i : Goal) (ps : List Part) → Tail s i ps → (g : Goal) (ks : List Printer) (r : List Token) → Ready s r → (i ≡ Statement → opens Else (lay g ps ks r) ≡ false) × Ready (sort i) (lay g ps ks r)
+pub tail_ready : (s : Sort) (i : Goal) (ps : List Part) → Tail s i ps → (g : Goal) (ks : List Printer) (r : List Token) → Ready s r → (is_statements (sort i) ≡ true → opens Else (lay g ps ks r) ≡ false) × Ready (sort i) (lay g ps ks r)
 tail_ready s i (token x ∷ ps) e g ks r y = (λ q. brace_no_else x e.0, brace_ready (sort i) x _ e.0 e.1)
 tail_ready s i (lookahead CaseEnd ∷ []) e g ks r y =
     let c = clause_opens r (subst (λ u. Ready u r) e.1 y) in
     (λ q. c.2, subst (λ j. Ready (sort j) r) (sym e.0) (c.0, c.1))
-tail_ready s i (lookahead NoDirective ∷ ps) e g ks r y = ((λ q. absurd (false≢true (ap is_leading (sym q ∙ e)))), subst (λ j. Ready (sort j) (lay g (lookahead NoDirective ∷ ps) ks r)) (sym e) tt)
-  where
-    is_leading : Goal → Bool
-    is_leading Leading = true
-    is_leading _ = false
-tail_ready s i [] e g ks r y = (λ q. absurd (false≢true (ap is_link_goal (sym q ∙ e))), subst (λ j. Ready (sort j) r) (sym e) tt)
-  where
-    is_link_goal : Goal → Bool
-    is_link_goal Link = true
-    is_link_goal _ = false
+tail_ready s i (lookahead NoDirective ∷ ps) e g ks r y = ((λ q. absurd (false≢true (ap (λ j. is_statements (sort j)) (sym e) ∙ q))), subst (λ j. Ready (sort j) (lay g (lookahead NoDirective ∷ ps) ks r)) (sym e) tt)
+tail_ready s i [] e g ks r y = ((λ q. absurd (false≢true (ap (λ j. is_statements (sort j)) (sym e) ∙ q))), subst (λ j. Ready (sort j) r) (sym e) tt)
 tail_ready s i _ e g ks r y = absurd e
 
 pub else_after : (i : Sort) (ps : List Part) (ts : Trees) (g : Goal) → After (sort g) i ps → (r : List Token) → fill (Some (wants ps)) ts ≡ true →
@@ -196,6 +200,7 @@ paren_permitted NotAsync ts e = refl
 paren_permitted Ended ts e = absurd (false≢true (sym e))
 paren_permitted NoDirective ts e = absurd (false≢true (sym e))
 paren_permitted YieldEnd ts e = absurd (false≢true (sym e))
+paren_permitted NoDeclaration ts e = refl
 paren_permitted NoStatement ts e = refl
 paren_permitted NoBrace ts e = refl
 
@@ -328,6 +333,8 @@ none_laid (lookahead YieldEnd ∷ ps) g r f k L y = absurd L.0
 none_laid (fork ∷ ps) g r f k L y = a_fork g ps none _ r (none_laid ps g r f k L y)
 none_laid (lookahead NoStatement ∷ part o n b ∷ ps) g r f k L y = absurd (false≢true f)
 none_laid (lookahead NoStatement ∷ ps) g r f k L y = absurd L.0
+none_laid (lookahead NoDeclaration ∷ part o n b ∷ ps) g r f k L y = absurd (false≢true f)
+none_laid (lookahead NoDeclaration ∷ ps) g r f k L y = absurd L.0
 none_laid (lookahead NoBrace ∷ part o n b ∷ ps) g r f k L y = absurd (false≢true f)
 none_laid (lookahead NoBrace ∷ ps) g r f k L y = absurd L.0
 none_laid (commas None l ∷ ps) g r f k L y = absurd (false≢true f)
@@ -363,33 +370,44 @@ anything_values (Some i) e = ap is_values (sym (plain_sort i) ∙ ap sort e)
 pub text_statement : List ℕ → Tree
 text_statement s = node shape.ExpressionStatement [] 0 (leaf (shape.StringLiteral s) ▸ none)
 
-pub text_value : (s : List ℕ) (r : List Token) → Groups (place Anything 0) (leaf (shape.StringLiteral s)) (Quoted s ∷ r) r
+pub text_value : (s : List ℕ) (r : List Token) → Groups (place Anything 0) (leaf (shape.StringLiteral s)) (Quoted (escaped s) ∷ r) r
 text_value s r = produced (place Anything 0) (TextLiteral s) none _ r refl (by_rule (place Anything 0) (TextLiteral s) none _ r (fits_whole (TextLiteral s) refl) (a_token _ _ _ _ _ _ (end _ _)))
 
-pub text_groups : (s : List ℕ) (us : List Token) → Groups (place Statement 0) (text_statement s) (Quoted s ∷ Punct Semicolon ∷ us) us
+pub text_groups : (i : Goal) → has i ExpressionStatement ≡ true → (s : List ℕ) (us : List Token) → Groups (place i 0) (text_statement s) (Quoted (escaped s) ∷ Punct Semicolon ∷ us) us
 unfolding text_statement
-text_groups s us = produced (place Statement 0) ExpressionStatement (leaf (shape.StringLiteral s) ▸ none) _ us refl (
-    by_rule (place Statement 0) ExpressionStatement (leaf (shape.StringLiteral s) ▸ none) _ us (refl, omega arith, refl)
+text_groups i H s us = produced (place i 0) ExpressionStatement (leaf (shape.StringLiteral s) ▸ none) _ us refl (
+    by_rule (place i 0) ExpressionStatement (leaf (shape.StringLiteral s) ▸ none) _ us (H, omega arith, refl)
     (a_lookahead _ NoStatement _ _ _ us refl (a_part _ (Some Anything) 0 mix.None _ (leaf (shape.StringLiteral s)) none _ (Punct Semicolon ∷ us) us (text_value s (Punct Semicolon ∷ us)) (a_token _ _ _ _ _ _ (end _ _)))))
 
-pub enclosed_text : (s : List ℕ) (us : List Token) → Groups (place Statement 0) (text_statement s) (Punct LeftParen ∷ Quoted s ∷ Punct RightParen ∷ Punct Semicolon ∷ us) us
+pub enclosed_text : (i : Goal) → has i ExpressionStatement ≡ true → (s : List ℕ) (us : List Token) → Groups (place i 0) (text_statement s) (Punct LeftParen ∷ Quoted (escaped s) ∷ Punct RightParen ∷ Punct Semicolon ∷ us) us
 unfolding text_statement
-enclosed_text s us = produced (place Statement 0) ExpressionStatement (leaf (shape.StringLiteral s) ▸ none) _ us refl (
-    by_rule (place Statement 0) ExpressionStatement (leaf (shape.StringLiteral s) ▸ none) _ us (refl, omega arith, refl)
+enclosed_text i H s us = produced (place i 0) ExpressionStatement (leaf (shape.StringLiteral s) ▸ none) _ us refl (
+    by_rule (place i 0) ExpressionStatement (leaf (shape.StringLiteral s) ▸ none) _ us (H, omega arith, refl)
     (a_lookahead _ NoStatement _ _ _ us refl (a_part _ (Some Anything) 0 mix.None _ (leaf (shape.StringLiteral s)) none _ (Punct Semicolon ∷ us) us
     (in_parentheses (place Anything 0) (leaf (shape.StringLiteral s)) _ (Punct Semicolon ∷ us) refl (omega arith) (text_value s (Punct RightParen ∷ Punct Semicolon ∷ us))) (a_token _ _ _ _ _ _ (end _ _)))))
 
-pub same_text_groups : (s : List ℕ) (us m : List Token) (t : Tree) → Groups (place Statement 0) t (Quoted s ∷ Punct Semicolon ∷ us) m → Groups (place Statement 0) t (Punct LeftParen ∷ Quoted s ∷ Punct RightParen ∷ Punct Semicolon ∷ us) m
-same_text_groups s us m t c =
-    let same = statement_ends c (text_groups s us) in
-    subst (λ k. Groups (place Statement 0) t (Punct LeftParen ∷ Quoted s ∷ Punct RightParen ∷ Punct Semicolon ∷ us) k) (sym same.1)
-    (subst (λ k. Groups (place Statement 0) k (Punct LeftParen ∷ Quoted s ∷ Punct RightParen ∷ Punct Semicolon ∷ us) us) (sym same.0) (enclosed_text s us))
+pub canonical_groups : (i : Goal) → has i ExpressionStatement ≡ true → is_weak i ≡ true → (s : List ℕ) (us m : List Token) (t : Tree) → Groups (place i 0) t (Quoted (escaped s) ∷ Punct Semicolon ∷ us) m →
+    Groups (place i 0) t (Punct LeftParen ∷ Quoted (escaped s) ∷ Punct RightParen ∷ Punct Semicolon ∷ us) m
+canonical_groups i H W s us m t c =
+    let same = statement_ends i W c (text_groups i H s us) in
+    subst (λ k. Groups (place i 0) t (Punct LeftParen ∷ Quoted (escaped s) ∷ Punct RightParen ∷ Punct Semicolon ∷ us) k) (sym same.1)
+    (subst (λ k. Groups (place i 0) k (Punct LeftParen ∷ Quoted (escaped s) ∷ Punct RightParen ∷ Punct Semicolon ∷ us) us) (sym same.0) (enclosed_text i H s us))
+
+pub same_text_groups : (i : Goal) → has i ExpressionStatement ≡ true → is_weak i ≡ true → (q : List ℕ) (us m : List Token) (t : Tree) → Groups (place i 0) t (Quoted q ∷ Punct Semicolon ∷ us) m → Groups (place i 0) t (Punct LeftParen ∷ Quoted q ∷ Punct RightParen ∷ Punct Semicolon ∷ us) m
+same_text_groups i H W q us m t c = by (same_text (escaped (unescaped q)) q) refl
+  where
+    by : (b : Bool) → same_text (escaped (unescaped q)) q ≡ b → Groups (place i 0) t (Punct LeftParen ∷ Quoted q ∷ Punct RightParen ∷ Punct Semicolon ∷ us) m
+    by true e =
+        let z = same_is (escaped (unescaped q)) q e in
+        subst (λ y. Groups (place i 0) t (Punct LeftParen ∷ Quoted y ∷ Punct RightParen ∷ Punct Semicolon ∷ us) m) z
+        (canonical_groups i H W (unescaped q) us m t (subst (λ y. Groups (place i 0) t (Quoted y ∷ Punct Semicolon ∷ us) m) (sym z) c))
+    by false e = absurd (no_text i H q us m t e c)
 
 -- statements that begin with none that would be a directive
-pub undirect : (is : Trees) (ts m : List Token) → StatementList Statement is ts m → starts_directive m ≡ false → StatementList Statement is (undirected ts) m
-undirect is (Quoted s ∷ Punct Semicolon ∷ us) m (no_more _ _) e = absurd (false≢true (sym e))
-undirect is (Quoted s ∷ Punct Semicolon ∷ us) r (more _ t js _ m _ c d) e = more Statement t js _ m r (same_text_groups s us m t c) d
-undirect is ts m c e = c
+pub undirect : (i : Goal) → has i ExpressionStatement ≡ true → is_weak i ≡ true → (is : Trees) (ts m : List Token) → StatementList i is ts m → starts_directive m ≡ false → StatementList i is (undirected ts) m
+undirect i H W is (Quoted s ∷ Punct Semicolon ∷ us) m (no_more _ _) e = absurd (false≢true (sym e))
+undirect i H W is (Quoted s ∷ Punct Semicolon ∷ us) r (more _ t js _ m _ c d) e = more i t js _ m r (same_text_groups i H W s us m t c) d
+undirect i H W is ts m c e = c
 
 pub no_directive : (ts : List Token) → permits NoDirective (undirected ts) ≡ true
 no_directive [] = refl
@@ -456,7 +474,7 @@ laid (lookahead NoDirective ∷ statements Statement ∷ token x ∷ ps) (t ▸ 
     let m = lay g (token x ∷ ps) (printers ts) r in
     let u = tail_ready (sort g) Statement (token x ∷ ps) L.1.0.0 g (printers ts) r y in
     let j = G.0.2 Statement a.0 L.1.0.1 m u.0 u.1 in
-    let z = undirect j.0 ((printer t).block Statement m) m j.2 (brace_begins_none x (lay g ps (printers ts) r) L.0) in
+    let z = undirect Statement refl refl j.0 ((printer t).block Statement m) m j.2 (brace_begins_none x (lay g ps (printers ts) r) L.0) in
     subst (λ v. Row g (lookahead NoDirective ∷ statements Statement ∷ token x ∷ ps) (v ▸ settled_parts (flag g r) (token x ∷ ps) ts) (undirected ((printer t).block Statement m)) r) (sym j.1)
     (a_lookahead g NoDirective _ _ _ r (no_directive ((printer t).block Statement m)) (a_block g Statement (token x ∷ ps) j.0 _ _ m r z (laid (token x ∷ ps) ts G.1 a.1 g k H L.1.1 r y)))
 laid (lookahead NoDirective ∷ ps) ts G f g k H L r y = absurd L.0
@@ -488,6 +506,14 @@ laid (lookahead NoBrace ∷ part o n b ∷ ps) (t ▸ ts) G f g k H L r y =
     subst (λ z. Row g (lookahead NoBrace ∷ part o n b ∷ ps) (settled z t ▸ settled_parts (flag g r) ps ts) (enclosed (not (permits NoBrace ((printer t).one (record { goal = goal_of g o; level = n; around = b }) m))) (printer t) (record { goal = goal_of g o; level = n; around = b }) m) r) (sym (value_unflagged (sort_of o) _ (anything_values o L.0)))
     (guarded _ g NoBrace o n b ps t _ m r G.0 (subst (λ s. is_printable (a_part_of s) t ≡ true) L.0 a.0) (subst (λ s. is_values s ≡ true) q (anything_values o L.0)) (let z = L.1.0.1 in let w = limited (wanted_goal o) in omega (arith, z, w)) refl refl (laid ps ts G.1 a.1 g k H L.1.1 r y))
 laid (lookahead NoBrace ∷ ps) ts G f g k H L r y = absurd L.0
+laid (lookahead NoDeclaration ∷ part o n b ∷ ps) none G f g k H L r y = absurd (false≢true f)
+laid (lookahead NoDeclaration ∷ part o n b ∷ ps) (t ▸ ts) G f g k H L r y =
+    let a = both (is_printable (a_part_of (wanted_goal o)) t) (fill (Some (wants ps)) ts) f in
+    let q = part_sort g o L.1.0.0 in
+    let m = lay g ps (printers ts) r in
+    subst (λ z. Row g (lookahead NoDeclaration ∷ part o n b ∷ ps) (settled z t ▸ settled_parts (flag g r) ps ts) (enclosed (not (permits NoDeclaration ((printer t).one (record { goal = goal_of g o; level = n; around = b }) m))) (printer t) (record { goal = goal_of g o; level = n; around = b }) m) r) (sym (value_unflagged (sort_of o) _ (anything_values o L.0)))
+    (guarded _ g NoDeclaration o n b ps t _ m r G.0 (subst (λ s. is_printable (a_part_of s) t ≡ true) L.0 a.0) (subst (λ s. is_values s ≡ true) q (anything_values o L.0)) (let z = L.1.0.1 in let w = limited (wanted_goal o) in omega (arith, z, w)) refl refl (laid ps ts G.1 a.1 g k H L.1.1 r y))
+laid (lookahead NoDeclaration ∷ ps) ts G f g k H L r y = absurd L.0
 laid (perhaps i ∷ ps) none G f g k H L r y = absurd (false≢true f)
 laid (perhaps i ∷ ps) (t ▸ ts) G f g k H L r y =
     let a = both (is_printable (a_perhaps (plain i)) t) (fill (Some (wants ps)) ts) f in
@@ -573,18 +599,21 @@ laid_items (t ▸ u ▸ us) G l g w S h v s r y =
         (further (behind_comma l) (behind_enough l (count us)) (subst (λ c. are_printable w c (u ▸ us) ≡ true) (sym (gaps_stay l)) f))))
 
 -- what stands one behind the other is never right before an `else`
-pub unflagged : (i : Goal) (m : List Token) → (i ≡ Statement → opens Else m ≡ false) → flag i m ≡ false
-unflagged Statement m e = e refl
-unflagged _ m e = refl
+pub unflagged : (i : Goal) (m : List Token) → (is_statements (sort i) ≡ true → opens Else m ≡ false) → flag i m ≡ false
+unflagged i m e = by (is_statements (sort i)) e
+  where
+    by : (b : Bool) → (b ≡ true → opens Else m ≡ false) → (b && opens Else m) ≡ false
+    by true e = e refl
+    by false e = refl
 
-pub no_else_in : (i : Goal) (is : Trees) (ts m : List Token) → StatementList i is ts m → (i ≡ Statement → opens Else m ≡ false) → i ≡ Statement → opens Else ts ≡ false
-no_else_in i is ts m c e q = list_not_else is ts m (subst (λ j. StatementList j is ts m) q c) (e q)
+pub no_else_in : (i : Goal) (is : Trees) (ts m : List Token) → StatementList i is ts m → (is_statements (sort i) ≡ true → opens Else m ≡ false) → is_statements (sort i) ≡ true → opens Else ts ≡ false
+no_else_in i is ts m c e q = list_not_else i q is ts m c (e q)
 
 pub list_ready : (i : Goal) (is : Trees) (ts m : List Token) → StatementList i is ts m → InBlock i → Ready (sort i) m → Ready (sort i) ts
 list_ready i is ts m (no_more _ r) B y = y
 list_ready i is ts m (more _ t us ts' n r c d) B y = B.1 ts' (first_open c)
 
-pub laid_block : (ts : Trees) → AllGood ts → (i : Goal) → are_printable i false ts ≡ true → InBlock i → (r : List Token) → (i ≡ Statement → opens Else r ≡ false) → Ready (sort i) r → StatementList i (settled_parts false [] ts) (lay_block i (printers ts) r) r
+pub laid_block : (ts : Trees) → AllGood ts → (i : Goal) → are_printable i false ts ≡ true → InBlock i → (r : List Token) → (is_statements (sort i) ≡ true → opens Else r ≡ false) → Ready (sort i) r → StatementList i (settled_parts false [] ts) (lay_block i (printers ts) r) r
 laid_block none G i v B r e y = no_more i r
 laid_block (t ▸ ts) G i v B r e y =
     let a = both (is_printable (a_part_of i) t) (are_printable i false ts) v in

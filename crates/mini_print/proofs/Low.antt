@@ -8,7 +8,7 @@ use Rattle.mini_print.proofs.Tidy.{Starting, starts_clause}
 use Rattle.mini_print.proofs.Reader.{is_right_brace, ends}
 use Rattle.mini_model.specs.Weight.{same_text}
 use Rattle.mini_print.specs.Token.{Token, Punct, RightParen, RightBrace, Comma, Word, RightBracket}
-use Rattle.mini_print.specs.Grammar.{Sort, Values, Statements, Declarators, sort, is_of, rule_sort, excluded, Statement, Arrow, BindingName, left, lookahead, perhaps, option, statements, Lookahead, Goal, Anything, Rule, Reference, NumberLiteral, BigIntLiteral, TextLiteral, RegExpLiteral, Null, This, True, False, Parenthesized, Array, Member, Index, New, Import, Call, PropertyName, Postfix, Prefix, Unary, Binary, Logical, Conditional, Assignment, Sequence, unwritten, Part, token, part, commas, form, has, opens, is_opener, Else, Equals, Block, Variables, Declarator, Empty, ExpressionStatement, If, DoWhile, While, For, Return, Throw, Debugger, Object, KeyValue, Computed, Spread, FunctionExpression, FunctionDeclaration, FunctionBody, SpreadItem, ArrowBlock, Break, Continue, Properties, Key, SuperMember, SuperIndex, SuperCall, NewTarget, ImportMeta, PrivateName, PrivateIn, Yield, YieldFrom, GeneratorExpression, GeneratorDeclaration, Label, Switch, Case, DefaultCase, Try, CatchParam, CatchBare, BlockPart, Cases, CaseEnd, Catch, Finally, ends_clause, Opener, opener, ObjectPattern, ArrayPattern, Rest, BoundKeyValue, BoundComputed, BoundShorthand, BoundRest, Shorthand, BoundProperties, Ended, ends_property, ends_property_at, ForIn, ForOf, ForDeclared, ForDeclaredIn, ForDeclaredOf, HeadVariables, HeadDeclarations, fork, HeadEnd, ends_head, ends_head_at, MethodProperty, Getter, Setter, GeneratorProperty, MethodFunction, GeneratorMethod, KeyWord, KeyText, KeyNumber, KeyName, WholeTemplate, Template, MiddlePiece, TailPiece, TaggedTemplate, TagWhole, TagParts, Chain, FirstMember, FirstIndex, FirstCall, LinkMember, LinkIndex, LinkCall, OptionalMember, OptionalIndex, OptionalCall, Link, Defaulted, BoundDefault, NamedDefault, ComputedMethod, ComputedGetter, ComputedSetter, ComputedGenerator, BoundElements, DefaultsOf, ClassPlain, ClassNamed, ClassDeclared, ClassBody, ClassMethod, ClassComputedMethod, ClassGenerator, ClassComputedGenerator, ClassGetter, ClassComputedGetter, ClassSetter, ClassComputedSetter, Field, ComputedField, StaticElement, StaticInit, PrivateKey, ClassBraces, ClassElements, Extends, Leading, Directive, NoDirective, ArrayTarget, ObjectTarget, PatternItem, ValueItem, PatternRest, ValueRest, TargetShorthand, TargetDefault, TargetKeyValue, TargetComputed, TargetPropertyRest, PatternAssignment, TargetElements, TargetProperties, YieldBare, YieldEnd}
+use Rattle.mini_print.specs.Grammar.{Sort, Values, Statements, Declarators, sort, is_of, rule_sort, excluded, Statement, Arrow, BindingName, left, lookahead, perhaps, option, statements, Lookahead, Goal, Anything, Rule, Reference, NumberLiteral, BigIntLiteral, TextLiteral, RegExpLiteral, Null, This, True, False, Parenthesized, Array, Member, Index, New, Import, Call, PropertyName, Postfix, Prefix, Unary, Binary, Logical, Conditional, Assignment, Sequence, unwritten, Part, token, part, commas, form, has, opens, is_opener, Else, Equals, Block, Variables, Declarator, Empty, ExpressionStatement, If, DoWhile, While, For, Return, Throw, Debugger, Object, KeyValue, Computed, Spread, FunctionExpression, FunctionDeclaration, FunctionBody, SpreadItem, ArrowBlock, Break, Continue, Properties, Key, SuperMember, SuperIndex, SuperCall, NewTarget, ImportMeta, PrivateName, PrivateIn, Yield, YieldFrom, GeneratorExpression, GeneratorDeclaration, Label, Switch, Case, DefaultCase, Try, CatchParam, CatchBare, BlockPart, Cases, CaseEnd, Catch, Finally, ends_clause, Opener, opener, ObjectPattern, ArrayPattern, Rest, BoundKeyValue, BoundComputed, BoundShorthand, BoundRest, Shorthand, BoundProperties, Ended, ends_property, ends_property_at, ForIn, ForOf, ForDeclared, ForDeclaredIn, ForDeclaredOf, HeadVariables, HeadDeclarations, fork, HeadEnd, ends_head, ends_head_at, MethodProperty, Getter, Setter, GeneratorProperty, MethodFunction, GeneratorMethod, KeyWord, KeyText, KeyNumber, KeyName, WholeTemplate, Template, MiddlePiece, TailPiece, TaggedTemplate, TagWhole, TagParts, Chain, FirstMember, FirstIndex, FirstCall, LinkMember, LinkIndex, LinkCall, OptionalMember, OptionalIndex, OptionalCall, Link, Defaulted, BoundDefault, NamedDefault, ComputedMethod, ComputedGetter, ComputedSetter, ComputedGenerator, BoundElements, DefaultsOf, ClassPlain, ClassNamed, ClassDeclared, ClassBody, ClassMethod, ClassComputedMethod, ClassGenerator, ClassComputedGenerator, ClassGetter, ClassComputedGetter, ClassSetter, ClassComputedSetter, Field, ComputedField, StaticElement, StaticInit, PrivateKey, ClassBraces, ClassElements, Extends, Leading, Directive, NoDirective, ArrayTarget, ObjectTarget, PatternItem, ValueItem, PatternRest, ValueRest, TargetShorthand, TargetDefault, TargetKeyValue, TargetComputed, TargetPropertyRest, PatternAssignment, TargetElements, TargetProperties, YieldBare, YieldEnd, ImportItems, ExportItems, ForwardItems, ImportBare, ImportNames, ImportNamespace, ImportDefault, ImportDefaultNames, ImportDefaultNamespace, ImportShort, ImportAs, ExportNames, ExportFrom, ExportAll, ExportDeclared, ExportValue, ExportDefault, ExportShort, ExportAs, ForwardName, ForwardText, ForwardAs, DeclaredVariables, DeclaredFunction, DeclaredGenerator, DeclaredClass, DefaultFunction, DefaultGenerator, DefaultClass, DefaultClassNamed, ForPatternIn, ForPatternOf}
 use Rattle.mini_print.specs.Printed.{is_statements, sort_of, wanted_goal, plain}
 use Rattle.mini_print.proofs.Placed.{rule_sort_is, Serves, value_serves, limit}
 
@@ -36,6 +36,9 @@ Ready BoundProperties r = ends_property r ≡ true
 Ready TargetElements r = ends_property r ≡ true
 Ready TargetProperties r = ends_property r ≡ true
 Ready BoundElements r = ends_property r ≡ true
+Ready ImportItems r = ends_property r ≡ true
+Ready ExportItems r = ends_property r ≡ true
+Ready ForwardItems r = ends_property r ≡ true
 Ready (DefaultsOf b s) r = ends_property r ≡ true
 Ready _ r = Unit {0}
 
@@ -60,6 +63,12 @@ After s TargetElements _ = ⊥
 After s TargetProperties [] = (r : List Token) → Ready s r → ends_property r ≡ true
 After s TargetProperties (token x ∷ ps) = ends_property_at x ≡ true
 After s TargetProperties _ = ⊥
+After s ImportItems (token x ∷ ps) = ends_property_at x ≡ true
+After s ImportItems _ = ⊥
+After s ExportItems (token x ∷ ps) = ends_property_at x ≡ true
+After s ExportItems _ = ⊥
+After s ForwardItems (token x ∷ ps) = ends_property_at x ≡ true
+After s ForwardItems _ = ⊥
 After s BoundElements [] = (r : List Token) → Ready s r → ends_property r ≡ true
 After s BoundElements (token x ∷ ps) = ends_property_at x ≡ true
 After s BoundElements _ = ⊥
@@ -323,6 +332,8 @@ low (Label s) v = ((tt, omega arith, refl), tt)
 low Switch v = ((tt, omega arith, tt), (((refl, refl), (refl, clause_ends)), tt))
 low ForIn v = ((tt, omega arith, tt), ((tt, omega arith, tt), ((tt, omega arith, refl), tt)))
 low ForOf v = (refl, ((tt, omega arith, tt), ((tt, omega arith, tt), ((tt, omega arith, refl), tt))))
+low ForPatternIn v = ((tt, omega arith, tt), ((tt, omega arith, tt), ((tt, omega arith, refl), tt)))
+low ForPatternOf v = ((tt, omega arith, tt), ((tt, omega arith, tt), ((tt, omega arith, refl), tt)))
 low ForDeclared v = ((tt, omega arith, refl), ((refl, tt), ((refl, tt), ((tt, omega arith, refl), tt))))
 low ForDeclaredIn v = ((tt, omega arith, refl), ((tt, omega arith, tt), ((tt, omega arith, refl), tt)))
 low ForDeclaredOf v = ((tt, omega arith, refl), ((tt, omega arith, tt), ((tt, omega arith, refl), tt)))
@@ -342,3 +353,30 @@ low Try v = ((tt, omega arith, tt), ((refl, tt, omega arith, tt, (refl, λ r y. 
 low CatchParam v = ((tt, omega arith, tt), ((tt, omega arith, tt), tt))
 low CatchBare v = ((tt, omega arith, tt), tt)
 low BlockPart v = (((refl, refl), (refl, no_catch)), tt)
+low (ImportBare s) v = tt
+low ImportNames v = ((refl, refl), ((tt, omega arith, tt), tt))
+low ImportNamespace v = ((tt, omega arith, tt), ((tt, omega arith, tt), tt))
+low (ImportDefault s) v = ((tt, omega arith, tt), tt)
+low (ImportDefaultNames s) v = ((refl, refl), ((tt, omega arith, tt), tt))
+low (ImportDefaultNamespace s) v = ((tt, omega arith, tt), ((tt, omega arith, tt), tt))
+low (ImportShort s) v = ((λ r y. y), tt)
+low ImportAs v = ((tt, omega arith, tt), ((tt, omega arith, tt), tt))
+low ExportNames v = ((refl, refl), tt)
+low ExportFrom v = ((refl, refl), ((tt, omega arith, tt), tt))
+low ExportAll v = ((refl, tt, omega arith, tt, refl), ((tt, omega arith, tt), tt))
+low ExportDeclared v = ((tt, omega arith, tt), tt)
+low ExportValue v = (refl, ((tt, omega arith, tt), tt))
+low ExportDefault v = ((tt, omega arith, tt), tt)
+low (ExportShort s) v = ((λ r y. y), tt)
+low (ExportAs s) v = ((tt, omega arith, tt), tt)
+low (ForwardName s) v = ((λ r y. y), tt)
+low (ForwardText s) v = ((λ r y. y), tt)
+low ForwardAs v = ((tt, omega arith, tt), ((tt, omega arith, tt), tt))
+low (DeclaredVariables k) v = ((refl, refl), tt)
+low DeclaredFunction v = ((tt, omega arith, tt), ((refl, refl), ((tt, omega arith, tt), tt)))
+low DeclaredGenerator v = ((tt, omega arith, tt), ((refl, refl), ((tt, omega arith, tt), tt)))
+low (DeclaredClass s) v = ((refl, tt, omega arith, tt, tt), ((tt, omega arith, tt), tt))
+low DefaultFunction v = ((refl, tt), ((refl, refl), ((tt, omega arith, tt), tt)))
+low DefaultGenerator v = ((refl, tt), ((refl, refl), ((tt, omega arith, tt), tt)))
+low DefaultClass v = ((refl, tt, omega arith, tt, tt), ((tt, omega arith, tt), tt))
+low (DefaultClassNamed s) v = ((refl, tt, omega arith, tt, tt), ((tt, omega arith, tt), tt))

@@ -7,7 +7,7 @@ use Rattle.mini_model.specs.declared.seat.Mix.TheVariants as mix
 use Rattle.mini_print.proofs.Told.{is_values, both, defaults_are}
 use Rattle.mini_model.specs.Tree.{Tree, Trees, none, ◌▸◌}
 use Rattle.mini_print.specs.Token.{Token, Punct, LeftParen, RightParen}
-use Rattle.mini_print.specs.Grammar.{Sort, Values, Names, Bindings, Statements, Declarators, sort, is_of, rule_sort, same_sort, is_allowed, WithoutIn, Callee, Goal, Anything, Place, place, Rule, Parenthesized, Array, Import, Call, Binary, Logical, Assignment, Sequence, form, level, has, mixes, built, built_before, opens, Else, Block, Object, Spread, SpreadItem, Element, Properties, Bodies, Fits, SuperCall, PrivateIn, Cases, Catches, BlockParts, BoundProperties, HeadDeclarations, Methods, GeneratorMethods, KeyNames, Chain, TemplateRests, TagTemplates, FirstLinks, Links, BoundElements, DefaultsOf, ClassBodies, ClassElements, Leadings, PatternAssignment, Target, Patterns, TargetElements, TargetProperties}
+use Rattle.mini_print.specs.Grammar.{Sort, Values, Names, Bindings, Statements, Declarators, sort, is_of, rule_sort, same_sort, is_allowed, WithoutIn, Callee, Goal, Anything, Place, place, Rule, Parenthesized, Array, Import, Call, Binary, Logical, Assignment, Sequence, form, level, has, mixes, built, built_before, opens, Else, Block, Object, Spread, SpreadItem, Element, Properties, Bodies, Fits, SuperCall, PrivateIn, Cases, Catches, BlockParts, BoundProperties, HeadDeclarations, Methods, GeneratorMethods, KeyNames, Chain, TemplateRests, TagTemplates, FirstLinks, Links, BoundElements, DefaultsOf, ClassBodies, ClassElements, Leadings, PatternAssignment, Target, Patterns, TargetElements, TargetProperties, Declarations, DefaultDeclarations, ImportItems, ExportItems, ForwardItems}
 use Rattle.mini_print.specs.Groups.{Groups, by_rule, Row, end, a_token, a_part}
 use Rattle.mini_print.specs.Printed.{is_block, is_fit, parenthesized, plain, turned}
 
@@ -95,6 +95,16 @@ same_sort_is TargetElements TargetElements e = refl
 same_sort_is TargetElements _ e = absurd (false≢true e)
 same_sort_is TargetProperties TargetProperties e = refl
 same_sort_is TargetProperties _ e = absurd (false≢true e)
+same_sort_is Declarations Declarations e = refl
+same_sort_is Declarations _ e = absurd (false≢true e)
+same_sort_is DefaultDeclarations DefaultDeclarations e = refl
+same_sort_is DefaultDeclarations _ e = absurd (false≢true e)
+same_sort_is ImportItems ImportItems e = refl
+same_sort_is ImportItems _ e = absurd (false≢true e)
+same_sort_is ExportItems ExportItems e = refl
+same_sort_is ExportItems _ e = absurd (false≢true e)
+same_sort_is ForwardItems ForwardItems e = refl
+same_sort_is ForwardItems _ e = absurd (false≢true e)
 same_sort_is BlockParts BlockParts e = refl
 same_sort_is BlockParts _ e = absurd (false≢true e)
 

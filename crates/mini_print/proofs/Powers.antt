@@ -7,13 +7,13 @@ use Rattle.mini_model.specs.declared.operator.BinaryOperator.TheVariants as bina
 use Rattle.mini_model.specs.Weight.{same_text}
 use Rattle.mini_model.specs.Tree.{Tree, Trees}
 use Rattle.mini_print.specs.Token.{Token, Word, Punct, Punctuator, Comma, Semicolon, RightParen, RightBracket, RightBrace, LeftBrace, Dot, LeftParen, Quoted, OptionalDot, TemplateWhole, TemplateHead, TemplateMiddle, TemplateTail, LeftBracket, Assigns}
-use Rattle.mini_print.specs.Grammar.{Block as BlockRule, Goal, Anything, WithoutIn, Callee, AfterDot, Binding, Statement, Declared, Property, Body, Element, SpreadItem, ArrowBlock, FunctionBody, NoBrace, permits, is_left_brace, Binary, Sort, Values, Names, Bindings, Statements, Declarators, Properties, Bodies, sort, heir, Place, place, whole, Rule, Parenthesized, Arrow, Prefix, Unary, Variables, Least, Zero, One, Two, Gaps, silent_tree, Opener, Equals, Else, opener, opens, Part, token, left, part, commas, lookahead, form, level, is_of, excluded, built_before, NewTarget, Yield, YieldFrom, GeneratorExpression, GeneratorDeclaration, CatchParam, CatchBare, Cases, Catches, BlockParts, CaseItem, Catching, BlockOnly, LabelName, CaseEnd, Catch, Finally, ends_clause, is_allowed, same_sort, rule_sort, New, FunctionExpression, FunctionDeclaration, CatchParam, perhaps, option, statements, unwritten, BoundKeyValue, BoundShorthand, Shorthand, BoundProperties, Bound, Parameter, BoundProperty, KeyValue, has, ends_property, is_colon_next, ForIn, ForOf, ForDeclared, ForDeclaredIn, ForDeclaredOf, HeadVariables, HeadDeclarations, HeadDeclaration, HeadDeclared, fork, HeadEnd, For, ends_head, is_word_of, MethodProperty, Getter, Setter, GeneratorProperty, MethodFunction, GeneratorMethod, Methods, GeneratorMethods, MethodValue, GeneratorValue, Key, KeyWord, KeyText, KeyNumber, KeyNames, KeyName, WholeTemplate, Template, MiddlePiece, TailPiece, TaggedTemplate, TagWhole, TagParts, Chain, FirstMember, FirstIndex, FirstCall, LinkMember, LinkIndex, LinkCall, OptionalMember, OptionalIndex, OptionalCall, TemplateRest, TagTemplate, FirstLink, Link, TemplateRests, TagTemplates, FirstLinks, Links, Defaulted, BoundDefault, NamedDefault, ComputedMethod, ComputedGetter, ComputedSetter, ComputedGenerator, BoundElement, DefaultOf, BoundElements, DefaultsOf, Lookahead, Computed, Rest, same_flag, ClassPlain, ClassNamed, ClassDeclared, ClassBody, ClassMethod, ClassComputedMethod, ClassGenerator, ClassComputedGenerator, ClassGetter, ClassComputedGetter, ClassSetter, ClassComputedSetter, Field, ComputedField, StaticElement, StaticInit, PrivateKey, ClassBraces, ClassElement, PlainElement, ClassKey, ClassBodies, ClassElements, Extends, Leading, Leadings, Directive, starts_directive, NoDirective, ArrayTarget, ObjectTarget, PatternItem, ValueItem, PatternRest, ValueRest, TargetShorthand, TargetDefault, TargetKeyValue, TargetComputed, TargetPropertyRest, PatternAssignment, TargetPattern, Target, TargetElement, TargetProperty, Patterns, TargetElements, TargetProperties, Object, Array}
+use Rattle.mini_print.specs.Grammar.{Block as BlockRule, Goal, Anything, WithoutIn, Callee, AfterDot, Binding, Statement, Declared, Property, Body, Element, SpreadItem, ArrowBlock, FunctionBody, NoBrace, permits, is_left_brace, Binary, Sort, Values, Names, Bindings, Statements, Declarators, Properties, Bodies, sort, heir, Place, place, whole, Rule, Parenthesized, Arrow, Prefix, Unary, Variables, Least, Zero, One, Two, Gaps, silent_tree, Opener, Equals, Else, opener, opens, Part, token, left, part, commas, lookahead, form, level, is_of, excluded, built_before, NewTarget, Yield, YieldFrom, GeneratorExpression, GeneratorDeclaration, CatchParam, CatchBare, Cases, Catches, BlockParts, CaseItem, Catching, BlockOnly, LabelName, CaseEnd, Catch, Finally, ends_clause, is_allowed, same_sort, rule_sort, New, FunctionExpression, FunctionDeclaration, CatchParam, perhaps, option, statements, unwritten, BoundKeyValue, BoundShorthand, Shorthand, BoundProperties, Bound, Parameter, BoundProperty, KeyValue, has, ends_property, is_colon_next, ForIn, ForOf, ForDeclared, ForDeclaredIn, ForDeclaredOf, HeadVariables, HeadDeclarations, HeadDeclaration, HeadDeclared, fork, HeadEnd, For, ends_head, is_word_of, MethodProperty, Getter, Setter, GeneratorProperty, MethodFunction, GeneratorMethod, Methods, GeneratorMethods, MethodValue, GeneratorValue, Key, KeyWord, KeyText, KeyNumber, KeyNames, KeyName, WholeTemplate, Template, MiddlePiece, TailPiece, TaggedTemplate, TagWhole, TagParts, Chain, FirstMember, FirstIndex, FirstCall, LinkMember, LinkIndex, LinkCall, OptionalMember, OptionalIndex, OptionalCall, TemplateRest, TagTemplate, FirstLink, Link, TemplateRests, TagTemplates, FirstLinks, Links, Defaulted, BoundDefault, NamedDefault, ComputedMethod, ComputedGetter, ComputedSetter, ComputedGenerator, BoundElement, DefaultOf, BoundElements, DefaultsOf, Lookahead, Computed, Rest, same_flag, ClassPlain, ClassNamed, ClassDeclared, ClassBody, ClassMethod, ClassComputedMethod, ClassGenerator, ClassComputedGenerator, ClassGetter, ClassComputedGetter, ClassSetter, ClassComputedSetter, Field, ComputedField, StaticElement, StaticInit, PrivateKey, ClassBraces, ClassElement, PlainElement, ClassKey, ClassBodies, ClassElements, Extends, Leading, Leadings, Directive, starts_directive, NoDirective, ArrayTarget, ObjectTarget, PatternItem, ValueItem, PatternRest, ValueRest, TargetShorthand, TargetDefault, TargetKeyValue, TargetComputed, TargetPropertyRest, PatternAssignment, TargetPattern, Target, TargetElement, TargetProperty, Patterns, TargetElements, TargetProperties, Object, Array, As, starts_default, ModuleItem, SourceText, ModuleName, ImportItem, Exportable, DefaultDeclared, ExportItem, ForwardItem, Declarations, DefaultDeclarations}
 use Rattle.mini_print.specs.Grammar as look
 use Rattle.mini_print.specs.Groups.{goal_of, none_is_enough, behind_comma, Groups, by_rule, Row, end, a_token, a_left, a_part, a_list, a_lookahead, present, missing, with, without, a_block, a_silent, Statements as StatementList, no_more, more, Items, nothing, last, next, gap, a_fork}
 use Rattle.mini_print.specs.Printed.{is_statements}
 use Rattle.mini_print.proofs.Reader.{is_brace_next, infix_punct, infix_rule, binding, bound_by, bound_in, strength, is_weak, power, next_power, goes_on, is_closing, closes, stops, ends, is_comma, is_comma_next, is_sequence, Bracket, Opens, Closes, Neither, bracket, behind_bracket, State, is_separator, separates, Reaches, is_paren_next, is_right_brace, ends_at, declares, is_equals_next}
 use Rattle.mini_print.proofs.Told.{is_values, inner, Led, same_is, both}
-use Rattle.mini_print.proofs.Tidy.{Stops, Closed, Stopped, Ended, Starting, starts_clause, brace_separates, starts_rest, starts_template, starts_link, named_separates, StopsBefore, StopsLook, key_separates, StopsOption}
+use Rattle.mini_print.proofs.Tidy.{Stops, Closed, Stopped, Ended, Starting, starts_clause, brace_separates, starts_rest, starts_template, starts_link, named_separates, StopsBefore, StopsLook, key_separates, StopsOption, starts_declaration}
 use Rattle.mini_print.proofs.Table.{Opening, opening, Balanced, balanced, bars_separate, opens_separates, is_no_value, TargetOpening, target_opening}
 
 pub apart : {A : Type 0} {b : Bool} → b ≡ true → b ≡ false → A
@@ -151,6 +151,14 @@ heir_power TemplateRest (x ∷ r) = refl
 heir_power TagTemplate (x ∷ r) = refl
 heir_power FirstLink (x ∷ r) = refl
 heir_power Link (x ∷ r) = refl
+heir_power ModuleItem (x ∷ r) = refl
+heir_power SourceText (x ∷ r) = refl
+heir_power ModuleName (x ∷ r) = refl
+heir_power ImportItem (x ∷ r) = refl
+heir_power Exportable (x ∷ r) = refl
+heir_power DefaultDeclared (x ∷ r) = refl
+heir_power ExportItem (x ∷ r) = refl
+heir_power ForwardItem (x ∷ r) = refl
 
 -- no operator is a spread
 abbrev pub is_spread : Option Rule → Bool
@@ -361,6 +369,7 @@ clause_ends (x ∷ ts) e = absurd (false≢true e)
 
 pub brace_ends : (x : Token) → is_right_brace x ≡ true → (i : Goal) → ends_at i x ≡ true
 brace_ends (Punct RightBrace) e Statement = refl
+brace_ends (Punct RightBrace) e ModuleItem = refl
 brace_ends (Punct RightBrace) e _ = refl
 brace_ends x e i = absurd (false≢true e)
 
@@ -384,6 +393,7 @@ opened Else ts = refl
 opened Catch ts = refl
 opened Finally ts = refl
 opened Extends ts = refl
+opened As ts = refl
 
 -- ---- lists
 
@@ -459,6 +469,16 @@ directive_separates [] e = absurd (false≢true e)
 directive_separates (Quoted s ∷ ts) e = refl
 directive_separates (x ∷ ts) e = absurd (false≢true e)
 
+pub declaration_separates : (ts : List Token) → starts_declaration ts ≡ true → separates ts ≡ false
+declaration_separates [] e = absurd (false≢true e)
+declaration_separates (Word s ∷ ts) e = refl
+declaration_separates (x ∷ ts) e = absurd (false≢true e)
+
+pub default_separates : (ts : List Token) → starts_default ts ≡ true → separates ts ≡ false
+default_separates [] e = absurd (false≢true e)
+default_separates (Word s ∷ ts) e = refl
+default_separates (x ∷ ts) e = absurd (false≢true e)
+
 -- no item begins with what separates items, and no part that may be absent with what stands where
 -- it is
 pub listed_start : (i : Goal) (ts : List Token) → is_statements (sort i) ≡ false → Starting (sort i) ts → separates ts ≡ false
@@ -480,6 +500,8 @@ listed_start i ts e s = by (sort i) e s
     by (DefaultsOf b t) e s = equals_separates ts s
     by Patterns e s = opens_separates ts s
     by Leadings e s = directive_separates ts s
+    by Declarations e s = declaration_separates ts s
+    by DefaultDeclarations e s = default_separates ts s
     by KeyNames e s = key_separates ts s
     by ClassBodies e s = brace_separates ts s
     by ClassElements e s = s.0
@@ -488,6 +510,7 @@ listed_start i ts e s = by (sort i) e s
 pub perhaps_start : (i : Goal) (ts : List Token) → is_statements (sort i) ≡ false → Starting (sort i) ts → stops i ts ≡ false
 perhaps_start i [] e s = listed_start i [] e s
 perhaps_start Statement (x ∷ ts) e s = absurd (false≢true (sym e))
+perhaps_start ModuleItem (x ∷ ts) e s = absurd (false≢true (sym e))
 perhaps_start Binding (x ∷ ts) e s = s.1
 perhaps_start i (x ∷ ts) e s = (separator_closes x (listed_start i (x ∷ ts) e s)).0
 
@@ -512,6 +535,7 @@ opener_neutral Else d ts = refl
 opener_neutral Catch d ts = refl
 opener_neutral Finally d ts = refl
 opener_neutral Extends d ts = refl
+opener_neutral As d ts = refl
 
 mutual
   pub neutral : {p : Place} {t : Tree} {ts r : List Token} → Groups p t ts r → (d : ℕ) → behind_bracket d ts ≡ behind_bracket d r

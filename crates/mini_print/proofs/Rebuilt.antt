@@ -13,9 +13,9 @@ use Rattle.mini_model.specs.declared.operator.UnaryOperator.TheVariants.{UnaryNe
 use Rattle.mini_print.proofs.Told.{same_is, both, untrue, flag_is}
 use Rattle.mini_model.specs.Templates.{cooked}
 use Rattle.mini_model.specs.declared.kind.MetaPropertyKind.TheVariants as meta
-use Rattle.mini_model.specs.Tree.{Tree, Trees, node, none, ◌▸◌, leaf, absent}
+use Rattle.mini_model.specs.Tree.{Tree, Trees, node, none, ◌▸◌, leaf, absent, is_absent}
 use Rattle.mini_print.specs.Grammar.{Rule, Unary, Part, form, built, has_private, member_shape, Defaulted, same_flag, StaticElement, static_shape, first_shape, constructor_shape, method_kind}
-use Rattle.mini_print.specs.Printed.{settled, settled_parts, is_positive_literal, rule_at, has_body, arrow_of, bare_names, wants, open_form, is_sound, case_of, catch_of, first_is_absent, for_of, for_in_of, for_of_of, declares_first, method_of, second_generates, same_cooked, template_of, is_one, first_raw, second_is_absent, bound_of, computed_method_of, has_default, first_spelling, class_of, class_method_of, class_computed_of, same_member, same_kind, Taker, ABinding, APattern, AValue, taker, element_of, rest_of, assignment_of, target_of, yield_of}
+use Rattle.mini_print.specs.Printed.{settled, settled_parts, is_positive_literal, rule_at, has_body, arrow_of, bare_names, wants, open_form, is_sound, case_of, catch_of, first_is_absent, for_of, for_in_of, for_of_of, declares_first, method_of, second_generates, same_cooked, template_of, is_one, first_raw, second_is_absent, bound_of, computed_method_of, has_default, first_spelling, class_of, class_method_of, class_computed_of, same_member, same_kind, Taker, ABinding, APattern, AValue, taker, element_of, rest_of, assignment_of, target_of, yield_of, import_of, part_at, has_items, spelling_of, is_text, is_reference, is_repeated, import_item_of, export_item_of, export_of, declares_default, default_of, declared_class_of, assigns_first}
 
 -- ---- the production of a node, over its parts, is the node
 
@@ -54,13 +54,15 @@ pub for_built : (b : Bool) (ks : Trees) → built (for_of b) ks ≡ node shape.F
 for_built true ks = refl
 for_built false ks = refl
 
-pub for_in_built : (b : Bool) (ks : Trees) → built (for_in_of b) ks ≡ node shape.ForInStatement [] 0 ks
-for_in_built true ks = refl
-for_in_built false ks = refl
+pub for_in_built : (b p : Bool) (ks : Trees) → built (for_in_of b p) ks ≡ node shape.ForInStatement [] 0 ks
+for_in_built true p ks = refl
+for_in_built false true ks = refl
+for_in_built false false ks = refl
 
-pub for_of_built : (b : Bool) (ks : Trees) → built (for_of_of b) ks ≡ node shape.ForOfStatement [] 0 ks
-for_of_built true ks = refl
-for_of_built false ks = refl
+pub for_of_built : (b p : Bool) (ks : Trees) → built (for_of_of b p) ks ≡ node shape.ForOfStatement [] 0 ks
+for_of_built true p ks = refl
+for_of_built false true ks = refl
+for_of_built false false ks = refl
 
 pub method_built : (b : Bool) (ks : Trees) → built (method_of b) ks ≡ node (shape.ObjectProperty kind.Init true false false) [] 0 ks
 method_built true ks = refl
@@ -177,6 +179,38 @@ pub yield_built : (b : Bool) (ks : Trees) → built (yield_of b) ks ≡ node (sh
 yield_built true ks = refl
 yield_built false ks = refl
 
+pub import_built : (d n l : Bool) (s m : List ℕ) (ks : Trees) → built (import_of d n l s m) ks ≡ node shape.ImportDeclaration [] 0 ks
+import_built true true true s m ks = refl
+import_built true true false s m ks = refl
+import_built true false l s m ks = refl
+import_built false true true s m ks = refl
+import_built false true false s m ks = refl
+import_built false false l s m ks = refl
+
+pub import_item_built : (b : Bool) (s : List ℕ) (ks : Trees) → built (import_item_of b s) ks ≡ node shape.ImportSpecifier [] 0 ks
+import_item_built true s ks = refl
+import_item_built false s ks = refl
+
+pub export_item_built : (l r t : Bool) (s : List ℕ) (ks : Trees) → built (export_item_of l r t s) ks ≡ node shape.ExportSpecifier [] 0 ks
+export_item_built true true t s ks = refl
+export_item_built true false t s ks = refl
+export_item_built false true true s ks = refl
+export_item_built false true false s ks = refl
+export_item_built false false t s ks = refl
+
+pub export_built : (a b : Bool) (ks : Trees) → built (export_of a b) ks ≡ node shape.ExportNamedDeclaration [] 0 ks
+export_built true true ks = refl
+export_built true false ks = refl
+export_built false b ks = refl
+
+pub default_export_built : (b : Bool) (ks : Trees) → built (default_of b) ks ≡ node shape.ExportDefaultDeclaration [] 0 ks
+default_export_built true ks = refl
+default_export_built false ks = refl
+
+pub declared_class_built : (b : Bool) (s : List ℕ) (ks : Trees) → built (declared_class_of b s) ks ≡ node (shape.Class true) [] 0 ks
+declared_class_built true s ks = refl
+declared_class_built false s ks = refl
+
 pub private_stays : (c : Bool) (ts : Trees) → has_private (settled_parts c [] ts) ≡ has_private ts
 private_stays c none = refl
 private_stays c (a ▸ none) = refl
@@ -228,8 +262,8 @@ rebuilt c shape.ForStatement [] ts i n s f = for_built (declares_first ts) _
 rebuilt c (shape.ObjectProperty kind.Init true false false) [] ts i n s f = method_built (second_generates ts) _
 rebuilt c (shape.ObjectProperty kind.Get false false false) [] ts i n s f = refl
 rebuilt c (shape.ObjectProperty kind.Set false false false) [] ts i n s f = refl
-rebuilt c shape.ForInStatement [] ts i n s f = for_in_built (declares_first ts) _
-rebuilt c shape.ForOfStatement [] ts i n s f = for_of_built (declares_first ts) _
+rebuilt c shape.ForInStatement [] ts i n s f = for_in_built (declares_first ts) (assigns_first ts) _
+rebuilt c shape.ForOfStatement [] ts i n s f = for_of_built (declares_first ts) (assigns_first ts) _
 rebuilt c shape.ReturnStatement [] ts i n s f = refl
 rebuilt c shape.ThrowStatement [] ts i n s f = refl
 rebuilt c shape.DebuggerStatement [] ts i n s f = over_none c _ ts (λ k. node shape.DebuggerStatement [] 0 k) (f refl)
@@ -273,7 +307,13 @@ rebuilt c shape.ChainExpression [] ts i e s f = refl
 rebuilt c shape.TemplateLiteral [] ts i e s f = template_built (is_one ts) (first_raw ts) _
 rebuilt c shape.TaggedTemplateExpression [] ts i e s f = refl
 rebuilt c (shape.Class false) [] ts i e s f = class_built (first_is_absent ts) (first_spelling ts) _
-rebuilt c (shape.Class true) [] ts i e s f = refl
+rebuilt c (shape.Class true) [] ts i e s f = declared_class_built (first_is_absent ts) (first_spelling ts) _
+rebuilt c shape.ImportDeclaration [] ts i e s f = import_built (first_is_absent ts) (is_absent (part_at 1 ts)) (not (has_items (part_at 2 ts))) (first_spelling ts) (spelling_of (part_at 3 ts)) _
+rebuilt c shape.ImportSpecifier [] ts i e s f = import_item_built (is_repeated ts) (first_spelling ts) _
+rebuilt c shape.ExportNamedDeclaration [] ts i e s f = export_built (first_is_absent ts) (is_absent (part_at 2 ts)) _
+rebuilt c shape.ExportSpecifier [] ts i e s f = export_item_built (is_reference (part_at 0 ts)) (is_repeated ts) (is_text (part_at 0 ts)) (spelling_of (part_at 0 ts)) _
+rebuilt c shape.ExportDefaultDeclaration [] ts i e s f = default_export_built (declares_default (first_shape ts)) _
+rebuilt c shape.ExportAllDeclaration [] ts i e s f = refl
 rebuilt c shape.ClassBody [] ts i e s f = refl
 rebuilt c (shape.MethodDefinition k d true) [] ts i e s f = static_built c ts (shape.MethodDefinition k d true) s
 rebuilt c (shape.MethodDefinition method.Get false false) [] ts i e s f = refl

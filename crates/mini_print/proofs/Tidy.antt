@@ -1,10 +1,10 @@
 -- Whatever may stand behind a part of a production doesn't go on that part.
-use Rattle.std.specs.Prelude.{ℕ, ◌≡◌, refl, ◌≤◌, Bool, true, false, not, List, [], ◌∷◌, Option, Some, None}
+use Rattle.std.specs.Prelude.{ℕ, ◌≡◌, refl, ◌≤◌, Bool, true, false, not, List, [], ◌∷◌, Option, Some, None, codes}
 use Rattle.std.proofs.Common.{ap, sym, arith}
 use Rattle.std.proofs.lemmas.Bool.{false≢true}
 use Rattle.mini_model.specs.declared.operator.LogicalOperator.TheVariants.{Or, And, Coalesce}
 use Rattle.mini_print.specs.Token.{Token, Word, Punct, RightBrace, LeftBrace, TemplateWhole, TemplateHead, TemplateMiddle, TemplateTail, Private, Quoted, Number}
-use Rattle.mini_print.specs.Grammar.{Goal, Sort, Values, Names, Bindings, Statements, Declarators, Properties, Bodies, sort, Rule, Reference, NumberLiteral, BigIntLiteral, TextLiteral, RegExpLiteral, Null, This, True, False, Parenthesized, Array, Member, Index, New, Import, Call, PropertyName, Postfix, Prefix, Unary, Binary, Logical, Conditional, Assignment, Sequence, Arrow, BindingName, Block as BlockRule, Variables, Declarator, Empty, ExpressionStatement, If, DoWhile, While, For, Return, Throw, Debugger, Object, KeyValue, Computed, Spread, FunctionExpression, FunctionDeclaration, FunctionBody, SpreadItem, ArrowBlock, Break, Continue, Two, NoStatement, permits, begins_statement, Part, token, left, part, commas, lookahead, perhaps, option, statements, unwritten, Statement, form, level, is_reserved, is_of, SuperMember, SuperIndex, SuperCall, NewTarget, ImportMeta, PrivateName, PrivateIn, Yield, YieldFrom, GeneratorExpression, GeneratorDeclaration, Label, Switch, Case, DefaultCase, Try, CatchParam, CatchBare, BlockPart, Cases, Catches, BlockParts, CaseItem, CaseEnd, begins_label, is_colon_next, is_word_of, clause_words, statement_words, ObjectPattern, ArrayPattern, Rest, BoundKeyValue, BoundComputed, BoundShorthand, BoundRest, Shorthand, BoundProperties, ForIn, ForOf, ForDeclared, ForDeclaredIn, ForDeclaredOf, HeadVariables, HeadDeclarations, HeadDeclared, fork, HeadEnd, Least, MethodProperty, Getter, Setter, GeneratorProperty, MethodFunction, GeneratorMethod, Methods, GeneratorMethods, KeyWord, KeyText, KeyNumber, KeyNames, WholeTemplate, Template, MiddlePiece, TailPiece, TaggedTemplate, TagWhole, TagParts, Chain, FirstMember, FirstIndex, FirstCall, LinkMember, LinkIndex, LinkCall, OptionalMember, OptionalIndex, OptionalCall, TemplateRest, TagTemplate, FirstLink, Link, TemplateRests, TagTemplates, FirstLinks, Links, Anything, AfterDot, Defaulted, BoundDefault, NamedDefault, ComputedMethod, ComputedGetter, ComputedSetter, ComputedGenerator, BoundElement, DefaultOf, BoundElements, DefaultsOf, Lookahead, same_flag, Bound, ClassPlain, ClassNamed, ClassDeclared, ClassBody, ClassMethod, ClassComputedMethod, ClassGenerator, ClassComputedGenerator, ClassGetter, ClassComputedGetter, ClassSetter, ClassComputedSetter, Field, ComputedField, StaticElement, StaticInit, PrivateKey, ClassBraces, ClassElement, PlainElement, ClassKey, ClassBodies, ClassElements, Leading, Leadings, Directive, starts_directive, NoDirective, ArrayTarget, ObjectTarget, PatternItem, ValueItem, PatternRest, ValueRest, TargetShorthand, TargetDefault, TargetKeyValue, TargetComputed, TargetPropertyRest, PatternAssignment, TargetPattern, Target, TargetElement, TargetProperty, Patterns, TargetElements, TargetProperties, Opener, Equals, has, YieldBare}
+use Rattle.mini_print.specs.Grammar.{Goal, Sort, Values, Names, Bindings, Statements, Declarators, Properties, Bodies, sort, Rule, Reference, NumberLiteral, BigIntLiteral, TextLiteral, RegExpLiteral, Null, This, True, False, Parenthesized, Array, Member, Index, New, Import, Call, PropertyName, Postfix, Prefix, Unary, Binary, Logical, Conditional, Assignment, Sequence, Arrow, BindingName, Block as BlockRule, Variables, Declarator, Empty, ExpressionStatement, If, DoWhile, While, For, Return, Throw, Debugger, Object, KeyValue, Computed, Spread, FunctionExpression, FunctionDeclaration, FunctionBody, SpreadItem, ArrowBlock, Break, Continue, Two, NoStatement, permits, begins_statement, Part, token, left, part, commas, lookahead, perhaps, option, statements, unwritten, Statement, form, level, is_reserved, is_of, SuperMember, SuperIndex, SuperCall, NewTarget, ImportMeta, PrivateName, PrivateIn, Yield, YieldFrom, GeneratorExpression, GeneratorDeclaration, Label, Switch, Case, DefaultCase, Try, CatchParam, CatchBare, BlockPart, Cases, Catches, BlockParts, CaseItem, CaseEnd, begins_label, is_colon_next, is_word_of, clause_words, statement_words, ObjectPattern, ArrayPattern, Rest, BoundKeyValue, BoundComputed, BoundShorthand, BoundRest, Shorthand, BoundProperties, ForIn, ForOf, ForDeclared, ForDeclaredIn, ForDeclaredOf, HeadVariables, HeadDeclarations, HeadDeclared, fork, HeadEnd, Least, MethodProperty, Getter, Setter, GeneratorProperty, MethodFunction, GeneratorMethod, Methods, GeneratorMethods, KeyWord, KeyText, KeyNumber, KeyNames, WholeTemplate, Template, MiddlePiece, TailPiece, TaggedTemplate, TagWhole, TagParts, Chain, FirstMember, FirstIndex, FirstCall, LinkMember, LinkIndex, LinkCall, OptionalMember, OptionalIndex, OptionalCall, TemplateRest, TagTemplate, FirstLink, Link, TemplateRests, TagTemplates, FirstLinks, Links, Anything, AfterDot, Defaulted, BoundDefault, NamedDefault, ComputedMethod, ComputedGetter, ComputedSetter, ComputedGenerator, BoundElement, DefaultOf, BoundElements, DefaultsOf, Lookahead, same_flag, Bound, ClassPlain, ClassNamed, ClassDeclared, ClassBody, ClassMethod, ClassComputedMethod, ClassGenerator, ClassComputedGenerator, ClassGetter, ClassComputedGetter, ClassSetter, ClassComputedSetter, Field, ComputedField, StaticElement, StaticInit, PrivateKey, ClassBraces, ClassElement, PlainElement, ClassKey, ClassBodies, ClassElements, Leading, Leadings, Directive, starts_directive, NoDirective, ArrayTarget, ObjectTarget, PatternItem, ValueItem, PatternRest, ValueRest, TargetShorthand, TargetDefault, TargetKeyValue, TargetComputed, TargetPropertyRest, PatternAssignment, TargetPattern, Target, TargetElement, TargetProperty, Patterns, TargetElements, TargetProperties, Opener, Equals, has, YieldBare, starts_default, Declarations, DefaultDeclarations, ImportItems, ExportItems, ForwardItems, ImportBare, ImportNames, ImportNamespace, ImportDefault, ImportDefaultNames, ImportDefaultNamespace, ImportShort, ImportAs, ExportNames, ExportFrom, ExportAll, ExportDeclared, ExportValue, ExportDefault, ExportShort, ExportAs, ForwardName, ForwardText, ForwardAs, DeclaredVariables, DeclaredFunction, DeclaredGenerator, DeclaredClass, DefaultFunction, DefaultGenerator, DefaultClass, DefaultClassNamed, ForPatternIn, ForPatternOf}
 use Rattle.mini_print.specs.Grammar as look
 use Rattle.mini_print.specs.Groups.{none_is_enough}
 use Rattle.mini_print.specs.Printed.{is_statements}
@@ -102,6 +102,14 @@ abbrev pub opens_next : List Token → Bool
 opens_next [] = false
 opens_next (x ∷ ts) = opens_bracket x
 
+-- what begins a declaration that is exported
+abbrev pub declaration_words : List (List ℕ)
+declaration_words = codes "var" ∷ codes "let" ∷ codes "const" ∷ codes "function" ∷ codes "class" ∷ []
+
+abbrev pub starts_declaration : List Token → Bool
+starts_declaration (Word s ∷ ts) = is_word_of declaration_words s
+starts_declaration _ = false
+
 abbrev pub Starting : Sort → List Token → Type 0
 Starting Statements ts = ends Statement ts ≡ false
 Starting Values ts = bars ts ≡ false
@@ -121,6 +129,8 @@ Starting ClassBodies ts = is_brace_next ts ≡ true
 Starting ClassElements ts = (separates ts ≡ false) × (is_name_end ts ≡ false) × (is_brace_next ts ≡ false)
 Starting Leadings ts = starts_directive ts ≡ true
 Starting Patterns ts = opens_next ts ≡ true
+Starting Declarations ts = starts_declaration ts ≡ true
+Starting DefaultDeclarations ts = starts_default ts ≡ true
 Starting _ ts = separates ts ≡ false
 
 -- what stands one behind the other ends by itself, and begins with nothing at which such lists end
@@ -329,6 +339,8 @@ tidy ForOf c = (omega arith, (omega arith, (refl, tt)))
 tidy ForDeclared c = (omega arith, (((refl, refl), refl), (((refl, refl), refl), (refl, tt))))
 tidy ForDeclaredIn c = (omega arith, (omega arith, (refl, tt)))
 tidy ForDeclaredOf c = (omega arith, (omega arith, (refl, tt)))
+tidy ForPatternIn c = (omega arith, (omega arith, (refl, tt)))
+tidy ForPatternOf c = (omega arith, (omega arith, (refl, tt)))
 tidy (HeadVariables k) c = (((refl, refl), refl), tt)
 tidy MethodProperty c = (refl, (refl, tt))
 tidy Getter c = (refl, (refl, tt))
@@ -342,3 +354,30 @@ tidy (KeyNumber n) c = tt
 tidy BlockPart c = ((refl, (refl, λ ts e. e)), tt)
 tidy FunctionBody c = ((refl, (refl, λ ts e. ap not e)), ((refl, (refl, λ ts e. e)), tt))
 tidy (Directive s) c = tt
+tidy (ImportBare s) c = tt
+tidy ImportNames c = (((refl, refl), refl), (omega arith, tt))
+tidy ImportNamespace c = (omega arith, (omega arith, tt))
+tidy (ImportDefault s) c = (omega arith, tt)
+tidy (ImportDefaultNames s) c = (((refl, refl), refl), (omega arith, tt))
+tidy (ImportDefaultNamespace s) c = (omega arith, (omega arith, tt))
+tidy (ImportShort s) c = tt
+tidy ImportAs c = (omega arith, (refl, tt))
+tidy ExportNames c = (((refl, refl), refl), tt)
+tidy ExportFrom c = (((refl, refl), refl), (omega arith, tt))
+tidy ExportAll c = (omega arith, (omega arith, tt))
+tidy ExportDeclared c = (refl, tt)
+tidy ExportValue c = (omega arith, tt)
+tidy ExportDefault c = (refl, tt)
+tidy (ExportShort s) c = tt
+tidy (ExportAs s) c = (refl, tt)
+tidy (ForwardName s) c = tt
+tidy (ForwardText s) c = tt
+tidy ForwardAs c = (omega arith, (refl, tt))
+tidy (DeclaredVariables k) c = (((refl, refl), refl), tt)
+tidy DeclaredFunction c = (omega arith, (((refl, refl), refl), (refl, tt)))
+tidy DeclaredGenerator c = (omega arith, (((refl, refl), refl), (refl, tt)))
+tidy (DeclaredClass s) c = (tt, (refl, tt))
+tidy DefaultFunction c = (((refl, refl), refl), (((refl, refl), refl), (refl, tt)))
+tidy DefaultGenerator c = (((refl, refl), refl), (((refl, refl), refl), (refl, tt)))
+tidy DefaultClass c = (tt, (refl, tt))
+tidy (DefaultClassNamed s) c = (tt, (refl, tt))

@@ -1,5 +1,5 @@
 -- By what tokens each production is told from the others.
-use Rattle.std.specs.Prelude.{ℕ, suc, ◌+◌, ◌≡◌, refl, ◌≤◌, ◌<◌, nat_lt, Bool, true, false, not, ◌&&◌, List, [], ◌∷◌, Option, Some, None, if◌then◌else◌, nat_eq, ◌||◌}
+use Rattle.std.specs.Prelude.{ℕ, suc, ◌+◌, ◌≡◌, refl, ◌≤◌, ◌<◌, nat_lt, Bool, true, false, not, ◌&&◌, List, [], ◌∷◌, Option, Some, None, if◌then◌else◌, nat_eq, ◌||◌, codes}
 use Rattle.std.proofs.Common.{ap, sym, arith, ◌⊎◌, inl, inr, ◌∙◌}
 use Rattle.std.proofs.lemmas.Bool.{ltb-true, ltb-false, false≢true, eqb-true}
 use Rattle.mini_model.specs.declared.kind.VariableDeclarationKind.TheVariants.{Var, Let, Const}
@@ -10,9 +10,11 @@ use Rattle.mini_model.specs.declared.operator.UnaryOperator.TheVariants as unary
 use Rattle.mini_model.specs.declared.operator.UpdateOperator.TheVariants.{Increment, Decrement}
 use Rattle.mini_model.specs.Position.{binary_level, left_level, right_level}
 use Rattle.mini_model.specs.Weight.{same_text}
-use Rattle.mini_print.specs.Token.{Token, Word, Punct, Comma, binary_token, Colon, TemplateWhole, TemplateHead}
-use Rattle.mini_print.specs.Grammar.{Sort, Values, Names, Bindings, Statements, Declarators, Properties, Bodies, Rule, Reference, NumberLiteral, BigIntLiteral, TextLiteral, RegExpLiteral, Null, This, True, False, Parenthesized, Array, Member, Index, New, Import, Call, PropertyName, Postfix, Prefix, Unary, Binary, Logical, Conditional, Assignment, Sequence, Arrow, BindingName, Block as BlockRule, Variables, Declarator, Empty, ExpressionStatement, If, DoWhile, While, For, Return, Throw, Debugger, Object, KeyValue, Computed, Spread, FunctionExpression, FunctionDeclaration, FunctionBody, SpreadItem, ArrowBlock, Break, Continue, Two, NoStatement, permits, begins_statement, Part, token, left, part, commas, lookahead, form, level, is_reserved, is_of, SuperMember, SuperIndex, SuperCall, NewTarget, ImportMeta, PrivateName, PrivateIn, Yield, YieldFrom, GeneratorExpression, GeneratorDeclaration, Label, Switch, Case, DefaultCase, Try, CatchParam, CatchBare, BlockPart, Cases, Catches, BlockParts, begins_label, is_colon_next, is_word_of, statement_words, ObjectPattern, ArrayPattern, Rest, BoundKeyValue, BoundComputed, BoundShorthand, BoundRest, Shorthand, BoundProperties, ForIn, ForOf, ForDeclared, ForDeclaredIn, ForDeclaredOf, HeadVariables, HeadDeclarations, MethodProperty, Getter, Setter, GeneratorProperty, MethodFunction, GeneratorMethod, Methods, GeneratorMethods, KeyWord, KeyText, KeyNumber, KeyNames, WholeTemplate, Template, MiddlePiece, TailPiece, TaggedTemplate, TagWhole, TagParts, Chain, FirstMember, FirstIndex, FirstCall, LinkMember, LinkIndex, LinkCall, OptionalMember, OptionalIndex, OptionalCall, TagTemplate, TemplateRests, TagTemplates, FirstLinks, Links, Defaulted, BoundDefault, NamedDefault, ComputedMethod, ComputedGetter, ComputedSetter, ComputedGenerator, BoundElements, DefaultsOf, same_flag, ClassPlain, ClassNamed, ClassDeclared, ClassBody, ClassMethod, ClassComputedMethod, ClassGenerator, ClassComputedGenerator, ClassGetter, ClassComputedGetter, ClassSetter, ClassComputedSetter, Field, ComputedField, StaticElement, StaticInit, PrivateKey, ClassBodies, ClassElements, Leadings, Directive, ArrayTarget, ObjectTarget, PatternItem, ValueItem, PatternRest, ValueRest, TargetShorthand, TargetDefault, TargetKeyValue, TargetComputed, TargetPropertyRest, PatternAssignment, Patterns, TargetElements, TargetProperties, YieldBare}
-use Rattle.mini_print.proofs.Reader.{prefix, statement_at, infix_rule, binding, is_sequence, is_left_paren, Neither, bracket, label_or_expression, statement_start}
+use Rattle.mini_print.specs.Token.{Token, Word, Punct, Comma, binary_token, Colon, TemplateWhole, TemplateHead, Quoted}
+use Rattle.mini_print.specs.Grammar.{Sort, Values, Names, Bindings, Statements, Declarators, Properties, Bodies, Rule, Reference, NumberLiteral, BigIntLiteral, TextLiteral, RegExpLiteral, Null, This, True, False, Parenthesized, Array, Member, Index, New, Import, Call, PropertyName, Postfix, Prefix, Unary, Binary, Logical, Conditional, Assignment, Sequence, Arrow, BindingName, Block as BlockRule, Variables, Declarator, Empty, ExpressionStatement, If, DoWhile, While, For, Return, Throw, Debugger, Object, KeyValue, Computed, Spread, FunctionExpression, FunctionDeclaration, FunctionBody, SpreadItem, ArrowBlock, Break, Continue, Two, NoStatement, permits, begins_statement, Part, token, left, part, commas, lookahead, form, level, is_reserved, is_of, SuperMember, SuperIndex, SuperCall, NewTarget, ImportMeta, PrivateName, PrivateIn, Yield, YieldFrom, GeneratorExpression, GeneratorDeclaration, Label, Switch, Case, DefaultCase, Try, CatchParam, CatchBare, BlockPart, Cases, Catches, BlockParts, begins_label, is_colon_next, is_word_of, statement_words, ObjectPattern, ArrayPattern, Rest, BoundKeyValue, BoundComputed, BoundShorthand, BoundRest, Shorthand, BoundProperties, ForIn, ForOf, ForDeclared, ForDeclaredIn, ForDeclaredOf, HeadVariables, HeadDeclarations, MethodProperty, Getter, Setter, GeneratorProperty, MethodFunction, GeneratorMethod, Methods, GeneratorMethods, KeyWord, KeyText, KeyNumber, KeyNames, WholeTemplate, Template, MiddlePiece, TailPiece, TaggedTemplate, TagWhole, TagParts, Chain, FirstMember, FirstIndex, FirstCall, LinkMember, LinkIndex, LinkCall, OptionalMember, OptionalIndex, OptionalCall, TagTemplate, TemplateRests, TagTemplates, FirstLinks, Links, Defaulted, BoundDefault, NamedDefault, ComputedMethod, ComputedGetter, ComputedSetter, ComputedGenerator, BoundElements, DefaultsOf, same_flag, ClassPlain, ClassNamed, ClassDeclared, ClassBody, ClassMethod, ClassComputedMethod, ClassGenerator, ClassComputedGenerator, ClassGetter, ClassComputedGetter, ClassSetter, ClassComputedSetter, Field, ComputedField, StaticElement, StaticInit, PrivateKey, ClassBodies, ClassElements, Leadings, Directive, ArrayTarget, ObjectTarget, PatternItem, ValueItem, PatternRest, ValueRest, TargetShorthand, TargetDefault, TargetKeyValue, TargetComputed, TargetPropertyRest, PatternAssignment, Patterns, TargetElements, TargetProperties, YieldBare, begins_import, Declarations, DefaultDeclarations, ImportItems, ExportItems, ForwardItems, ImportBare, ImportNames, ImportNamespace, ImportDefault, ImportDefaultNames, ImportDefaultNamespace, ImportShort, ImportAs, ExportNames, ExportFrom, ExportAll, ExportDeclared, ExportValue, ExportDefault, ExportShort, ExportAs, ForwardName, ForwardText, ForwardAs, DeclaredVariables, DeclaredFunction, DeclaredGenerator, DeclaredClass, DefaultFunction, DefaultGenerator, DefaultClass, DefaultClassNamed, ForPatternIn, ForPatternOf}
+use Rattle.mini_print.specs.Text.{escaped}
+use Rattle.mini_print.proofs.Escapes.{unescaped, unescaped_back, escapes_again}
+use Rattle.mini_print.proofs.Reader.{prefix, statement_at, infix_rule, binding, is_sequence, is_left_paren, Neither, bracket, label_or_expression, statement_start, import_at, start}
 
 -- what stands behind a part of this level is no operator that binds tighter: those of its own level
 -- may group to the left
@@ -89,6 +91,8 @@ is_special ForIn = true
 is_special ForOf = true
 is_special ForDeclaredIn = true
 is_special ForDeclaredOf = true
+is_special ForPatternIn = true
+is_special ForPatternOf = true
 is_special KeyValue = true
 is_special BoundKeyValue = true
 is_special (Shorthand s) = true
@@ -120,6 +124,23 @@ is_special ValueRest = true
 is_special TargetKeyValue = true
 is_special (TargetShorthand s) = true
 is_special (TargetDefault s) = true
+is_special (ImportDefault s) = true
+is_special (ImportDefaultNames s) = true
+is_special (ImportDefaultNamespace s) = true
+is_special ExportNames = true
+is_special ExportFrom = true
+is_special ExportDeclared = true
+is_special ExportValue = true
+is_special ExportDefault = true
+is_special (ImportShort s) = true
+is_special ImportAs = true
+is_special (ExportShort s) = true
+is_special (ForwardName s) = true
+is_special (ForwardText s) = true
+is_special ForwardAs = true
+is_special DeclaredFunction = true
+is_special DefaultFunction = true
+is_special DefaultClass = true
 is_special _ = false
 
 -- the productions that are alike with another up to a fork
@@ -173,7 +194,10 @@ no_word false x y e = refl
 
 pub told_expression : (ts : List Token) → permits NoStatement ts ≡ true → statement_at ts ≡ Some ExpressionStatement
 told_expression [] e = refl
-told_expression (x ∷ ts) e = let a = both (not (begins_statement x)) (not (begins_label x ts)) e in no_word (begins_statement x) _ _ a.0 ∙ ap Some (unlabelled x ts a.1)
+told_expression (x ∷ ts) e =
+    let a = both (not (begins_statement x)) (not (begins_import x ts) && not (begins_label x ts)) e in
+    let b = both (not (begins_import x ts)) (not (begins_label x ts)) a.1 in
+    no_word (begins_statement x) _ _ a.0 ∙ no_word (begins_import x ts) _ _ b.0 ∙ ap Some (unlabelled x ts b.1)
   where
     unlabelled : (x : Token) (ts : List Token) → not (begins_label x ts) ≡ true → label_or_expression x ts ≡ ExpressionStatement
     unlabelled (Word s) ts e = ap (λ b. if b then Label s else ExpressionStatement) (untrue (not (is_reserved s) && is_colon_next ts) e)
@@ -181,7 +205,8 @@ told_expression (x ∷ ts) e = let a = both (not (begins_statement x)) (not (beg
 
 pub told_label : (s : List ℕ) → is_of Statements (Label s) ≡ true → (ts : List Token) → statement_at (Word s ∷ Punct Colon ∷ ts) ≡ Some (Label s)
 told_label s e ts =
-    ap (λ b. if b then statement_start (Word s) (Punct Colon ∷ ts) else Some (label_or_expression (Word s) (Punct Colon ∷ ts))) (unreserved_is_not statement_words s refl (untrue (is_reserved s) e)) ∙
+    ap (λ b. if b then statement_start (Word s) (Punct Colon ∷ ts) else (if begins_import (Word s) (Punct Colon ∷ ts) then import_at (Punct Colon ∷ ts) else Some (label_or_expression (Word s) (Punct Colon ∷ ts)))) (unreserved_is_not statement_words s refl (untrue (is_reserved s) e)) ∙
+    ap (λ b. if b && true then import_at (Punct Colon ∷ ts) else Some (label_or_expression (Word s) (Punct Colon ∷ ts))) (unreserved_is_not (codes "import" ∷ []) s refl (untrue (is_reserved s) e)) ∙
     ap (λ b. Some (if b && true then Label s else ExpressionStatement)) e
 
 -- what is checked of a binary operator: by its token, how tightly it holds its operands, and that
@@ -214,11 +239,14 @@ abbrev pub ToldUnless : Bool → Sort → Rule → List Part → Type 0
 ToldUnless true s h ps = Unit {0}
 ToldUnless false s h ps = Told s h ps
 
+text_start : (s : List ℕ) → start (Quoted (escaped s)) ≡ Some (TextLiteral s)
+text_start s = ap (λ b. if b then Some (TextLiteral (unescaped (escaped s))) else None) (escapes_again s) ∙ ap (λ y. Some (TextLiteral y)) (unescaped_back s)
+
 pub told_value : (h : Rule) → is_of Values h ≡ true → ToldUnless (is_special h) Values h (form h)
 told_value (Reference s) e = λ ts. no_word (is_reserved s) _ _ e
 told_value (NumberLiteral n) e = λ ts. refl
 told_value (BigIntLiteral n) e = λ ts. refl
-told_value (TextLiteral s) e = λ ts. refl
+told_value (TextLiteral s) e = λ ts. text_start s
 told_value (RegExpLiteral p f) e = λ ts. refl
 told_value Null e = λ ts. refl
 told_value This e = λ ts. refl
@@ -288,6 +316,8 @@ told_statement ForIn e = tt
 told_statement ForOf e = tt
 told_statement ForDeclaredIn e = tt
 told_statement ForDeclaredOf e = tt
+told_statement ForPatternIn e = tt
+told_statement ForPatternOf e = tt
 told_statement Return e = λ ts. refl
 told_statement Throw e = λ ts. refl
 told_statement Debugger e = λ ts. refl
@@ -300,6 +330,18 @@ told_statement Try e = λ ts. refl
 told_statement (ClassDeclared s) e = λ ts. refl
 told_statement (Label s) e = told_label s e
 told_statement ExpressionStatement e = told_expression
+told_statement (ImportBare s) e = λ ts. ap (λ y. Some (ImportBare y)) (unescaped_back s)
+told_statement ImportNames e = λ ts. refl
+told_statement ImportNamespace e = λ ts. refl
+told_statement (ImportDefault s) e = tt
+told_statement (ImportDefaultNames s) e = tt
+told_statement (ImportDefaultNamespace s) e = tt
+told_statement ExportNames e = tt
+told_statement ExportFrom e = tt
+told_statement ExportAll e = λ ts. refl
+told_statement ExportDeclared e = tt
+told_statement ExportValue e = tt
+told_statement ExportDefault e = tt
 told_statement _ e = absurd (false≢true e)
 
 pub flag_is : (b d : Bool) → same_flag b d ≡ true → b ≡ d
@@ -350,7 +392,7 @@ told Catches _ e = absurd (false≢true e)
 told BlockParts BlockPart e = λ ts. refl
 told BlockParts _ e = absurd (false≢true e)
 told KeyNames (KeyWord s) e = λ ts. refl
-told KeyNames (KeyText s) e = λ ts. refl
+told KeyNames (KeyText s) e = λ ts. ap (λ y. Some (KeyText y)) (unescaped_back s)
 told KeyNames (KeyNumber n) e = λ ts. refl
 told KeyNames (PrivateKey s) e = λ ts. refl
 told KeyNames _ e = absurd (false≢true e)
@@ -421,3 +463,25 @@ told BoundElements Rest e = λ ts. refl
 told BoundElements _ e = absurd (false≢true e)
 told (DefaultsOf b s) (NamedDefault d t) e = λ ts. ap (λ y. Some y) (default_is b d s t (both (same_flag b d && same_text s t) true e).0)
 told (DefaultsOf b s) _ e = absurd (false≢true e)
+told Declarations (DeclaredVariables Var) e = λ ts. refl
+told Declarations (DeclaredVariables Let) e = λ ts. refl
+told Declarations (DeclaredVariables Const) e = λ ts. refl
+told Declarations DeclaredFunction e = tt
+told Declarations DeclaredGenerator e = λ ts. refl
+told Declarations (DeclaredClass s) e = λ ts. refl
+told Declarations _ e = absurd (false≢true e)
+told DefaultDeclarations DefaultFunction e = tt
+told DefaultDeclarations DefaultGenerator e = λ ts. refl
+told DefaultDeclarations DefaultClass e = tt
+told DefaultDeclarations (DefaultClassNamed s) e = λ ts. ap (λ b. Some (if b then DefaultClass else DefaultClassNamed s)) (untrue (is_reserved s) e)
+told DefaultDeclarations _ e = absurd (false≢true e)
+told ImportItems (ImportShort s) e = tt
+told ImportItems ImportAs e = tt
+told ImportItems _ e = absurd (false≢true e)
+told ExportItems (ExportShort s) e = tt
+told ExportItems (ExportAs s) e = λ ts. refl
+told ExportItems _ e = absurd (false≢true e)
+told ForwardItems (ForwardName s) e = tt
+told ForwardItems (ForwardText s) e = tt
+told ForwardItems ForwardAs e = tt
+told ForwardItems _ e = absurd (false≢true e)

@@ -1,6 +1,6 @@
 -- The nodes that have no text, and what keeps them from it: a name that is a reserved word, a text
 -- that can't be written as it is, or parts that stand together in no text.
-use Rattle.std.specs.Prelude.{ℕ, ◌+◌, ◌≡◌, refl, nat_eq, Bool, true, false, ◌&&◌, ◌||◌, not, List, [], ◌∷◌, ◌++◌, map, codes, Option, Some, None, if◌then◌else◌}
+use Rattle.std.specs.Prelude.{ℕ, ◌+◌, ◌≡◌, refl, Bool, true, false, ◌&&◌, ◌||◌, not, List, [], ◌∷◌, ◌++◌, map, codes, Option, Some, None, if◌then◌else◌}
 use Rattle.mini_model.specs.declared.name.Name.{Name}
 use Rattle.mini_model.specs.declared.kind.MethodDefinitionKind.{MethodDefinitionKind}
 use Rattle.mini_model.specs.declared.kind.MethodDefinitionKind.TheVariants as method
@@ -12,7 +12,7 @@ use Rattle.mini_model.specs.declared.shape.Shape.TheVariants as shape
 use Rattle.mini_model.specs.Tree.{Tree, Trees, node, none, ◌▸◌, leaf, listed, identifier, unresolved, expression_statement}
 use Rattle.mini_model.specs.Paths.{Path, child_at, standing, by_standing, width}
 use Rattle.mini_print.specs.Grammar.{is_reserved}
-use Rattle.mini_print.specs.Text.{is_pattern, are_letters, has_no_line_end}
+pub use Rattle.mini_print.specs.Text.{is_pattern, are_letters, has_no_line_end, starts_with, is_raw, holds_bare, ends_escaped}
 
 pub data Cause : Type 0 where
   -- an identifier that reads, writes, binds or labels is named by a reserved word
@@ -23,30 +23,6 @@ pub data Cause : Type 0 where
   BadText : Cause
 
 -- ---- texts that are written as they are
-
-abbrev pub starts_with : ℕ → List ℕ → Bool
-starts_with k [] = false
-starts_with k (c ∷ s) = nat_eq c k
-
--- the raw text of a template's piece, behind a backslash or not (12.9.6): no carriage return, and
--- no backtick or `${` but behind a backslash, which escapes something
-abbrev pub is_raw : Bool → List ℕ → Bool
-is_raw false [] = true
-is_raw true [] = false
-is_raw true (c ∷ s) = not (nat_eq c 13) && is_raw false s
-is_raw false (c ∷ s) = not (nat_eq c 13) && (not (nat_eq c 96) && (not (nat_eq c 36 && starts_with 123 s) && is_raw (nat_eq c 92) s))
-
--- whether a unit stands in a text with no backslash before it
-abbrev pub holds_bare : ℕ → Bool → List ℕ → Bool
-holds_bare k e [] = false
-holds_bare k true (c ∷ s) = holds_bare k false s
-holds_bare k false (c ∷ s) = nat_eq c k || holds_bare k (nat_eq c 92) s
-
--- whether a backslash ends a text that no other one escapes
-abbrev pub ends_escaped : Bool → List ℕ → Bool
-ends_escaped e [] = e
-ends_escaped true (c ∷ s) = ends_escaped false s
-ends_escaped false (c ∷ s) = ends_escaped (nat_eq c 92) s
 
 -- a directive stands in double quotes or in single ones, so it holds one of them at most
 abbrev pub is_directive : List ℕ → Bool

@@ -1,0 +1,15 @@
+use Rattle.std.proofs.Common.{subst, []}
+use Rattle.mini_print.specs.Printed.{printed_program, bare_program, is_module_of}
+use Rattle.mini_print.specs.Groups.{GroupsProgram}
+use Rattle.mini_print.specs.Compact.{compact_text_of}
+use Rattle.mini_print.proofs.Compact.{compact_alone, compact_splits}
+use Rattle.mini_print.proofs.Complete.{program_alone}
+use Rattle.mini_print.proofs.Grouped.{program_grouped}
+use Rattle.mini_print.proofs.Nests.{program_stands, lexical_within}
+use Rattle.mini_print.proofs.compact_program_text_is_of_one_tree.Goals as goal
+
+pub returns : goal.returns
+returns c t u ts e l s g =
+    program_alone (is_module_of t) u (bare_program t) (printed_program t)
+    (subst (λ vs. GroupsProgram (is_module_of t) u vs) (compact_alone (compact_text_of (printed_program t)) ts (printed_program t) s (compact_splits (printed_program t) (lexical_within [] (printed_program t) l (program_stands (is_module_of t) (bare_program t) (printed_program t) (program_grouped t e))))) g)
+    (program_grouped t e)
