@@ -1,0 +1,22 @@
+// Why a program isn't printed.
+
+use mini_model::{Numbers, OutOfMemory};
+
+/// Why a program isn't printed.
+#[derive(Drop)]
+pub enum PrintError {
+    /// No memory was left.
+    OutOfMemory,
+    /// The name at the path is a reserved word.
+    Reserved { at: Numbers },
+    /// The text at the path can't stand in a program, or no text has the parts of the node there.
+    BadText { at: Numbers },
+    /// A node isn't printed.
+    Unprintable,
+}
+
+impl From<OutOfMemory> for PrintError {
+    fn from(_gone: OutOfMemory) -> PrintError {
+        PrintError::OutOfMemory
+    }
+}
