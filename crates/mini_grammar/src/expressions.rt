@@ -190,10 +190,7 @@ pub const THROW: [Piece; 3] = [
     Piece::Semicolon,
 ];
 
-pub const DEBUGGER: [Piece; 2] = [
-    Piece::Word(Keyword::Debugger),
-    Piece::Semicolon,
-];
+pub const DEBUGGER: [Piece; 2] = [Piece::Word(Keyword::Debugger), Piece::Semicolon];
 
 pub const BREAK: [Piece; 3] = [
     Piece::Word(Keyword::Break),
