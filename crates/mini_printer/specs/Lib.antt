@@ -1,3 +1,6 @@
 pub mod Faults
+pub mod Nexts
 pub mod Spelling
+pub mod Standing
+pub mod Texts
 pub mod There
