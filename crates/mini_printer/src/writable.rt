@@ -257,7 +257,8 @@ fn holds_bare(sought: u16, units: &[u16]) -> bool
     false
 }
 
-fn is_directive(units: &[u16]) -> bool
+/// Whether a text can be written as a directive: in double quotes or in single ones.
+pub fn is_directive(units: &[u16]) -> bool
     ensures { result ≡ unprintable.is_directive units.now }
 {
     has_no_line_end(units)
