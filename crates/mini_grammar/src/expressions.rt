@@ -123,7 +123,7 @@ pub const BLOCK: [Piece; 3] = [
 pub const VARIABLES: [Piece; 3] = [
     Piece::Own,
     Piece::Commas(Some(Goal::Declared), Least::One),
-    Piece::Mark(Punct::Semicolon),
+    Piece::Semicolon,
 ];
 
 pub const DECLARATOR: [Piece; 2] = [
@@ -135,7 +135,7 @@ pub const EMPTY: [Piece; 1] = [Piece::Mark(Punct::Semicolon)];
 
 pub const EXPRESSION_STATEMENT: [Piece; 2] = [
     Piece::Restricted(Lookahead::NoStatement, Some(Goal::Anything), 0),
-    Piece::Mark(Punct::Semicolon),
+    Piece::Semicolon,
 ];
 
 pub const IF: [Piece; 6] = [
@@ -154,7 +154,7 @@ pub const DO_WHILE: [Piece; 7] = [
     Piece::Mark(Punct::LeftParen),
     Piece::Part(Some(Goal::Anything), 0),
     Piece::Mark(Punct::RightParen),
-    Piece::Mark(Punct::Semicolon),
+    Piece::Semicolon,
 ];
 
 pub const WHILE: [Piece; 5] = [
@@ -181,30 +181,27 @@ pub const FOR: [Piece; 10] = [
 pub const RETURN: [Piece; 3] = [
     Piece::Word(Keyword::Return),
     Piece::Perhaps(Goal::Anything),
-    Piece::Mark(Punct::Semicolon),
+    Piece::Semicolon,
 ];
 
 pub const THROW: [Piece; 3] = [
     Piece::Word(Keyword::Throw),
     Piece::Part(Some(Goal::Anything), 0),
-    Piece::Mark(Punct::Semicolon),
+    Piece::Semicolon,
 ];
 
-pub const DEBUGGER: [Piece; 2] = [
-    Piece::Word(Keyword::Debugger),
-    Piece::Mark(Punct::Semicolon),
-];
+pub const DEBUGGER: [Piece; 2] = [Piece::Word(Keyword::Debugger), Piece::Semicolon];
 
 pub const BREAK: [Piece; 3] = [
     Piece::Word(Keyword::Break),
     Piece::Perhaps(Goal::LabelName),
-    Piece::Mark(Punct::Semicolon),
+    Piece::Semicolon,
 ];
 
 pub const CONTINUE: [Piece; 3] = [
     Piece::Word(Keyword::Continue),
     Piece::Perhaps(Goal::LabelName),
-    Piece::Mark(Punct::Semicolon),
+    Piece::Semicolon,
 ];
 
 pub const FUNCTION_EXPRESSION: [Piece; 6] = [
@@ -591,4 +588,4 @@ pub const TARGET_COMPUTED: [Piece; 5] = [
     Piece::Part(Some(Goal::TargetElement), 0),
 ];
 
-pub const DIRECTIVE: [Piece; 2] = [Piece::Own, Piece::Mark(Punct::Semicolon)];
+pub const DIRECTIVE: [Piece; 2] = [Piece::Own, Piece::Semicolon];

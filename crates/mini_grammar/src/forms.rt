@@ -198,7 +198,7 @@ const CLASS_COMPUTED_SETTER: [Piece; 5] = [
 const FIELD: [Piece; 3] = [
     Piece::Part(Some(Goal::ClassKey), 0),
     Piece::Option(Opener::Equals, Some(Goal::Anything), 1),
-    Piece::Mark(Punct::Semicolon),
+    Piece::Semicolon,
 ];
 
 const COMPUTED_FIELD: [Piece; 5] = [
@@ -206,7 +206,7 @@ const COMPUTED_FIELD: [Piece; 5] = [
     Piece::Part(Some(Goal::Anything), 1),
     Piece::Mark(Punct::RightBracket),
     Piece::Option(Opener::Equals, Some(Goal::Anything), 1),
-    Piece::Mark(Punct::Semicolon),
+    Piece::Semicolon,
 ];
 
 const STATIC_ELEMENT: [Piece; 2] = [
@@ -310,7 +310,7 @@ const IMPORT_BARE: [Piece; 7] = [
     Piece::Silent(Silent::Nothing),
     Piece::Silent(Silent::NoItems),
     Piece::Silent(Silent::Text),
-    Piece::Mark(Punct::Semicolon),
+    Piece::Semicolon,
 ];
 
 const IMPORT_NAMES: [Piece; 9] = [
@@ -322,7 +322,7 @@ const IMPORT_NAMES: [Piece; 9] = [
     Piece::Mark(Punct::RightBrace),
     Piece::Word(Keyword::From),
     Piece::Part(Some(Goal::SourceText), 0),
-    Piece::Mark(Punct::Semicolon),
+    Piece::Semicolon,
 ];
 
 const IMPORT_NAMESPACE: [Piece; 9] = [
@@ -334,7 +334,7 @@ const IMPORT_NAMESPACE: [Piece; 9] = [
     Piece::Silent(Silent::NoItems),
     Piece::Word(Keyword::From),
     Piece::Part(Some(Goal::SourceText), 0),
-    Piece::Mark(Punct::Semicolon),
+    Piece::Semicolon,
 ];
 
 const IMPORT_DEFAULT: [Piece; 8] = [
@@ -345,7 +345,7 @@ const IMPORT_DEFAULT: [Piece; 8] = [
     Piece::Silent(Silent::NoItems),
     Piece::Word(Keyword::From),
     Piece::Part(Some(Goal::SourceText), 0),
-    Piece::Mark(Punct::Semicolon),
+    Piece::Semicolon,
 ];
 
 const IMPORT_DEFAULT_NAMES: [Piece; 11] = [
@@ -359,7 +359,7 @@ const IMPORT_DEFAULT_NAMES: [Piece; 11] = [
     Piece::Mark(Punct::RightBrace),
     Piece::Word(Keyword::From),
     Piece::Part(Some(Goal::SourceText), 0),
-    Piece::Mark(Punct::Semicolon),
+    Piece::Semicolon,
 ];
 
 const IMPORT_DEFAULT_NAMESPACE: [Piece; 11] = [
@@ -373,7 +373,7 @@ const IMPORT_DEFAULT_NAMESPACE: [Piece; 11] = [
     Piece::Silent(Silent::NoItems),
     Piece::Word(Keyword::From),
     Piece::Part(Some(Goal::SourceText), 0),
-    Piece::Mark(Punct::Semicolon),
+    Piece::Semicolon,
 ];
 
 const IMPORT_AS: [Piece; 3] = [
@@ -389,7 +389,7 @@ const EXPORT_NAMES: [Piece; 7] = [
     Piece::Commas(Some(Goal::ExportItem), Least::Zero),
     Piece::Mark(Punct::RightBrace),
     Piece::Silent(Silent::Nothing),
-    Piece::Mark(Punct::Semicolon),
+    Piece::Semicolon,
 ];
 
 const EXPORT_FROM: [Piece; 8] = [
@@ -400,7 +400,7 @@ const EXPORT_FROM: [Piece; 8] = [
     Piece::Mark(Punct::RightBrace),
     Piece::Word(Keyword::From),
     Piece::Part(Some(Goal::SourceText), 0),
-    Piece::Mark(Punct::Semicolon),
+    Piece::Semicolon,
 ];
 
 const EXPORT_ALL: [Piece; 6] = [
@@ -409,7 +409,7 @@ const EXPORT_ALL: [Piece; 6] = [
     Piece::Option(Opener::As, Some(Goal::ModuleName), 0),
     Piece::Word(Keyword::From),
     Piece::Part(Some(Goal::SourceText), 0),
-    Piece::Mark(Punct::Semicolon),
+    Piece::Semicolon,
 ];
 
 const EXPORT_DECLARED: [Piece; 4] = [
@@ -423,7 +423,7 @@ const EXPORT_VALUE: [Piece; 4] = [
     Piece::Word(Keyword::Export),
     Piece::Word(Keyword::Default),
     Piece::Restricted(Lookahead::NoDeclaration, Some(Goal::Anything), 1),
-    Piece::Mark(Punct::Semicolon),
+    Piece::Semicolon,
 ];
 
 const EXPORT_DEFAULT: [Piece; 3] = [

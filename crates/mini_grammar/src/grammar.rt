@@ -385,6 +385,8 @@ pub enum Piece {
     Silent(Silent),
     /// Nothing.
     Fork,
+    /// The `;` that ends a statement or a field: it stands there, or it is inserted.
+    Semicolon,
     /// Nothing, at the end of the production.
     End(Ending),
 }
