@@ -4,3 +4,4 @@ pub mod Spelling
 pub mod Standing
 pub mod Texts
 pub mod There
+pub mod Wants

@@ -1,6 +1,7 @@
 //! The JavaScript text of a program: its tokens, their text, and what has none.
 #![tactic(auto)]
 
+mod allowed;
 mod asks;
 mod compact;
 mod defects;
@@ -13,6 +14,7 @@ mod places;
 mod printable;
 mod program;
 mod quotes;
+mod sound;
 mod standing;
 mod style;
 mod text;
