@@ -4,8 +4,10 @@
 mod defects;
 mod error;
 mod laws;
+mod order;
 mod writable;
 
 pub use defects::{Cause, Fault, first_fault, refuse_defects};
 pub use error::PrintError;
 pub use laws::faults_are_there;
+pub use order::{directives, show_all, shown};
