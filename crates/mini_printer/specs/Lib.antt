@@ -1,5 +1,6 @@
 pub mod Faults
 pub mod Nexts
+pub mod Ordered
 pub mod Spelling
 pub mod Standing
 pub mod Texts
