@@ -1,0 +1,9 @@
+pub mod Clean
+pub mod Seats
+pub mod Rows
+pub mod Values
+pub mod Leaves
+pub mod Targets
+pub mod Members
+pub mod Statements
+pub mod Served
