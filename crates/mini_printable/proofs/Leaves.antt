@@ -1,6 +1,6 @@
 -- The tables of names, keys, patterns that are bound and what takes values as expressions do.
-use Rattle.std.proofs.Common.{◌≡◌, ℕ, suc, Bool, true, false, ◌&&◌, ◌||◌, not, List, [], ◌∷◌, refl, sym, ap, subst, ◌∙◌, ◌⊎◌, inl, inr}
-use Rattle.std.specs.Prelude.{Option, Some, None, pos, negsuc, nat_le, nat_eq, codes}
+use Rattle.std.proofs.Common.{◌≡◌, ℕ, Bool, true, false, ◌&&◌, ◌||◌, not, List, [], ◌∷◌, refl, sym, ap, subst, ◌⊎◌, inl, inr}
+use Rattle.std.specs.Prelude.{Option, Some, None, pos}
 use Rattle.std.proofs.lemmas.Bool.{false≢true}
 use Rattle.mini_model.specs.declared.name.Name.{Name}
 use Rattle.mini_model.specs.declared.shape.Shape.{Shape}
@@ -9,13 +9,13 @@ use Rattle.mini_model.specs.Tree.{Tree, Trees, node, none, ◌▸◌, shape_of, 
 use Rattle.mini_model.specs.Weight.{same_text}
 use Rattle.mini_accept.specs.WellShaped as accept
 use Rattle.mini_accept.specs.WellShaped.{Class, Slot, one, one_or_absent, many, an_expression, an_inner, an_argument, an_inner_argument, a_key, an_inner_key, a_private_or_key, a_label, a_private_name, a_super, a_word, a_binding, a_pattern, a_pattern_element, a_pattern_property, a_pattern_rest, a_parameter, a_class_body, a_declarator, a_string, a_module_name, these, slots_of, filling_by, is_whole, has_names, fits}
-use Rattle.mini_print.specs.Grammar.{Goal, Anything, Element, AfterDot, KeyName, ClassKey, LabelName, Binding, Bound, BoundElement, BoundProperty, Parameter, ClassBraces, Declared, HeadDeclared, SourceText, ModuleName, DefaultOf, Rule, Spread, SpreadItem, SuperHere, NameOf, BindingOf, Nothing, Zero, is_reserved, form}
+use Rattle.mini_print.specs.Grammar.{Goal, Anything, Element, AfterDot, KeyName, ClassKey, LabelName, Binding, Bound, BoundElement, BoundProperty, Parameter, ClassBraces, Declared, HeadDeclared, SourceText, ModuleName, DefaultOf, Rule, Spread, SpreadItem, SuperHere, NameOf, BindingOf, is_reserved, form}
 use Rattle.mini_print.specs.Printed as printed
 use Rattle.mini_print.specs.Printed.{Want, a_part, a_list, a_perhaps, a_silent, turned, turned_of, rule_at, rule_in, wants, wants_of, is_wanted, is_sound, is_printable, shown, all_shown, seen, stands, taker, ABinding, element_of, rest_of, has_default_shape, second_is_absent, bound_of, first_spelling}
-use Rattle.mini_printable.proofs.Clean.{and_l, and_r, both, is_clean, are_clean, Clean, clean_node}
-use Rattle.mini_printable.proofs.Seats.{Seat, value, inner, inner_computed_key, inner_key, pattern, bound_element, value_or_none, bound_properties, bound_elements, members, slot_at, want_at, Named, Served, Below, parts, over_one, over_two}
-use Rattle.mini_printable.proofs.Rows.{never, and_one, and_two, either, untrue, same_self, stands_at, part_of, core_of, value_stands, perhaps_of, perhaps_cases, stands_present, Row, by_row, leaf}
-use Rattle.mini_printable.proofs.Values.{value_row, wanted_name}
+use Rattle.mini_printable.proofs.Clean.{and_r, both, is_clean, are_clean, clean_node}
+use Rattle.mini_printable.proofs.Seats.{value, inner, inner_computed_key, inner_key, pattern, bound_element, value_or_none, bound_properties, bound_elements, members, Served, Below, parts, over_one, over_two}
+use Rattle.mini_printable.proofs.Rows.{never, and_one, and_two, same_self, stands_at, part_of, core_of, value_stands, perhaps_of, stands_present, Row, by_row, leaf}
+use Rattle.mini_printable.proofs.Values.{value_row}
 
 -- ---- names, keys, texts
 

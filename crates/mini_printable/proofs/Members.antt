@@ -1,7 +1,7 @@
 -- The tables of properties, methods and what classes have.
-use Rattle.std.proofs.Common.{◌≡◌, ℕ, suc, Bool, true, false, ◌&&◌, ◌||◌, not, List, [], ◌∷◌, refl, sym, ap, subst, ◌∙◌, ◌⊎◌, inl, inr}
-use Rattle.std.specs.Prelude.{Option, Some, None, pos, negsuc, nat_eq, codes}
-use Rattle.std.proofs.lemmas.Bool.{false≢true, eqb-true}
+use Rattle.std.proofs.Common.{◌≡◌, ℕ, Bool, true, false, ◌&&◌, ◌||◌, not, List, [], ◌∷◌, refl, sym, ap, subst, ◌∙◌}
+use Rattle.std.specs.Prelude.{Some, pos}
+use Rattle.std.proofs.lemmas.Bool.{false≢true}
 use Rattle.mini_model.specs.declared.name.Name.{Name}
 use Rattle.mini_model.specs.declared.kind.PropertyKind.TheVariants as kind
 use Rattle.mini_model.specs.declared.kind.MethodDefinitionKind.{MethodDefinitionKind}
@@ -12,13 +12,13 @@ use Rattle.mini_model.specs.Tree.{Tree, Trees, node, none, ◌▸◌, shape_of, 
 use Rattle.mini_model.specs.Weight.{same_text}
 use Rattle.mini_accept.specs.WellShaped as accept
 use Rattle.mini_accept.specs.WellShaped.{Class, Slot, one, one_or_absent, many, many_and_rest, an_expression, an_inner, a_key, a_private_or_key, an_object_property, a_class_member, a_method, a_binding, a_parameter, a_pattern_rest, a_function_body, these, slots_of, filling_by, is_whole, has_names, names_constructor, fits}
-use Rattle.mini_print.specs.Grammar.{Goal, Anything, KeyName, ClassKey, Property, ClassElement, PlainElement, MethodValue, GeneratorValue, Parameter, Body, Binding, Rule, Nothing, NameOf, ReferenceOf, Zero, is_reserved, form, constructor_shape, first_shape}
+use Rattle.mini_print.specs.Grammar.{Goal, Anything, KeyName, ClassKey, Property, ClassElement, PlainElement, MethodValue, GeneratorValue, Parameter, Body, Binding, Rule, Nothing, Zero, is_reserved, form, constructor_shape, first_shape}
 use Rattle.mini_print.specs.Unprintable.{has_text, generates}
 use Rattle.mini_print.specs.Printed as printed
 use Rattle.mini_print.specs.Printed.{Want, a_part, a_list, a_perhaps, a_silent, turned, wants, is_wanted, is_sound, is_printable, shown, all_shown, seen, with_directives, second_generates, method_of, computed_method_of, class_method_of, class_computed_of, plain_kind}
-use Rattle.mini_printable.proofs.Clean.{and_l, and_r, both, is_clean, are_clean, Clean, clean_node}
-use Rattle.mini_printable.proofs.Seats.{Seat, value, inner_or_none, computed_key, key, private_key, private_computed_key, top_block, binding_or_none, parameters, slot_at, want_at, method_goal, MethodOf, Served, Below, parts, over_two, over_three}
-use Rattle.mini_printable.proofs.Rows.{never, and_one, and_two, and_three, either, untrue, same_self, stands_at, part_of, absent_shown, Row, filled, whole_parts}
+use Rattle.mini_printable.proofs.Clean.{both, is_clean, clean_node}
+use Rattle.mini_printable.proofs.Seats.{value, inner_or_none, computed_key, key, private_key, private_computed_key, top_block, binding_or_none, parameters, method_goal, MethodOf, Served, Below, parts, over_two, over_three}
+use Rattle.mini_printable.proofs.Rows.{never, and_one, and_two, and_three, untrue, same_self, stands_at, part_of, absent_shown, Row, filled, whole_parts}
 use Rattle.mini_printable.proofs.Targets.{same_is}
 
 -- ---- a method's value

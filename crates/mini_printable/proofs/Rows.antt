@@ -1,21 +1,20 @@
 -- What the tables have in common: a row for each class of what stands in a slot, with its goal.
-use Rattle.std.proofs.Common.{◌≡◌, ℕ, suc, Bool, true, false, ◌&&◌, ◌||◌, not, List, [], ◌∷◌, refl, sym, ap, subst, ◌∙◌, ◌⊎◌, inl, inr}
-use Rattle.std.specs.Prelude.{Option, Some, None, nat_le, nat_eq, codes}
+use Rattle.std.proofs.Common.{◌≡◌, ℕ, suc, Bool, true, false, ◌&&◌, ◌||◌, not, List, [], ◌∷◌, refl, sym, ap, ◌∙◌, ◌⊎◌, inl, inr}
+use Rattle.std.specs.Prelude.{Some, nat_le, nat_eq}
 use Rattle.std.proofs.lemmas.Bool.{false≢true, eq-eqb}
 use Rattle.mini_model.specs.declared.name.Name.{Name}
 use Rattle.mini_model.specs.declared.shape.Shape.{Shape}
 use Rattle.mini_model.specs.declared.shape.Shape.TheVariants as shape
 use Rattle.mini_model.specs.Tree.{Tree, Trees, node, none, ◌▸◌, count, children, child_or_absent, shape_of, is_absent}
-use Rattle.mini_model.specs.Paths.{Node, standing}
 use Rattle.mini_model.specs.Weight.{same_text}
 use Rattle.mini_accept.specs.WellShaped as accept
 use Rattle.mini_accept.specs.WellShaped.{Class, Slot, one, one_or_absent, many, many_or_holes, many_and_rest, many_or_holes_and_rest, an_inner, a_binding, a_label, a_private_name, these, each, each_or_last, slots_of, filling, filling_by, is_whole, has_names, is_strict_in, fits}
-use Rattle.mini_print.specs.Grammar.{Goal, Anything, Element, Binding, Least, Zero, One, Two, Gaps, Nothing, Rule, Reference, BindingName, NameOf, BindingOf, is_reserved, has_private}
+use Rattle.mini_print.specs.Grammar.{Goal, Anything, Least, Zero, One, Two, Gaps, Nothing, is_reserved, has_private}
 use Rattle.mini_print.specs.Groups.{has_gaps}
 use Rattle.mini_print.specs.Printed as printed
 use Rattle.mini_print.specs.Printed.{Want, a_part, a_list, a_perhaps, a_block as a_run, a_silent, rule_in, wants_of, is_wanted, is_sound, is_printable, are_printable, is_gap, is_nothing, has_enough, has_core, takes_values, core, shown, all_shown, seen, stands, is_positive_literal, has_optional, is_optional, is_link}
-use Rattle.mini_printable.proofs.Clean.{and_l, and_r, both, is_clean, are_clean, Clean, clean_node}
-use Rattle.mini_printable.proofs.Seats.{Served, Below}
+use Rattle.mini_printable.proofs.Clean.{and_l, and_r, both, is_clean, are_clean, clean_node}
+use Rattle.mini_printable.proofs.Seats.{Below}
 
 -- ---- tests
 

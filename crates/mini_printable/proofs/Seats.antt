@@ -1,17 +1,14 @@
 -- What stands where: a slot of ESTree, and the part of a production that is in it.
-use Rattle.std.proofs.Common.{◌≡◌, ℕ, Bool, true, false, ◌&&◌, ◌||◌, not, List, [], ◌∷◌, refl, sym, ap, subst, ◌∙◌, ◌⊎◌, inl, inr}
-use Rattle.std.specs.Prelude.{Option, Some, None}
+use Rattle.std.proofs.Common.{◌≡◌, ℕ, Bool, true, false, ◌&&◌, ◌||◌, List, [], ◌∷◌, refl, ◌⊎◌}
+use Rattle.std.specs.Prelude.{Some}
 use Rattle.std.proofs.lemmas.Bool.{false≢true}
-use Rattle.mini_model.specs.declared.name.Name.{Name}
-use Rattle.mini_model.specs.declared.shape.Shape.{Shape}
-use Rattle.mini_model.specs.declared.shape.Shape.TheVariants as shape
-use Rattle.mini_model.specs.Tree.{Tree, Trees, node, none, ◌▸◌, shape_of, is_absent}
+use Rattle.mini_model.specs.Tree.{Tree, Trees, none, ◌▸◌, shape_of, is_absent}
 use Rattle.mini_accept.specs.WellShaped as accept
-use Rattle.mini_accept.specs.WellShaped.{Class, Slot, nested, in_body, in_module, one, one_or_absent, many, many_or_holes, many_and_rest, many_or_holes_and_rest, an_expression, an_inner, an_argument, an_inner_argument, a_statement, a_key, an_inner_key, a_private_or_key, a_simple_target, a_target, a_label, a_private_name, a_super, a_word, an_object_property, a_declarator, a_case, a_catch, a_block, a_pattern, a_pattern_element, a_pattern_property, a_pattern_rest, a_parameter, a_binding, a_class_body, a_class_member, a_method, a_function_body, an_element_target, a_member_target, a_target_element, a_target_property, a_target_rest, a_named_target, a_loop_left, an_init, a_link, a_chain, a_string, a_module_name, a_tagged_template, these, each, each_or_last, slots_of, filling, filling_by, is_whole, has_names, is_strict_in, fits}
-use Rattle.mini_print.specs.Grammar.{Goal, Anything, Statement, Element, AfterDot, KeyName, ClassKey, Property, Declared, HeadDeclared, HeadDeclaration, Bound, BoundElement, BoundProperty, Parameter, Binding, LabelName, BlockOnly, Catching, CaseItem, ClassBraces, ClassElement, MethodValue, GeneratorValue, Body, TargetPattern, TargetElement, TargetProperty, DefaultOf, ModuleItem, SourceText, ModuleName, TagTemplate, Link, FirstLink, Least, Zero, One, Two, Gaps, SuperHere, NameOf, named, is_reserved}
-use Rattle.mini_print.specs.Unprintable.{is_directive, are_directives, are_plain_rests, is_pattern_rest, items_of, generates}
+use Rattle.mini_accept.specs.WellShaped.{Class, Slot, nested, in_body, in_module, one, one_or_absent, many, many_or_holes, many_and_rest, many_or_holes_and_rest, an_expression, an_inner, an_argument, an_inner_argument, a_statement, a_key, an_inner_key, a_private_or_key, a_simple_target, a_target, a_label, a_private_name, a_super, a_word, an_object_property, a_declarator, a_case, a_catch, a_block, a_pattern, a_pattern_element, a_pattern_property, a_pattern_rest, a_parameter, a_binding, a_class_body, a_class_member, a_method, a_function_body, an_element_target, a_member_target, a_target_element, a_target_property, a_target_rest, a_named_target, a_loop_left, an_init, a_link, a_chain, a_string, a_module_name, an_exported_declaration, a_default_export, a_tagged_template, these, each, each_or_last, slots_of, filling, filling_by, is_whole, has_names, is_strict_in, fits}
+use Rattle.mini_print.specs.Grammar.{Goal, Anything, Statement, Element, AfterDot, KeyName, ClassKey, Property, Declared, HeadDeclared, HeadDeclaration, Bound, BoundElement, BoundProperty, Parameter, Binding, LabelName, BlockOnly, Catching, CaseItem, ClassBraces, ClassElement, MethodValue, GeneratorValue, Body, TargetPattern, TargetElement, TargetProperty, DefaultOf, ModuleItem, SourceText, ModuleName, Exportable, DefaultDeclared, ExportItem, ForwardItem, TagTemplate, Nothing, Link, FirstLink, Zero, Gaps, SuperHere, NameOf, named, is_reserved}
+use Rattle.mini_print.specs.Unprintable.{are_directives, are_plain_rests, is_pattern_rest, items_of, generates}
 use Rattle.mini_print.specs.Printed as printed
-use Rattle.mini_print.specs.Printed.{Want, a_part, a_list, a_perhaps, a_block as a_run, a_silent, is_printable, are_printable, is_gap, shown, all_shown, seen, stands, with_directives, taker, ABinding, APattern, AValue, is_target_shape, is_declaration, has_default_shape, has_optional, linked}
+use Rattle.mini_print.specs.Printed.{Want, a_part, a_list, a_perhaps, a_block as a_run, a_silent, is_printable, are_printable, is_gap, shown, all_shown, seen, stands, with_directives, taker, ABinding, APattern, AValue, is_target_shape, is_declaration, has_default_shape, has_optional, linked, declares_default}
 use Rattle.mini_printable.proofs.Clean.{and_l, and_r, both, is_clean, are_clean}
 
 pub data Seat : Type 0 where
@@ -207,10 +204,23 @@ named_class true = a_pattern_element
 named_class false = a_named_target
 
 -- what a link of a chain is of: a chain that goes on, or a value
-abbrev pub Linked : Tree → Type 0
-Linked u =
+abbrev pub Linked : Tree → Tree → Type 0
+Linked t u =
     ((has_optional u ≡ true) × ((ls : Trees) → are_printable Link false ls ≡ true → printed.fill (Some (a_part Anything ∷ a_part FirstLink ∷ a_run Link ∷ [])) (linked u ls) ≡ true)) ⊎
-    ((has_optional u ≡ false) × (is_printable (a_part Anything) u ≡ true))
+    ((has_optional u ≡ false) × (accept.has_optional t ≡ false) × (is_printable (a_part Anything) u ≡ true))
+
+-- a declaration that is exported, if there is one, and what is exported by default
+abbrev pub Exported : Tree → Tree → Type 0
+Exported t u =
+    ((is_absent t ≡ true) × (is_printable (a_silent Nothing) u ≡ true) × (is_absent u ≡ true)) ⊎
+    ((is_absent t ≡ false) × (is_absent u ≡ false) × (is_printable (a_part Exportable) u ≡ true))
+
+abbrev pub DefaultOut : Tree → Type 0
+DefaultOut u = ((declares_default (shape_of u) ≡ true) × (is_printable (a_part DefaultDeclared) u ≡ true)) ⊎ ((declares_default (shape_of u) ≡ false) × (is_printable (a_part Anything) u ≡ true))
+
+abbrev pub export_goal : Bool → Goal
+export_goal true = ExportItem
+export_goal false = ForwardItem
 
 pub data LinkSeat : Type 0 where
   a_link_here an_inner_link_here a_chain_here : LinkSeat
@@ -240,6 +250,9 @@ pub record Served (t : Tree) : Type 0 where
   pub named_by : (strict d : Bool) → fits strict (one (named_class d)) t ≡ true → is_clean false t ≡ true → Named d t (shown t)
   pub object_items : (strict : Bool) → fits strict (many_and_rest a_target_property a_target_rest) t ≡ true → is_clean false t ≡ true → are_plain_rests (items_of t) ≡ true → is_printable (a_list TargetProperty Zero) (shown t) ≡ true
   pub plain_rest : (strict : Bool) → fits strict (one a_target_rest) t ≡ true → is_clean false t ≡ true → is_pattern_rest t ≡ false → is_printable (a_part TargetProperty) (shown t) ≡ true
+  pub exported : (strict : Bool) → fits strict (one_or_absent an_exported_declaration) t ≡ true → is_clean false t ≡ true → Exported t (shown t)
+  pub default_out : (strict : Bool) → fits strict (one a_default_export) t ≡ true → is_clean false t ≡ true → DefaultOut (shown t)
+  pub link : (strict : Bool) (r : LinkSeat) → fits strict (one (link_class r)) t ≡ true → is_clean false t ≡ true → Linked t (shown t)
 
 abbrev pub Below : Trees → Type 0
 Below none = Unit {0}

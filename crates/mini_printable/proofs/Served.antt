@@ -1,26 +1,29 @@
 -- What fills a slot of ESTree and has no fault is printable where the slot's part stands.
-use Rattle.std.proofs.Common.{◌≡◌, ℕ, Bool, true, false, ◌&&◌, ◌||◌, List, [], ◌∷◌, refl, sym, ap, subst, ◌∙◌, ◌⊎◌, inl, inr}
-use Rattle.std.specs.Prelude.{Option, Some, None}
+use Rattle.std.proofs.Common.{◌≡◌, ℕ, Bool, true, false, ◌&&◌, ◌||◌, List, [], ◌∷◌, refl, ap, subst}
+use Rattle.std.specs.Prelude.{None}
 use Rattle.std.proofs.lemmas.Bool.{false≢true}
 use Rattle.mini_model.specs.declared.name.Name.{Name}
 use Rattle.mini_model.specs.declared.shape.Shape.{Shape}
 use Rattle.mini_model.specs.declared.shape.Shape.TheVariants as shape
 use Rattle.mini_model.specs.Tree.{Tree, Trees, node, none, ◌▸◌, listed, leaf as leaf'}
 use Rattle.mini_accept.specs.WellShaped as accept
-use Rattle.mini_accept.specs.WellShaped.{Class, Slot, a_program, in_module, in_body, nested, one, one_or_absent, many, many_and_rest, an_expression, an_inner, an_argument, an_inner_argument, an_inner_key, a_private_or_key, a_key, a_statement, a_label, a_private_name, a_pattern, a_pattern_element, a_pattern_property, a_pattern_rest, a_parameter, a_binding, a_class_body, a_class_member, a_function_body, a_method, an_object_property, a_declarator, a_simple_target, a_target_element, a_target_property, a_target_rest, a_named_target, a_member_target, a_case, a_catch, a_block, a_string, a_module_name, a_tagged_template, these, each, each_or_last, slots_of, filling_by, inner_slots, is_whole, has_names, fits}
-use Rattle.mini_print.specs.Grammar.{Goal, Anything, Statement, ModuleItem, Element, AfterDot, KeyName, ClassKey, LabelName, Property, ClassBraces, ClassElement, Binding, Bound, BoundElement, BoundProperty, Parameter, BlockOnly, Catching, CaseItem, TargetElement, TargetProperty, Declared, HeadDeclared, SourceText, ModuleName, TagTemplate, Body, Leading, Zero, Gaps}
+use Rattle.mini_accept.specs.WellShaped.{Class, Slot, a_program, in_module, in_body, nested, one, one_or_absent, many, many_and_rest, an_expression, an_inner, an_argument, an_inner_argument, an_inner_key, a_private_or_key, a_key, a_statement, a_label, a_private_name, a_pattern, a_pattern_element, a_pattern_property, a_pattern_rest, a_parameter, a_binding, a_class_body, a_class_member, a_function_body, a_method, an_object_property, a_declarator, a_simple_target, a_target_element, a_target_property, a_target_rest, a_named_target, a_member_target, a_case, a_catch, a_block, a_string, a_module_name, a_tagged_template, an_import, an_export, an_exported_declaration, a_default_export, quasis, tagged, is_sloppy_function, these, each, each_or_last, slots_of, filling_by, inner_slots, is_whole, has_names, fits}
+use Rattle.mini_print.specs.Grammar.{Goal, Anything, Statement, ModuleItem, Element, AfterDot, KeyName, ClassKey, LabelName, Property, ClassBraces, ClassElement, Binding, Bound, BoundProperty, Parameter, BlockOnly, Catching, CaseItem, TargetElement, TargetProperty, Declared, HeadDeclared, SourceText, ModuleName, TagTemplate, Body, Leading, Zero, Gaps}
 use Rattle.mini_print.specs.Unprintable.{first_fault, are_directives, is_directive, are_plain_rests, items_of}
 use Rattle.mini_print.specs.Printed as printed
 use Rattle.mini_print.specs.Printed.{Want, a_part, a_list, a_perhaps, a_block as a_run, a_silent, is_printable, are_printable, is_gap, shown, all_shown, seen, with_directives, directives}
-use Rattle.mini_printable.specs.Plain.{is_plain, are_plain}
+use Rattle.mini_printable.specs.Unresolved.{is_unresolved}
 use Rattle.mini_printable.proofs.Clean.{and_l, and_r, both, is_clean, are_clean, clean_node, program_clean}
-use Rattle.mini_printable.proofs.Seats.{Seat, value, argument, inner, inner_argument, computed_key, inner_computed_key, private_computed_key, key, inner_key, private_key, name, private_name, label, super_here, property, class_body, binding, pattern, bound_element, element, parameter, pattern_rest, property_rest, bound_property, statement, top_statement, module_statement, block_only, simple_target, target_element, target_property, target_rest, declarator, head_declarator, case, member, text, module_name, tag_template, word, value_or_none, inner_or_none, label_or_none, binding_or_none, pattern_or_none, statement_or_none, block_or_none, catch_or_none, text_or_none, module_name_or_none, arguments, elements, properties, values, inner_arguments, inner_values, declarators, head_declarators, parameters, bound_properties, bound_elements, target_elements, block, top_block, module_block, cases, members, slot_at, want_at, suits, Named, named_class, Served, Below, parts, over_one, items, items_or_last}
-use Rattle.mini_printable.proofs.Rows.{never, and_one, and_two, first_of_two, second_of_two, either, stands_at, part_of, value_stands, perhaps_of, nothing_of, present, Row, by_row, filled, many_case, holes_case, rest_case, holes_rest_case}
+use Rattle.mini_printable.proofs.Seats.{Seat, value, argument, inner, inner_argument, computed_key, inner_computed_key, private_computed_key, key, inner_key, private_key, name, private_name, label, super_here, property, class_body, binding, pattern, bound_element, element, parameter, pattern_rest, property_rest, bound_property, statement, top_statement, module_statement, block_only, simple_target, target_element, target_property, target_rest, declarator, head_declarator, case, member, text, module_name, tag_template, word, value_or_none, inner_or_none, label_or_none, binding_or_none, pattern_or_none, statement_or_none, block_or_none, catch_or_none, text_or_none, module_name_or_none, arguments, elements, properties, values, inner_arguments, inner_values, declarators, head_declarators, parameters, bound_properties, bound_elements, target_elements, block, top_block, module_block, cases, members, slot_at, want_at, suits, Named, named_class, Served, Below, parts, over_one, over_two, items, items_or_last}
+use Rattle.mini_printable.proofs.Rows.{never, and_two, first_of_two, second_of_two, either, stands_at, part_of, value_stands, perhaps_of, nothing_of, present, Row, by_row, filled, many_case, holes_case, rest_case, holes_rest_case}
+use Rattle.mini_printable.proofs.Templates.{template_at}
 use Rattle.mini_printable.proofs.Values.{value_row}
+use Rattle.mini_printable.proofs.Chains.{linked_at}
 use Rattle.mini_printable.proofs.Leaves.{name_row, private_name_row, label_stands, key_row, private_key_row, text_row, module_name_row, super_shown, word_shown, element_stands, argument_row, computed_key_row, binding_row, pattern_row, element_at, bound_element_at, parameter_at, rest_row, property_rest_row, bound_property_row, declarator_row, head_declarator_row, class_body_row}
 use Rattle.mini_printable.proofs.Targets.{simple_target_row, assigned, target_element_at, target_rest_row, plain_rest_row, object_list, bound_named, target_named, target_property_row}
+use Rattle.mini_printable.proofs.Modules.{module_stands, exported_at, default_at}
 use Rattle.mini_printable.proofs.Members.{method_at, property_row, member_row}
-use Rattle.mini_printable.proofs.Statements.{statement_row, nested_row, body_row, to_item, case_row, catch_row, block_row, init_at, left_at}
+use Rattle.mini_printable.proofs.Statements.{unless, statement_row, nested_row, body_row, to_item, case_row, catch_row, block_row, init_at, left_at}
 
 -- ---- inner expressions
 
@@ -45,14 +48,21 @@ inner_plain_key_row : Row (an_inner_key false) KeyName
 inner_plain_key_row strict inside l h xs n ts b e k v = key_row strict inside l h xs n ts b e k v
 
 module_row : Row (a_statement in_module) ModuleItem
-module_row strict inside l shape.ImportDeclaration xs n ts b e k v = let c = clean_node l shape.ImportDeclaration xs n ts refl k in absurd (false≢true c.2)
-module_row strict inside l shape.ExportNamedDeclaration xs n ts b e k v = let c = clean_node l shape.ExportNamedDeclaration xs n ts refl k in absurd (false≢true c.2)
-module_row strict inside l shape.ExportDefaultDeclaration xs n ts b e k v = let c = clean_node l shape.ExportDefaultDeclaration xs n ts refl k in absurd (false≢true c.2)
-module_row strict inside l shape.ExportAllDeclaration xs n ts b e k v = let c = clean_node l shape.ExportAllDeclaration xs n ts refl k in absurd (false≢true c.2)
+module_row strict inside l shape.ImportDeclaration [] n ts b e k v = module_stands strict inside l shape.ImportDeclaration n ts b (unless true (is_sloppy_function strict in_module shape.ImportDeclaration) inside (many an_import ∷ one a_string ∷ []) ts e) k v
+module_row strict inside l shape.ImportDeclaration (x ∷ xs) n ts b e k v = absurd (false≢true e)
+module_row strict inside l shape.ExportNamedDeclaration [] n ts b e k v = module_stands strict inside l shape.ExportNamedDeclaration n ts b (unless true (is_sloppy_function strict in_module shape.ExportNamedDeclaration) inside (one_or_absent an_exported_declaration ∷ many an_export ∷ one_or_absent a_string ∷ []) ts e) k v
+module_row strict inside l shape.ExportNamedDeclaration (x ∷ xs) n ts b e k v = absurd (false≢true e)
+module_row strict inside l shape.ExportDefaultDeclaration [] n ts b e k v = module_stands strict inside l shape.ExportDefaultDeclaration n ts b (unless true (is_sloppy_function strict in_module shape.ExportDefaultDeclaration) inside (one a_default_export ∷ []) ts e) k v
+module_row strict inside l shape.ExportDefaultDeclaration (x ∷ xs) n ts b e k v = absurd (false≢true e)
+module_row strict inside l shape.ExportAllDeclaration [] n ts b e k v = module_stands strict inside l shape.ExportAllDeclaration n ts b (unless true (is_sloppy_function strict in_module shape.ExportAllDeclaration) inside (one_or_absent a_module_name ∷ one a_string ∷ []) ts e) k v
+module_row strict inside l shape.ExportAllDeclaration (x ∷ xs) n ts b e k v = absurd (false≢true e)
 module_row strict inside l h xs n ts b e k v = to_item (seen h xs n (all_shown ts)) (statement_row in_module strict inside l h xs n ts b e k v refl)
 
 tag_template_row : Row a_tagged_template TagTemplate
-tag_template_row strict inside l shape.TemplateLiteral xs n ts b e k v = let c = clean_node l shape.TemplateLiteral xs n ts refl k in absurd (false≢true c.2)
+tag_template_row strict inside l shape.TemplateLiteral [] n ts b e k v =
+    let d = clean_node l shape.TemplateLiteral [] n ts refl k in
+    over_two inside false (quasis tagged) (many (an_inner an_expression)) (λ us. accept.has_its_parts a_tagged_template shape.TemplateLiteral us ≡ true → stands_at TagTemplate (seen shape.TemplateLiteral [] n (all_shown us)) ≡ true)
+    (λ q t bq bt eq et kq kt w. template_at true inside n tagged (an_inner an_expression) q t (bt.seat inside inner_values false refl et kt) eq et w) ts b e d.3 v
 tag_template_row strict inside l h xs n ts b e k v = absurd (never (has_names h xs) e)
 
 -- ---- seats
@@ -176,6 +186,9 @@ served_node h xs n ts b =
       named_by = named_at h xs n ts b;
       object_items = object_items_at h xs n ts b;
       plain_rest = λ strict e k p. plain_rest_row strict (accept.is_strict_in strict h) false h xs n ts b (filled strict a_target_rest h xs n ts e) k p;
+      exported = λ strict e k. exported_at strict h xs n ts b e k;
+      default_out = λ strict e k. default_at strict h xs n ts b e k;
+      link = λ strict r e k. linked_at strict r h xs n ts b e k;
     }
 
 mutual
@@ -212,7 +225,7 @@ module_prints inside ds n (node shape.Listed [] m ts ▸ none) d e k =
 module_prints inside ds n (node shape.Listed (x ∷ xs) m ts ▸ none) d e k = absurd (false≢true e)
 module_prints inside ds n (node h xs m ts ▸ none) d e k = absurd (never (is_whole (a_statement in_module) h xs m ts) (and_l (is_whole (a_statement in_module) h xs m ts && false) true e))
 
-pub faultless_prints : (t : Tree) → fits false (one a_program) t ≡ true → first_fault t ≡ None → is_plain t ≡ true → printed.program_is_printable t ≡ true
+pub faultless_prints : (t : Tree) → fits false (one a_program) t ≡ true → first_fault t ≡ None → is_unresolved t ≡ true → printed.program_is_printable t ≡ true
 faultless_prints (node (shape.Program false ds) [] n ts) e f q =
     let inside = accept.is_strict_in false (shape.Program false ds) in
     let c = clean_node false (shape.Program false ds) [] n ts refl (program_clean (shape.Program false ds) [] n ts refl f q) in

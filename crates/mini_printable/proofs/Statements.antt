@@ -1,21 +1,21 @@
 -- The tables of statements.
-use Rattle.std.proofs.Common.{◌≡◌, ℕ, suc, Bool, true, false, ◌&&◌, ◌||◌, not, List, [], ◌∷◌, refl, sym, ap, subst, ◌∙◌, ◌⊎◌, inl, inr}
+use Rattle.std.proofs.Common.{◌≡◌, ℕ, Bool, true, false, ◌&&◌, ◌||◌, not, List, [], ◌∷◌, refl, sym, ap, subst, ◌∙◌, inl, inr}
 use Rattle.std.specs.Prelude.{Option, Some, None, nat_le}
 use Rattle.std.proofs.lemmas.Bool.{false≢true}
 use Rattle.mini_model.specs.declared.name.Name.{Name}
 use Rattle.mini_model.specs.declared.kind.VariableDeclarationKind.{VariableDeclarationKind}
 use Rattle.mini_model.specs.declared.shape.Shape.{Shape}
 use Rattle.mini_model.specs.declared.shape.Shape.TheVariants as shape
-use Rattle.mini_model.specs.Tree.{Tree, Trees, node, none, ◌▸◌, count, children, shape_of, is_absent}
+use Rattle.mini_model.specs.Tree.{Tree, Trees, node, none, ◌▸◌, count, children, shape_of}
 use Rattle.mini_model.specs.Weight.{same_text}
 use Rattle.mini_accept.specs.WellShaped as accept
 use Rattle.mini_accept.specs.WellShaped.{Class, Slot, Depth, in_module, in_body, nested, one, one_or_absent, many, many_and_rest, an_expression, an_inner, an_init, a_loop_left, a_statement, a_block, a_case, a_catch, a_pattern, a_label, a_binding, a_parameter, a_pattern_rest, a_function_body, a_class_body, a_declarator, these, slots_of, statement_slots, filling_by, none_if, in_depth, is_sloppy_function, is_whole, has_names, fits}
-use Rattle.mini_print.specs.Grammar.{Goal, Anything, Statement, ModuleItem, CaseItem, Catching, BlockOnly, HeadDeclaration, HeadDeclared, Declared, Exportable, TargetPattern, Bound, Binding, Parameter, Body, ClassBraces, Rule, ClassDeclared, Nothing, NameOf, BindingOf, Zero, One, has, is_of, sort, is_reserved, form}
+use Rattle.mini_print.specs.Grammar.{Goal, Anything, Statement, ModuleItem, CaseItem, Catching, BlockOnly, HeadDeclaration, HeadDeclared, Declared, TargetPattern, Bound, Binding, Parameter, Body, ClassBraces, Rule, ClassDeclared, Nothing, BindingOf, Zero, One, has, is_of, sort, is_reserved, form}
 use Rattle.mini_print.specs.Printed as printed
 use Rattle.mini_print.specs.Printed.{Want, a_part, a_list, a_perhaps, a_block as a_run, a_silent, turned, turned_of, rule_at, wants, wants_of, is_wanted, is_sound, is_printable, shown, all_shown, seen, with_directives, is_declaration, is_target_shape, for_of, for_in_of, for_of_of, case_of, catch_of}
-use Rattle.mini_printable.proofs.Clean.{and_l, and_r, both, is_clean, are_clean, Clean, clean_node}
-use Rattle.mini_printable.proofs.Seats.{Seat, value, value_or_none, statement, statement_or_none, block, cases, block_only, block_or_none, catch_or_none, pattern_or_none, label_or_none, binding, parameters, class_body, inner_or_none, declarators, head_declarators, slot_at, want_at, Assigned, Headed, Served, Below, parts, over_one, over_two, over_three, over_four}
-use Rattle.mini_printable.proofs.Rows.{never, and_one, and_two, and_three, and_four, either, untrue, same_self, stands_at, part_of, value_stands, perhaps_of, nothing_of, perhaps_cases, present, Row, by_row, filled, whole_parts, leaf, bound_name, maybe_bound, longer, one_shown}
+use Rattle.mini_printable.proofs.Clean.{and_r, both, is_clean, are_clean, clean_node}
+use Rattle.mini_printable.proofs.Seats.{value, value_or_none, statement, statement_or_none, block, cases, block_only, block_or_none, catch_or_none, pattern_or_none, label_or_none, binding, parameters, class_body, inner_or_none, declarators, head_declarators, Assigned, Headed, Below, parts, over_two, over_three, over_four}
+use Rattle.mini_printable.proofs.Rows.{never, and_two, and_three, and_four, either, same_self, stands_at, part_of, perhaps_of, nothing_of, perhaps_cases, present, Row, filled, whole_parts, leaf, bound_name, maybe_bound, longer, one_shown}
 use Rattle.mini_printable.proofs.Values.{value_row}
 use Rattle.mini_printable.proofs.Targets.{target_row, same_is}
 
@@ -119,24 +119,29 @@ statement_function : (d : Bool) → (is_wanted Statement (turned_of Statement (r
 statement_function true = (refl, refl)
 statement_function false = (refl, refl)
 
-pub class_declared : (goal : Goal) (inside : Bool) (n : ℕ) (t u v w : Tree) →
-    ((s : List ℕ) → (is_wanted goal (Some (turned goal (ClassDeclared s))) ≡ (not (is_reserved s) && (false || (not (is_reserved s) && true)))) × (wants (form (turned goal (ClassDeclared s))) ≡ a_silent (BindingOf s) ∷ a_perhaps Anything ∷ a_part ClassBraces ∷ a_silent (BindingOf s) ∷ [])) →
-    fits inside (one a_binding) t ≡ true → is_clean false t ≡ true → is_printable (a_perhaps Anything) (shown u) ≡ true → is_printable (a_part ClassBraces) (shown v) ≡ true → fits inside (one_or_absent a_binding) w ≡ true → is_clean false w ≡ true → accept.holds_its_name true (t ▸ (u ▸ (v ▸ (w ▸ none)))) ≡ true → stands_at goal (node (shape.Class true) [] n (shown t ▸ (shown u ▸ (shown v ▸ (shown w ▸ none))))) ≡ true
-class_declared goal inside n t u v w q et kt eu ev ew kw z =
-    bound_name (λ i. accept.holds_its_name true (i ▸ (u ▸ (v ▸ (w ▸ none)))) ≡ true → stands_at goal (node (shape.Class true) [] n (shown i ▸ (shown u ▸ (shown v ▸ (shown w ▸ none))))) ≡ true)
-    (λ x m f. λ z'. maybe_bound (λ j. accept.is_same_spelling (Some x.spelling) (accept.spelling j) ≡ true → stands_at goal (node (shape.Class true) [] n (node shape.BindingIdentifier (x ∷ []) m none ▸ (shown u ▸ (shown v ▸ (shown j ▸ none))))) ≡ true)
-    (λ i z''. absurd (false≢true z''))
-    (λ y i g z''. named x m f y i z'')
-    inside false w ew kw z')
-    inside false t et kt z
+abbrev ClassForm : Goal → Type 0
+ClassForm goal = (s : List ℕ) → (is_wanted goal (Some (turned goal (ClassDeclared s))) ≡ (not (is_reserved s) && (false || (not (is_reserved s) && true)))) × (wants (form (turned goal (ClassDeclared s))) ≡ a_silent (BindingOf s) ∷ a_perhaps Anything ∷ a_part ClassBraces ∷ a_silent (BindingOf s) ∷ [])
+
+pub class_named : (goal : Goal) (inside : Bool) (n : ℕ) (u v w : Tree) → ClassForm goal → is_printable (a_perhaps Anything) (shown u) ≡ true → is_printable (a_part ClassBraces) (shown v) ≡ true → (x : Name) (m : ℕ) → is_reserved x.spelling ≡ false → fits inside (one_or_absent a_binding) w ≡ true → is_clean false w ≡ true → accept.holds_its_name true (node shape.BindingIdentifier (x ∷ []) m none ▸ (u ▸ (v ▸ (w ▸ none)))) ≡ true → stands_at goal (node (shape.Class true) [] n (node shape.BindingIdentifier (x ∷ []) m none ▸ (shown u ▸ (shown v ▸ (shown w ▸ none))))) ≡ true
+class_named goal inside n u v w q eu ev x m f ew kw z =
+    maybe_bound (λ j. accept.is_same_spelling (Some x.spelling) (accept.spelling j) ≡ true → stands_at goal (node (shape.Class true) [] n (node shape.BindingIdentifier (x ∷ []) m none ▸ (shown u ▸ (shown v ▸ (shown j ▸ none))))) ≡ true)
+    (λ i z'. absurd (false≢true z'))
+    (λ y i g z'. named y i z')
+    inside false w ew kw z
   where
-    named : (x : Name) (m : ℕ) → is_reserved x.spelling ≡ false → (y : Name) (i : ℕ) → same_text x.spelling y.spelling ≡ true → stands_at goal (node (shape.Class true) [] n (node shape.BindingIdentifier (x ∷ []) m none ▸ (shown u ▸ (shown v ▸ (node shape.BindingIdentifier (y ∷ []) i none ▸ none))))) ≡ true
-    named x m f y i e =
+    named : (y : Name) (i : ℕ) → same_text x.spelling y.spelling ≡ true → stands_at goal (node (shape.Class true) [] n (node shape.BindingIdentifier (x ∷ []) m none ▸ (shown u ▸ (shown v ▸ (node shape.BindingIdentifier (y ∷ []) i none ▸ none))))) ≡ true
+    named y i e =
         let us = node shape.BindingIdentifier (x ∷ []) m none ▸ (shown u ▸ (shown v ▸ (node shape.BindingIdentifier (y ∷ []) i none ▸ none))) in
         let p = q x.spelling in
         both (is_wanted goal (Some (turned goal (ClassDeclared x.spelling)))) (printed.fill (Some (wants (form (turned goal (ClassDeclared x.spelling))))) us) (p.0 ∙ ap (λ r. not r && (false || (not r && true))) f)
         (subst (λ ws. printed.fill (Some ws) us ≡ true) (sym p.1)
         (and_four (same_text x.spelling x.spelling) (is_printable (a_perhaps Anything) (shown u)) (is_printable (a_part ClassBraces) (shown v)) (same_text y.spelling x.spelling) (same_self x.spelling) eu ev (subst (λ s. same_text s x.spelling ≡ true) (same_is x.spelling y.spelling e) (same_self x.spelling))))
+
+pub class_declared : (goal : Goal) (inside : Bool) (n : ℕ) (t u v w : Tree) → ClassForm goal → fits inside (one a_binding) t ≡ true → is_clean false t ≡ true → is_printable (a_perhaps Anything) (shown u) ≡ true → is_printable (a_part ClassBraces) (shown v) ≡ true → fits inside (one_or_absent a_binding) w ≡ true → is_clean false w ≡ true → accept.holds_its_name true (t ▸ (u ▸ (v ▸ (w ▸ none)))) ≡ true → stands_at goal (node (shape.Class true) [] n (shown t ▸ (shown u ▸ (shown v ▸ (shown w ▸ none))))) ≡ true
+class_declared goal inside n t u v w q et kt eu ev ew kw z =
+    bound_name (λ i. accept.holds_its_name true (i ▸ (u ▸ (v ▸ (w ▸ none)))) ≡ true → stands_at goal (node (shape.Class true) [] n (shown i ▸ (shown u ▸ (shown v ▸ (shown w ▸ none))))) ≡ true)
+    (λ x m f z'. class_named goal inside n u v w q eu ev x m f ew kw z')
+    inside false t et kt z
 
 -- ---- the table
 

@@ -1,6 +1,6 @@
 -- The tables of what is assigned to, and of the parts of patterns that are assigned to.
-use Rattle.std.proofs.Common.{◌≡◌, ℕ, suc, Bool, true, false, ◌&&◌, ◌||◌, not, List, [], ◌∷◌, refl, sym, ap, subst, ◌∙◌, ◌⊎◌, inl, inr}
-use Rattle.std.specs.Prelude.{Option, Some, None, pos, negsuc, nat_le, nat_eq, codes}
+use Rattle.std.proofs.Common.{◌≡◌, ℕ, Bool, true, false, ◌&&◌, ◌||◌, not, List, [], ◌∷◌, refl, sym, ap, subst, ◌∙◌, ◌⊎◌, inl, inr}
+use Rattle.std.specs.Prelude.{Some, nat_eq}
 use Rattle.std.proofs.lemmas.Bool.{false≢true, eqb-true}
 use Rattle.mini_model.specs.declared.name.Name.{Name}
 use Rattle.mini_model.specs.declared.shape.Shape.{Shape}
@@ -9,13 +9,13 @@ use Rattle.mini_model.specs.Tree.{Tree, Trees, node, none, ◌▸◌, shape_of, 
 use Rattle.mini_model.specs.Weight.{same_text}
 use Rattle.mini_accept.specs.WellShaped as accept
 use Rattle.mini_accept.specs.WellShaped.{Class, Slot, one, one_or_absent, many, many_and_rest, many_or_holes_and_rest, an_expression, an_inner, an_inner_key, a_label, a_simple_target, a_target, an_element_target, a_member_target, a_named_target, a_target_name, a_target_element, a_target_property, a_target_rest, a_pattern_element, a_pattern, a_binding, these, each_or_last, slots_of, filling_by, is_whole, has_names, fits}
-use Rattle.mini_print.specs.Grammar.{Goal, Anything, TargetPattern, Target, TargetElement, TargetProperty, DefaultOf, Rule, NameOf, BindingOf, ReferenceOf, named, Zero, is_reserved, form, same_flag}
-use Rattle.mini_print.specs.Unprintable.{has_text, are_plain_rests, is_pattern_rest, is_pattern_target, items_of}
+use Rattle.mini_print.specs.Grammar.{Anything, TargetPattern, TargetElement, TargetProperty, DefaultOf, ReferenceOf, named, Zero, is_reserved, form}
+use Rattle.mini_print.specs.Unprintable.{has_text, are_plain_rests, is_pattern_rest, is_pattern_target}
 use Rattle.mini_print.specs.Printed as printed
 use Rattle.mini_print.specs.Printed.{Want, a_part, a_list, a_perhaps, a_silent, turned, wants, is_wanted, is_printable, are_printable, shown, all_shown, seen, taker, ABinding, APattern, AValue, element_of, rest_of, has_default_shape, target_of, is_target_shape, is_declaration}
-use Rattle.mini_printable.proofs.Clean.{and_l, and_r, both, is_clean, are_clean, Clean, clean_node}
-use Rattle.mini_printable.proofs.Seats.{Seat, value, inner, inner_key, inner_computed_key, target_element, target_elements, TargetSeat, any_target, target_of_element, member_of_element, target_property, target_class, slot_at, want_at, Assigned, Named, named_class, Served, Below, parts, over_one, over_two, by_either}
-use Rattle.mini_printable.proofs.Rows.{never, and_one, and_two, either, untrue, same_self, stands_at, part_of, core_of, value_of, value_stands, stands_by, whole_parts, perhaps_of, stands_present, Row, by_row, filled, leaf}
+use Rattle.mini_printable.proofs.Clean.{and_l, and_r, both, is_clean, are_clean, clean_node}
+use Rattle.mini_printable.proofs.Seats.{inner, inner_key, inner_computed_key, target_element, target_elements, TargetSeat, any_target, target_of_element, member_of_element, target_property, target_class, Assigned, Named, Served, Below, parts, over_one, over_two, by_either}
+use Rattle.mini_printable.proofs.Rows.{never, and_one, and_two, untrue, same_self, stands_at, part_of, core_of, value_of, value_stands, stands_by, whole_parts, perhaps_of, stands_present, Row, filled}
 use Rattle.mini_printable.proofs.Values.{value_row}
 
 -- ---- values that are assigned to

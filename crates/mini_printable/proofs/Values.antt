@@ -1,6 +1,6 @@
 -- The table of expressions.
-use Rattle.std.proofs.Common.{◌≡◌, ℕ, suc, Bool, true, false, ◌&&◌, ◌||◌, not, List, [], ◌∷◌, refl, sym, ap, subst, ◌∙◌, ◌⊎◌, inl, inr, arith}
-use Rattle.std.specs.Prelude.{Option, Some, None, pos, negsuc, nat_le, nat_eq, codes, length}
+use Rattle.std.proofs.Common.{◌≡◌, ℕ, suc, Bool, true, false, ◌&&◌, ◌||◌, not, List, [], ◌∷◌, refl, sym, ap, subst, ◌∙◌, inl, inr, arith}
+use Rattle.std.specs.Prelude.{Some, pos, negsuc, nat_eq, codes, length}
 use Rattle.std.proofs.lemmas.Bool.{false≢true, eqb-true}
 use Rattle.mini_model.specs.declared.name.Name.{Name}
 use Rattle.mini_model.specs.declared.kind.MetaPropertyKind.TheVariants as meta
@@ -8,17 +8,18 @@ use Rattle.mini_model.specs.declared.operator.AssignmentOperator.TheVariants as 
 use Rattle.mini_model.specs.declared.operator.UnaryOperator.TheVariants as unary
 use Rattle.mini_model.specs.declared.shape.Shape.{Shape}
 use Rattle.mini_model.specs.declared.shape.Shape.TheVariants as shape
-use Rattle.mini_model.specs.Tree.{Tree, Trees, node, none, ◌▸◌, shape_of, is_absent}
+use Rattle.mini_model.specs.Tree.{Tree, Trees, node, none, ◌▸◌}
 use Rattle.mini_model.specs.Weight.{same_text}
 use Rattle.mini_accept.specs.WellShaped as accept
-use Rattle.mini_accept.specs.WellShaped.{Class, Slot, one, one_or_absent, many, many_or_holes, many_and_rest, an_expression, an_inner, an_argument, an_inner_argument, an_arrow_body, a_key, a_target, a_label, a_private_name, a_parameter, a_pattern_rest, a_function_body, a_class_body, a_binding, a_method, these, slots_of, filling_by, is_whole, has_names, fits}
-use Rattle.mini_print.specs.Grammar.{Goal, Anything, Element, Body, MethodValue, GeneratorValue, ClassBraces, Binding, Parameter, TargetPattern, Zero, Two, Nothing, BindingOf, PrivateOf, Assignment, PatternAssignment, is_reserved, has_private, form, same_flag}
-use Rattle.mini_print.specs.Unprintable.{are_directives, has_text}
+use Rattle.mini_accept.specs.WellShaped.{Class, Slot, one, one_or_absent, many, many_or_holes, many_and_rest, an_expression, an_inner, an_argument, an_inner_argument, an_arrow_body, a_key, a_target, a_label, a_private_name, a_parameter, a_pattern_rest, a_function_body, a_class_body, a_binding, a_method, a_chain, quasis, untagged, these, slots_of, filling_by, is_whole, has_names, fits}
+use Rattle.mini_print.specs.Grammar.{Anything, Body, ClassBraces, Binding, Parameter, TargetPattern, Zero, Two, Nothing, is_reserved, has_private, form}
+use Rattle.mini_print.specs.Unprintable.{are_directives}
 use Rattle.mini_print.specs.Printed as printed
-use Rattle.mini_print.specs.Printed.{Want, a_part, a_list, a_perhaps, a_block as a_run, a_silent, wants, is_wanted, is_printable, is_positive_literal, shown, all_shown, seen, with_directives, taker, APattern, AValue, assignment_of, yield_of, class_of, arrow_of}
-use Rattle.mini_printable.proofs.Clean.{and_l, and_r, both, is_clean, are_clean, Clean, clean_node}
-use Rattle.mini_printable.proofs.Seats.{Seat, tag_template, value, argument, inner, inner_argument, computed_key, key, name, private_name, super_here, simple_target, word, value_or_none, inner_or_none, binding_or_none, class_body, arguments, elements, properties, values, inner_arguments, parameters, any_target, target_class, slot_at, want_at, Assigned, MethodOf, Served, Below, parts, over_one, over_two, over_three, over_four}
-use Rattle.mini_printable.proofs.Rows.{never, and_one, and_two, and_three, and_four, either, untrue, same_self, stands_at, part_of, value_stands, perhaps_cases, stands_present, absent_shown, Row, by_row, leaf, label_private, private_private, maybe_bound, longer, two_shown, is_inner_shape}
+use Rattle.mini_print.specs.Printed.{Want, a_part, a_list, a_perhaps, a_block as a_run, a_silent, wants, is_wanted, is_printable, is_positive_literal, shown, all_shown, seen, with_directives, linked, taker, APattern, AValue, assignment_of, yield_of, class_of, arrow_of}
+use Rattle.mini_printable.proofs.Clean.{and_r, both, is_clean, are_clean, clean_node}
+use Rattle.mini_printable.proofs.Seats.{tag_template, value, inner, name, private_name, super_here, simple_target, word, value_or_none, inner_or_none, binding_or_none, class_body, arguments, elements, properties, values, inner_arguments, parameters, any_target, a_chain_here, Linked, want_at, Assigned, Served, Below, parts, over_one, over_two, over_three, over_four}
+use Rattle.mini_printable.proofs.Templates.{template_at}
+use Rattle.mini_printable.proofs.Rows.{never, and_one, and_two, and_three, either, same_self, stands_at, part_of, perhaps_cases, absent_shown, Row, leaf, label_private, private_private, maybe_bound, longer, two_shown}
 
 -- ---- names
 
@@ -118,6 +119,17 @@ private_in inside n (node (shape.PrivateIdentifier s) (x ∷ xs) m ts) u e f = a
 private_in inside n (node (shape.PrivateIdentifier s) [] m (t ▸ ts)) u e f = absurd (never (is_whole a_private_name (shape.PrivateIdentifier s) [] m (t ▸ ts)) e)
 private_in inside n (node h xs m ts) u e f = absurd (never (is_whole a_private_name h xs m ts) e)
 
+-- ---- a chain
+
+chain_stands : (inside : Bool) (n : ℕ) (ts : Trees) → Below ts → accept.fill inside (these (one a_chain ∷ [])) ts ≡ true → are_clean false ts ≡ true → accept.has_its_parts an_expression shape.ChainExpression ts ≡ true → stands_at Anything (seen shape.ChainExpression [] n (all_shown ts)) ≡ true
+chain_stands inside n ts b e k v =
+    over_one inside false (one a_chain) (λ us. accept.has_its_parts an_expression shape.ChainExpression us ≡ true → stands_at Anything (seen shape.ChainExpression [] n (all_shown us)) ≡ true)
+    (λ t bt et kt w. on t (shown t) w (bt.link inside a_chain_here et kt)) ts b e k v
+  where
+    on : (t u : Tree) → accept.has_optional t ≡ true → Linked t u → stands_at Anything (node shape.ChainExpression [] n (linked u none)) ≡ true
+    on t u w (inl a) = a.1 none refl
+    on t u w (inr a) = absurd (false≢true (sym a.1 ∙ w))
+
 -- ---- the table
 
 pub value_row : Row an_expression Anything
@@ -188,7 +200,10 @@ value_row strict inside l (shape.YieldExpression false) [] n ts b e k v =
 value_row strict inside l (shape.MetaProperty meta.NewTarget) [] n ts b e k v = parts ts b inside (word (codes "new") ∷ word (codes "target") ∷ []) false refl e k
 value_row strict inside l (shape.MetaProperty meta.ImportMeta) [] n ts b e k v = parts ts b inside (word (codes "import") ∷ word (codes "meta") ∷ []) false refl e k
 value_row strict inside l shape.ImportExpression [] n ts b e k v = parts ts b inside (inner ∷ []) false refl e k
-value_row strict inside l shape.ChainExpression xs n ts b e k v = let c = clean_node l shape.ChainExpression xs n ts refl k in absurd (false≢true c.2)
-value_row strict inside l shape.TemplateLiteral xs n ts b e k v = let c = clean_node l shape.TemplateLiteral xs n ts refl k in absurd (false≢true c.2)
+value_row strict inside l shape.ChainExpression [] n ts b e k v = chain_stands inside n ts b e k v
+value_row strict inside l shape.TemplateLiteral [] n ts b e k v =
+    let d = clean_node l shape.TemplateLiteral [] n ts refl k in
+    over_two inside false (quasis untagged) (many an_expression) (λ us. accept.has_its_parts an_expression shape.TemplateLiteral us ≡ true → stands_at Anything (seen shape.TemplateLiteral [] n (all_shown us)) ≡ true)
+    (λ q t bq bt eq et kq kt w. template_at false inside n untagged an_expression q t (bt.seat inside values false refl et kt) eq et w) ts b e d.3 v
 value_row strict inside l shape.TaggedTemplateExpression [] n ts b e k v = parts ts b inside (inner ∷ tag_template ∷ []) false refl e k
 value_row strict inside l h xs n ts b e k v = absurd (never (has_names h xs) e)
