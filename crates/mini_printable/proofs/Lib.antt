@@ -1,0 +1,12 @@
+pub mod Clean
+pub mod Seats
+pub mod Rows
+pub mod Templates
+pub mod Values
+pub mod Chains
+pub mod Leaves
+pub mod Targets
+pub mod Members
+pub mod Statements
+pub mod Modules
+pub mod Served
