@@ -1,5 +1,5 @@
 -- The order of a tree's text, step by step as the code goes.
-use Rattle.std.proofs.Common.{ℕ, zero, suc, ◌+◌, ◌≡◌, ◌≤◌, ◌<◌, Bool, true, false, ◌&&◌, not, refl, ap, sym, subst, ◌∙◌, arith, List, [], ◌∷◌, add-one, ◌||◌, length, get_or, drop}
+use Rattle.std.proofs.Common.{ℕ, zero, suc, ◌+◌, ◌≡◌, ◌≤◌, ◌<◌, Bool, true, false, ◌&&◌, refl, ap, sym, subst, ◌∙◌, arith, List, [], ◌∷◌, add-one, ◌||◌, length, get_or, drop}
 use Rattle.std.proofs.lemmas.Bool.{false≢true}
 use Rattle.std.proofs.lemmas.List.{at_drop_more, at_drop_all}
 use Rattle.std.proofs.Math.Dec.{eqb-suc-zero}
@@ -10,14 +10,14 @@ use Rattle.mini_model.specs.declared.shape.Shape.{Shape}
 use Rattle.mini_model.specs.declared.shape.Shape.TheVariants as shape
 use Rattle.mini_model.specs.Paths.{append}
 use Rattle.mini_model.specs.Tree.{Tree, Trees, node, none, ◌▸◌, absent, listed, leaf, shape_of, children, count, child_or_absent, first_or_absent, node_count, node_counts}
-use Rattle.mini_node.specs.Children.{names_of, number_of, part, with_part, with_child, with_inserted, without, rest_children, like}
+use Rattle.mini_node.specs.Children.{part, with_part, with_child, with_inserted, without, rest_children, like}
 use Rattle.mini_node.specs.Lends.{with_children}
 use Rattle.mini_node.specs.Walks.{append_none, append_one, count_with, next_child, no_rest, rest_with}
 use Rattle.mini_print.specs.Printed as printed
-use Rattle.mini_print.specs.Printed.{is_link, is_optional, has_optional, linked, threaded, pieces, shown, all_shown, has_no_names}
+use Rattle.mini_print.specs.Printed.{is_link, is_optional, has_optional, linked, threaded, pieces, shown, all_shown}
 use Rattle.mini_printer.specs.declared.order.Object.{Object}
 use Rattle.mini_printer.specs.declared.order.Object.TheVariants.{Base, Whole}
-use Rattle.mini_printer.specs.Ordered.{is_link_over, chain, base_of, IsUnlinked, ended, pushed, chain_parts, is_list, is_piece_first, template_parts, is_binding, is_binding_alone, is_over_binding, is_default, is_namespace, has_default, has_namespace, local_if, rest_if, import_parts, is_template, is_import, is_body, with_body, function, arrow, inner, export_parts, method_parts, property_parts, parts_in_order, seen}
+use Rattle.mini_printer.specs.Ordered.{is_link_over, chain, base_of, IsUnlinked, ended, pushed, chain_parts, is_list, is_piece_first, template_parts, has_default, has_namespace, local_if, rest_if, import_parts, is_template, is_import, is_body, with_body, function, arrow, inner, export_parts, method_parts, property_parts, parts_in_order, seen}
 
 -- ---- parts
 

@@ -1,4 +1,4 @@
-use Rattle.std.proofs.Common.{◌≡◌, ◌<◌, sym, ap, ◌∙◌, arith}
+use Rattle.std.proofs.Common.{sym, ap, ◌∙◌, arith}
 use Rattle.mini_model.specs.Tree.{absent, count}
 use Rattle.mini_node.specs.Walks.{count_with}
 use Rattle.mini_printer.proofs.Orders.{threaded_by, thread_single, thread_left}

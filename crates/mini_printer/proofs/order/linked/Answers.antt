@@ -1,4 +1,4 @@
-use Rattle.std.proofs.Common.{◌≡◌, ◌<◌, nat_eq, sym, ap, subst, ◌∙◌}
+use Rattle.std.proofs.Common.{◌<◌, nat_eq, sym, ap, subst, ◌∙◌}
 use Rattle.std.proofs.lemmas.Result.{IfOk-weaker}
 use Rattle.mini_model.specs.Tree.{count, children}
 use Rattle.mini_printer.specs.Ordered.{IsUnlinked}

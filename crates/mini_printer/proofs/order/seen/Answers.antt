@@ -1,4 +1,4 @@
-use Rattle.std.proofs.Common.{◌≡◌, sym, ◌∙◌}
+use Rattle.std.proofs.Common.{sym, ◌∙◌}
 use Rattle.std.proofs.lemmas.Result.{IfOk-weaker}
 use Rattle.mini_printer.proofs.Orders.{inner_seen, function_seen, arrow_seen, parts_seen}
 use Rattle.mini_printer.proofs.order.seen.Goals as goal
