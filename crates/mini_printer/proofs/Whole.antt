@@ -1,14 +1,13 @@
 -- What holds of a program whose statements are in the order of their text holds of the program.
 use Rattle.std.proofs.Common.{◌≡◌, ℕ, zero, suc, ◌<◌, Bool, true, false, refl, sym, ◌∙◌, ap, subst, List, [], ◌∷◌, length, drop, get_or, arith}
-use Rattle.std.specs.Prelude.{◌&&◌, ◌||◌, Some, None}
+use Rattle.std.specs.Prelude.{◌&&◌, ◌||◌, None}
 use Rattle.std.proofs.lemmas.Bool.{false≢true}
 use Rattle.mini_model.specs.declared.shape.Shape.TheVariants as shape
-use Rattle.mini_model.specs.Tree.{Tree, Trees, node, none, ◌▸◌}
+use Rattle.mini_model.specs.Tree.{Tree, node, none, ◌▸◌}
 use Rattle.mini_print.specs.Token.{Token, Quoted}
 use Rattle.mini_print.specs.Text.{AllLexical, EachLexical, Splits, text_of, is_quotable}
 use Rattle.mini_print.specs.Compact.{SplitsCompactly, compact_text_of}
 use Rattle.mini_print.specs.Grammar.{Leading}
-use Rattle.mini_print.specs.Groups.{GroupsProgram}
 use Rattle.mini_print.specs.Printed.{Style, terminated, shown, directives, printers, lay_block, styled_program, program_is_printable, are_printable, bare_program, is_module_of}
 use Rattle.mini_print.specs.Unprintable.{first_fault, are_directives}
 use Rattle.mini_print.proofs.Split.{splits_alone, text_splits}
