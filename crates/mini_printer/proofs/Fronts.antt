@@ -3,11 +3,10 @@ use Rattle.std.proofs.Common.{◌≡◌, Bool, true, false, refl, sym, ap, ◌�
 use Rattle.std.specs.Prelude.{not, ◌&&◌}
 use Rattle.std.proofs.lemmas.Bool.{false≢true}
 use Rattle.mini_model.specs.Tree.{Tree}
-use Rattle.mini_model.specs.Position.{assignment_level}
 use Rattle.mini_node.specs.Children.{trees_of}
-use Rattle.mini_print.specs.Token.{Token, Punct, Word, LeftParen, Comma}
-use Rattle.mini_print.specs.Grammar.{Goal, Rule, Place, place, permits, is_key_token, begins_statement, begins_import, begins_label, starts_default}
-use Rattle.mini_print.specs.Printed.{Style, Printer, lay, lay_items, by_production, printer, printers}
+use Rattle.mini_print.specs.Token.{Token, Punct, Word, LeftParen}
+use Rattle.mini_print.specs.Grammar.{Goal, Rule, Place, permits, is_key_token, begins_statement, begins_import, begins_label, starts_default}
+use Rattle.mini_print.specs.Printed.{Style, lay, by_production, printer, printers}
 use Rattle.mini_grammar.specs.Firsts.{first_of}
 use Rattle.mini_grammar.specs.Pieces.{piece_parts, parts_in, pieces_of, own, is_mark, takes_part, look_of}
 use Rattle.mini_grammar.specs.declared.grammar.Lookahead.{Lookahead}
@@ -45,23 +44,6 @@ parted_front o s g h x xs ys t us ts e f m k =
     front_same o (λ r. lay s g (parts_in h ys) (printers s (trees_of ts)) r) (λ r. lay s g (piece_parts h x []) (printer s t ∷ []) (lay s g (parts_in h xs) (printers s (trees_of us)) r))
     (λ r. sym (part_piece s g h x xs ys t us ts r e f m))
     (front_before o (λ r. lay s g (piece_parts h x []) (printer s t ∷ []) r) (λ r. lay s g (parts_in h xs) (printers s (trees_of us)) r) k)
-
--- the tokens behind the first item of a list
-behind_item : Goal → List Printer → List Token → List Token
-behind_item g [] r = r
-behind_item g (k ∷ ks) r = Punct Comma ∷ lay_items g false (k ∷ ks) r
-
-item_first : (g : Goal) (k : Printer) (ks : List Printer) (r : List Token) → k.one (place g assignment_level) (behind_item g ks r) ≡ lay_items g false (k ∷ ks) r
-unfolding behind_item
-item_first g k [] r = refl
-item_first g k (l ∷ ks) r = refl
-
-pub items_front : (o : Option Token) (s : Style) (g : Goal) (gaps : Bool) (t : Tree) (us ts : List Tree) (p : Place) → gaps ≡ false → ts ≡ t ∷ us → p ≡ place g assignment_level → IsFront o (λ r. (printer s t).one p r) → IsFront o (λ r. lay_items g gaps (printers s (trees_of ts)) r)
-items_front o s g gaps t us ts p e d a k =
-    front_same o (λ r. lay_items g gaps (printers s (trees_of ts)) r) (λ r. (printer s t).one p (behind_item g (printers s (trees_of us)) r))
-    (λ r. ap (λ p. (printer s t).one p (behind_item g (printers s (trees_of us)) r)) a ∙ item_first g (printer s t) (printers s (trees_of us)) r
-    ∙ ap (λ b. lay_items g b (printers s (trees_of (t ∷ us))) r) (sym e) ∙ ap (λ vs. lay_items g gaps (printers s (trees_of vs)) r) (sym d))
-    (front_before o (λ r. (printer s t).one p r) (λ r. behind_item g (printers s (trees_of us)) r) k)
 
 -- a restriction forbids what begins so
 
