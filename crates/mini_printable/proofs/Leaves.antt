@@ -120,8 +120,8 @@ pattern_taker strict (node shape.ArrayPattern xs n ts) e = refl
 pattern_taker strict (node h xs n ts) e = absurd (never (is_whole a_pattern h xs n ts) e)
 
 -- one with a default, as an element and as a parameter
-defaulted : (g : Goal) (c : Bool) (n : ℕ) (u v : Tree) → taker (shape_of u) ≡ ABinding → is_absent v ≡ false → (is_wanted g (Some (turned g (element_of ABinding))) && (is_printable (a_part Bound) u && (is_printable (a_perhaps Anything) v && true))) ≡ true → wants (form (turned g (element_of ABinding))) ≡ a_part Bound ∷ a_perhaps Anything ∷ [] → stands_at g (node shape.AssignmentPattern [] n (u ▸ (v ▸ none))) ≡ true
-defaulted g c n (node h xs m us) v t a e w =
+defaulted : (g : Goal) (n : ℕ) (u v : Tree) → taker (shape_of u) ≡ ABinding → is_absent v ≡ false → (is_wanted g (Some (turned g (element_of ABinding))) && (is_printable (a_part Bound) u && (is_printable (a_perhaps Anything) v && true))) ≡ true → wants (form (turned g (element_of ABinding))) ≡ a_part Bound ∷ a_perhaps Anything ∷ [] → stands_at g (node shape.AssignmentPattern [] n (u ▸ (v ▸ none))) ≡ true
+defaulted g n (node h xs m us) v t a e w =
     subst (λ k. (is_wanted g (Some (turned g (element_of k))) && (not (is_absent v) && printed.fill (Some (wants (form (turned g (element_of k))))) (node h xs m us ▸ (v ▸ none)))) ≡ true) (sym t)
     (subst (λ d. (is_wanted g (Some (turned g (element_of ABinding))) && (not d && printed.fill (Some (wants (form (turned g (element_of ABinding))))) (node h xs m us ▸ (v ▸ none)))) ≡ true) (sym a)
     (subst (λ ws. (is_wanted g (Some (turned g (element_of ABinding))) && printed.fill (Some ws) (node h xs m us ▸ (v ▸ none))) ≡ true) (sym w) e))
@@ -131,7 +131,7 @@ default_parts inside g n ts w b e k =
     over_two inside false (one a_pattern) (one (an_inner an_expression)) (λ us. stands_at g (node shape.AssignmentPattern [] n (all_shown us)) ≡ true)
     (λ t u bt bu et eu kt ku.
     let held = value_stands (shown u) (bu.seat inside inner false refl eu ku) in
-    defaulted g true n (shown t) (shown u) (pattern_taker inside t et) (stands_present Anything (shown u) held) (both (is_wanted g (Some (turned g (element_of ABinding)))) (is_printable (a_part Bound) (shown t) && (is_printable (a_perhaps Anything) (shown u) && true)) w.0 (and_two (is_printable (a_part Bound) (shown t)) (is_printable (a_perhaps Anything) (shown u)) (bt.seat inside pattern false refl et kt) (perhaps_of Anything (shown u) held))) w.1)
+    defaulted g n (shown t) (shown u) (pattern_taker inside t et) (stands_present Anything (shown u) held) (both (is_wanted g (Some (turned g (element_of ABinding)))) (is_printable (a_part Bound) (shown t) && (is_printable (a_perhaps Anything) (shown u) && true)) w.0 (and_two (is_printable (a_part Bound) (shown t)) (is_printable (a_perhaps Anything) (shown u)) (bt.seat inside pattern false refl et kt) (perhaps_of Anything (shown u) held))) w.1)
     ts b e k
 
 -- without a default it stands in the goal around the pattern's

@@ -10,3 +10,4 @@ pub mod Members
 pub mod Statements
 pub mod Modules
 pub mod Served
+pub mod Read

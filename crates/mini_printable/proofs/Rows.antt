@@ -5,7 +5,7 @@ use Rattle.std.proofs.lemmas.Bool.{false≢true, eq-eqb}
 use Rattle.mini_model.specs.declared.name.Name.{Name}
 use Rattle.mini_model.specs.declared.shape.Shape.{Shape}
 use Rattle.mini_model.specs.declared.shape.Shape.TheVariants as shape
-use Rattle.mini_model.specs.Tree.{Tree, Trees, node, none, ◌▸◌, count, children, child_or_absent, shape_of, is_absent}
+use Rattle.mini_model.specs.Tree.{Tree, Trees, node, none, ◌▸◌, count, children, child_or_absent, is_absent}
 use Rattle.mini_model.specs.Weight.{same_text}
 use Rattle.mini_accept.specs.WellShaped as accept
 use Rattle.mini_accept.specs.WellShaped.{Class, Slot, one, one_or_absent, many, many_or_holes, many_and_rest, many_or_holes_and_rest, an_inner, a_binding, a_label, a_private_name, these, each, each_or_last, slots_of, filling, filling_by, is_whole, has_names, is_strict_in, fits}
@@ -214,30 +214,3 @@ pub holes_rest_case : (strict l : Bool) (c r : Class) (P : Tree → Type 0) (h :
 holes_rest_case strict l c r P shape.Listed [] n ts e k f = f (and_r (is_whole c shape.Listed [] n ts) (accept.fill strict (each_or_last (one_or_absent c) (one r)) ts) e) k
 holes_rest_case strict l c r P shape.Listed (x ∷ xs) n ts e k f = absurd (false≢true e)
 holes_rest_case strict l c r P h xs n ts e k f = absurd (never (is_whole c h xs n ts) e)
-
--- ---- what a node is seen as has the shape that it had, but for an inner expression and for
--- directives
-
-abbrev pub plain_shape : Shape → Shape
-plain_shape (shape.Function d g ds) = shape.Function d g []
-plain_shape (shape.ArrowFunctionExpression ds) = shape.ArrowFunctionExpression []
-plain_shape h = h
-
-abbrev pub is_inner_shape : Shape → Bool
-is_inner_shape shape.InnerExpression = true
-is_inner_shape _ = false
-
-pub Shaped : Shape → Tree → Type 0
-Shaped h u = (shape_of u ≡ h) ⊎ (shape_of u ≡ plain_shape h)
-
-pub template_shape : (xs : List Name) (n : ℕ) (us : Trees) → shape_of (seen shape.TemplateLiteral xs n us) ≡ shape.TemplateLiteral
-template_shape xs n (node shape.Listed [] k qs ▸ (node shape.Listed [] j es ▸ none)) = refl
-template_shape xs n us = refl
-
-pub import_shape : (xs : List Name) (n : ℕ) (us : Trees) → shape_of (seen shape.ImportDeclaration xs n us) ≡ shape.ImportDeclaration
-import_shape xs n (node shape.Listed [] k ss ▸ (t ▸ none)) = refl
-import_shape xs n us = refl
-
-pub chain_shape : (xs : List Name) (n : ℕ) (us : Trees) → shape_of (seen shape.ChainExpression xs n us) ≡ shape.ChainExpression
-chain_shape xs n (t ▸ none) = refl
-chain_shape xs n us = refl

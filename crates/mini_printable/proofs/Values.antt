@@ -67,31 +67,31 @@ arrow_body inside ds n p (node h xs m us) b d q e k v = subst (λ fs. stands_at 
 
 -- ---- a `-` stands over no positive number
 
-pub positive_seen : (strict inside : Bool) (h : Shape) (xs : List Name) (n : ℕ) (ts : Trees) → fits strict (one an_expression) (node h xs n ts) ≡ true → accept.is_not_positive_number (node h xs n ts) ≡ true → is_positive_literal (shown (node h xs n ts)) ≡ false
-positive_seen strict inside shape.InnerExpression xs n ts e v = absurd (never (is_whole an_expression shape.InnerExpression xs n ts) e)
-positive_seen strict inside shape.ImportDeclaration xs n ts e v = absurd (never (is_whole an_expression shape.ImportDeclaration xs n ts) e)
-positive_seen strict inside shape.ExportSpecifier xs n ts e v = absurd (never (is_whole an_expression shape.ExportSpecifier xs n ts) e)
-positive_seen strict inside (shape.MethodDefinition k c s) xs n ts e v = absurd (never (is_whole an_expression (shape.MethodDefinition k c s) xs n ts) e)
-positive_seen strict inside (shape.PropertyDefinition c s) xs n ts e v = absurd (never (is_whole an_expression (shape.PropertyDefinition c s) xs n ts) e)
-positive_seen strict inside shape.ChainExpression xs n none e v = refl
-positive_seen strict inside shape.ChainExpression xs n (t ▸ none) e v = refl
-positive_seen strict inside shape.ChainExpression xs n (t ▸ (u ▸ ts)) e v = refl
-positive_seen strict inside shape.TemplateLiteral xs n ts e v = template xs n (all_shown ts)
+pub positive_seen : (strict : Bool) (h : Shape) (xs : List Name) (n : ℕ) (ts : Trees) → fits strict (one an_expression) (node h xs n ts) ≡ true → accept.is_not_positive_number (node h xs n ts) ≡ true → is_positive_literal (shown (node h xs n ts)) ≡ false
+positive_seen strict shape.InnerExpression xs n ts e v = absurd (never (is_whole an_expression shape.InnerExpression xs n ts) e)
+positive_seen strict shape.ImportDeclaration xs n ts e v = absurd (never (is_whole an_expression shape.ImportDeclaration xs n ts) e)
+positive_seen strict shape.ExportSpecifier xs n ts e v = absurd (never (is_whole an_expression shape.ExportSpecifier xs n ts) e)
+positive_seen strict (shape.MethodDefinition k c s) xs n ts e v = absurd (never (is_whole an_expression (shape.MethodDefinition k c s) xs n ts) e)
+positive_seen strict (shape.PropertyDefinition c s) xs n ts e v = absurd (never (is_whole an_expression (shape.PropertyDefinition c s) xs n ts) e)
+positive_seen strict shape.ChainExpression xs n none e v = refl
+positive_seen strict shape.ChainExpression xs n (t ▸ none) e v = refl
+positive_seen strict shape.ChainExpression xs n (t ▸ (u ▸ ts)) e v = refl
+positive_seen strict shape.TemplateLiteral xs n ts e v = template xs n (all_shown ts)
   where
     template : (xs : List Name) (n : ℕ) (us : Trees) → is_positive_literal (seen shape.TemplateLiteral xs n us) ≡ false
     template xs n (node shape.Listed [] k qs ▸ (node shape.Listed [] j es ▸ none)) = refl
     template xs n us = refl
-positive_seen strict inside (shape.Function d g ds) xs n none e v = refl
-positive_seen strict inside (shape.Function d g ds) xs n (i ▸ none) e v = refl
-positive_seen strict inside (shape.Function d g ds) xs n (i ▸ (p ▸ none)) e v = refl
-positive_seen strict inside (shape.Function d g ds) xs n (i ▸ (p ▸ (t ▸ none))) e v = refl
-positive_seen strict inside (shape.Function d g ds) xs n (i ▸ (p ▸ (t ▸ (u ▸ ts)))) e v = refl
-positive_seen strict inside (shape.ArrowFunctionExpression ds) xs n none e v = refl
-positive_seen strict inside (shape.ArrowFunctionExpression ds) xs n (p ▸ none) e v = refl
-positive_seen strict inside (shape.ArrowFunctionExpression ds) xs n (p ▸ (t ▸ none)) e v = refl
-positive_seen strict inside (shape.ArrowFunctionExpression ds) xs n (p ▸ (t ▸ (u ▸ ts))) e v = refl
-positive_seen strict inside (shape.NumericLiteral (pos (suc m))) xs n ts e v = absurd (false≢true v)
-positive_seen strict inside h xs n ts e v = refl
+positive_seen strict (shape.Function d g ds) xs n none e v = refl
+positive_seen strict (shape.Function d g ds) xs n (i ▸ none) e v = refl
+positive_seen strict (shape.Function d g ds) xs n (i ▸ (p ▸ none)) e v = refl
+positive_seen strict (shape.Function d g ds) xs n (i ▸ (p ▸ (t ▸ none))) e v = refl
+positive_seen strict (shape.Function d g ds) xs n (i ▸ (p ▸ (t ▸ (u ▸ ts)))) e v = refl
+positive_seen strict (shape.ArrowFunctionExpression ds) xs n none e v = refl
+positive_seen strict (shape.ArrowFunctionExpression ds) xs n (p ▸ none) e v = refl
+positive_seen strict (shape.ArrowFunctionExpression ds) xs n (p ▸ (t ▸ none)) e v = refl
+positive_seen strict (shape.ArrowFunctionExpression ds) xs n (p ▸ (t ▸ (u ▸ ts))) e v = refl
+positive_seen strict (shape.NumericLiteral (pos (suc m))) xs n ts e v = absurd (false≢true v)
+positive_seen strict h xs n ts e v = refl
 
 -- ---- parts that choose the production
 
@@ -163,7 +163,7 @@ value_row strict inside l (shape.UnaryExpression unary.UnaryNegation) [] n ts b 
     ts b e k v
   where
     negation : (n : ℕ) (t : Tree) → Served t → fits inside (one an_expression) t ≡ true → is_clean false t ≡ true → accept.is_not_positive_number t ≡ true → stands_at Anything (node (shape.UnaryExpression unary.UnaryNegation) [] n (shown t ▸ none)) ≡ true
-    negation n (node h xs m us) b e k v = both (not (is_positive_literal (shown (node h xs m us)))) (is_printable (a_part Anything) (shown (node h xs m us)) && true) (ap not (positive_seen inside inside h xs m us e v)) (and_one (is_printable (a_part Anything) (shown (node h xs m us))) (b.seat inside value false refl e k))
+    negation n (node h xs m us) b e k v = both (not (is_positive_literal (shown (node h xs m us)))) (is_printable (a_part Anything) (shown (node h xs m us)) && true) (ap not (positive_seen inside h xs m us e v)) (and_one (is_printable (a_part Anything) (shown (node h xs m us))) (b.seat inside value false refl e k))
 value_row strict inside l (shape.UnaryExpression o) [] n ts b e k v = parts ts b inside (value ∷ []) false refl e k
 value_row strict inside l (shape.UpdateExpression o true) [] n ts b e k v = parts ts b inside (simple_target ∷ []) false refl e k
 value_row strict inside l (shape.UpdateExpression o false) [] n ts b e k v = parts ts b inside (simple_target ∷ []) false refl e k

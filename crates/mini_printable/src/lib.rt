@@ -1,16 +1,24 @@
-//! Law: which well-shaped programs have a text.
+//! Laws: which programs of ESTree have a text.
 #![tactic(auto)]
 
-ghost use Rattle.std.specs.Prelude.{◌≡◌, true, None};
+ghost use Rattle.std.specs.Prelude.{◌≡◌, ℕ, true, None, Ok};
+ghost use Rattle.serde_json.specs.Data.{Data};
 ghost use Rattle.mini_model.specs.Tree.{Tree};
+ghost use Rattle.mini_accept.specs.Accept.{program_at};
 ghost use Rattle.mini_accept.specs.WellShaped.{IsWellShaped};
 ghost use Rattle.mini_print.specs.Printed.{program_is_printable};
 ghost use Rattle.mini_print.specs.Unprintable.{first_fault};
 ghost use Rattle.mini_printable.specs.Unresolved.{is_unresolved};
 
 /// A program of ESTree without a fault is one that the grammar of texts has (ECMA-262, 11 to 16):
-/// what keeps a well-shaped program from a text is a first fault, and nothing else. It is as it was
-/// read: no declarator carries a name.
+/// what keeps a well-shaped program from a text is a first fault, and nothing else. No declarator of
+/// it carries a name, as one does that writes another variable than the one that it declares.
 pub fn programs_are_printable()
     ensures { (t : Tree) → IsWellShaped t → first_fault t ≡ None → is_unresolved t ≡ true → program_is_printable t ≡ true }
+{}
+
+/// A program that is read is one that the grammar of texts has, or it has a first fault: the texts
+/// of ESTree's programs lack no production.
+pub fn read_programs_are_printable()
+    ensures { (depth : ℕ) (value : Data) (t : Tree) (numbers : ℕ) → program_at depth value ≡ Ok (t, numbers) → first_fault t ≡ None → program_is_printable t ≡ true }
 {}
