@@ -9,8 +9,8 @@ use Rattle.mini_model.specs.declared.operator.UnaryOperator.TheVariants as unary
 use Rattle.mini_model.specs.declared.operator.UpdateOperator.TheVariants.{Increment, Decrement}
 use Rattle.mini_model.specs.Tree.{Tree, Trees}
 use Rattle.mini_print.specs.Token.{Token, Word, Punct, Comma, Semicolon, RightParen, RightBracket, RightBrace, Arrow as ArrowToken, LeftBrace, Times, Dot, Colon, LeftParen, Quoted, Number, OptionalDot, LeftBracket, Private, Assigns, Ellipsis, TemplateMiddle, TemplateTail}
-use Rattle.mini_print.specs.Grammar.{Goal, Anything, WithoutIn, Callee, Body, Element, ArrowBlock, FunctionBody, NoBrace, permits, is_left_brace, Sort, Values, Statements, Properties, Bodies, sort, heir, Place, Rule, Parenthesized, Arrow, Prefix, Unary, Variables, Zero, One, Two, Gaps, Equals, Part, token, left, part, commas, lookahead, form, level, is_of, excluded, NewTarget, Yield, YieldFrom, GeneratorExpression, GeneratorDeclaration, CatchParam, CatchBare, Catches, is_allowed, same_sort, rule_sort, New, FunctionExpression, FunctionDeclaration, CatchParam, perhaps, option, statements, unwritten, BoundKeyValue, BoundShorthand, Shorthand, BoundProperties, KeyValue, has, ends_property, is_colon_next, ForIn, ForOf, ForDeclared, ForDeclaredIn, ForDeclaredOf, HeadVariables, fork, For, is_word_of, MethodProperty, Getter, Setter, GeneratorProperty, MethodFunction, GeneratorMethod, Methods, GeneratorMethods, Key, KeyWord, KeyText, KeyNumber, KeyName, Chain, FirstMember, FirstCall, LinkCall, OptionalMember, Link, FirstLinks, Links, Defaulted, BoundDefault, ComputedMethod, ComputedGenerator, BoundElements, Computed, Rest, ClassPlain, ClassMethod, ClassComputedMethod, ClassGenerator, ClassComputedGenerator, ClassGetter, ClassComputedGetter, ClassSetter, ClassComputedSetter, Field, ComputedField, StaticElement, StaticInit, PrivateKey, ClassKey, ClassElements, ArrayTarget, ObjectTarget, PatternItem, ValueItem, PatternRest, ValueRest, TargetShorthand, TargetDefault, TargetKeyValue, PatternAssignment, TargetPattern, Target, TargetElements, TargetProperties, Object, Array, YieldBare, ends_yield, Declarations, DefaultDeclarations, ImportItems, ExportItems, ForwardItems, ImportDefault, ImportDefaultNames, ImportDefaultNamespace, ImportShort, ImportAs, ExportNames, ExportFrom, ExportDeclared, ExportValue, ExportDefault, ExportShort, ForwardName, ForwardText, ForwardAs, DeclaredVariables, DeclaredFunction, DefaultFunction, DefaultClass, ForPatternIn, ForPatternOf}
-use Rattle.mini_print.specs.Groups.{Groups, by_rule, Row, end, a_token, a_left, a_part, a_list, a_lookahead, present, missing, with, without, a_silent}
+use Rattle.mini_print.specs.Grammar.{Goal, Anything, WithoutIn, Callee, Body, Element, ArrowBlock, FunctionBody, NoBrace, permits, is_left_brace, Sort, Values, Statements, Properties, Bodies, sort, heir, Place, Rule, Parenthesized, Arrow, Prefix, Unary, Variables, Zero, One, Two, Gaps, Equals, Part, token, left, part, commas, lookahead, form, level, is_of, excluded, NewTarget, Yield, YieldFrom, GeneratorExpression, GeneratorDeclaration, CatchParam, CatchBare, Catches, is_allowed, same_sort, rule_sort, New, FunctionExpression, FunctionDeclaration, CatchParam, perhaps, option, statements, unwritten, BoundKeyValue, BoundShorthand, Shorthand, BoundProperties, KeyValue, has, ends_property, is_colon_next, ForIn, ForOf, ForDeclared, ForDeclaredIn, ForDeclaredOf, HeadVariables, fork, For, is_word_of, MethodProperty, Getter, Setter, GeneratorProperty, MethodFunction, GeneratorMethod, Methods, GeneratorMethods, Key, KeyWord, KeyText, KeyNumber, KeyName, Chain, FirstMember, FirstCall, LinkCall, OptionalMember, Link, FirstLinks, Links, Defaulted, BoundDefault, ComputedMethod, ComputedGenerator, BoundElements, Computed, Rest, ClassPlain, ClassMethod, ClassComputedMethod, ClassGenerator, ClassComputedGenerator, ClassGetter, ClassComputedGetter, ClassSetter, ClassComputedSetter, Field, ComputedField, StaticElement, StaticInit, PrivateKey, ClassKey, ClassElements, ArrayTarget, ObjectTarget, PatternItem, ValueItem, PatternRest, ValueRest, TargetShorthand, TargetDefault, TargetKeyValue, PatternAssignment, TargetPattern, Target, TargetElements, TargetProperties, Object, Array, YieldBare, ends_yield, Declarations, DefaultDeclarations, ImportItems, ExportItems, ForwardItems, ImportDefault, ImportDefaultNames, ImportDefaultNamespace, ImportShort, ImportAs, ExportNames, ExportFrom, ExportDeclared, ExportValue, ExportDefault, ExportShort, ForwardName, ForwardText, ForwardAs, DeclaredVariables, DeclaredFunction, DefaultFunction, DefaultClass, ForPatternIn, ForPatternOf, semicolon, inserts}
+use Rattle.mini_print.specs.Groups.{Groups, by_rule, Row, end, a_token, a_left, a_part, a_list, a_lookahead, present, missing, with, without, a_silent, a_semicolon, inserted}
 use Rattle.mini_print.specs.Printed.{is_statements}
 use Rattle.mini_print.proofs.Reader.{start_at, arrow_rule, is_brace_next, prefix, power, next_power, ends, is_left_paren, is_arrow_next, tail, bars, is_star_next, is_dot_next, is_paren_next, statement_at, property_at, bound_at, end_words, is_word_next, accessor, first_link, optional_link, link_at, is_equals_next, is_bracket_next, computed_accessor, is_name_end, class_rule, keyed_member, worded_member, member_at, rest_element, element_at, target_property_at}
 use Rattle.mini_print.proofs.Told.{is_values, inner, ToldBy, Told, told, ToldByTwo, is_special, ToldUnless, is_forked, both, untrue}
@@ -52,6 +52,7 @@ tells (a_token g x (option w o n ∷ ps) ks ts r d) s h t l p = told_by (is_left
 tells (a_token g x (statements i ∷ ps) ks ts r d) s h t l p = told_by (is_left_paren x) s h x p t ts
 tells (a_token g x (unwritten v ∷ ps) ks ts r d) s h t l p = told_by (is_left_paren x) s h x p t ts
 tells (a_token g x (fork ∷ ps) ks ts r d) s h t l p = told_by (is_left_paren x) s h x p t ts
+tells (a_token g x (semicolon ∷ ps) ks ts r d) s h t l p = told_by (is_left_paren x) s h x p t ts
 tells (a_left g w n m' ps k ks ts m r c e) s h t l p = absurd (false≢true (sym l))
 tells (a_part g (Some i) n m' ps k ks ts m r c e) s h t l p = t ts
 tells (a_lookahead g c ps ks ts r p' d) s h t l p = t ts p'
@@ -398,9 +399,15 @@ key_is_no_end (Private s ∷ ts) e = (refl, refl)
 key_is_no_end (x ∷ ts) e = absurd (false≢true e)
 
 -- what stands behind the name of a field
-pub field_end : {g : Goal} {ks : Trees} {ts r : List Token} → Row g (option Equals (Some Anything) 1 ∷ token (Punct Semicolon) ∷ []) ks ts r → (is_name_end ts ≡ true) × (is_paren_next ts ≡ false)
+inserted_end : (ts : List Token) → inserts ts ≡ true → (is_name_end ts ≡ true) × (is_paren_next ts ≡ false)
+inserted_end [] e = (refl, refl)
+inserted_end (Punct RightBrace ∷ ts) e = (refl, refl)
+inserted_end (x ∷ ts) e = absurd (false≢true e)
+
+pub field_end : {g : Goal} {ks : Trees} {ts r : List Token} → Row g (option Equals (Some Anything) 1 ∷ semicolon ∷ []) ks ts r → (is_name_end ts ≡ true) × (is_paren_next ts ≡ false)
 field_end (with _ _ _ _ _ _ _ _ _ _ c d) = (refl, refl)
-field_end (without _ _ _ _ _ _ _ _ f (a_token _ _ _ _ _ _ d)) = (refl, refl)
+field_end (without _ _ _ _ _ _ _ _ f (a_semicolon _ _ _ _ _ d)) = (refl, refl)
+field_end (without _ _ _ _ _ _ _ _ f (inserted _ _ _ ts _ i d)) = inserted_end ts i
 
 pub class_method_begins : {g : Goal} {ks : Trees} {ts r : List Token} → Row g (form ClassMethod) ks ts r → member_at ts ≡ Some ClassMethod
 class_method_begins (a_part _ _ _ _ _ k _ _ m _ c (a_part _ _ _ _ _ _ _ _ _ _ v d)) = key_then_end refl c (paren_ends m (first_open v)) ∙ ap (λ b. Some (if b then ClassMethod else Field)) (first_open v)

@@ -8,7 +8,7 @@ use Rattle.mini_print.proofs.Tidy.{Starting, starts_clause}
 use Rattle.mini_print.proofs.Reader.{is_right_brace, ends}
 use Rattle.mini_model.specs.Weight.{same_text}
 use Rattle.mini_print.specs.Token.{Token, Punct, RightParen, RightBrace, Comma, Word, RightBracket}
-use Rattle.mini_print.specs.Grammar.{Sort, Values, Statements, Declarators, sort, is_of, rule_sort, excluded, Statement, Arrow, BindingName, left, lookahead, perhaps, option, statements, Lookahead, Goal, Anything, Rule, Reference, NumberLiteral, BigIntLiteral, TextLiteral, RegExpLiteral, Null, This, True, False, Parenthesized, Array, Member, Index, New, Import, Call, PropertyName, Postfix, Prefix, Unary, Binary, Logical, Conditional, Assignment, Sequence, unwritten, Part, token, part, commas, form, has, opens, is_opener, Else, Equals, Block, Variables, Declarator, Empty, ExpressionStatement, If, DoWhile, While, For, Return, Throw, Debugger, Object, KeyValue, Computed, Spread, FunctionExpression, FunctionDeclaration, FunctionBody, SpreadItem, ArrowBlock, Break, Continue, Properties, Key, SuperMember, SuperIndex, SuperCall, NewTarget, ImportMeta, PrivateName, PrivateIn, Yield, YieldFrom, GeneratorExpression, GeneratorDeclaration, Label, Switch, Case, DefaultCase, Try, CatchParam, CatchBare, BlockPart, Cases, CaseEnd, Catch, Finally, ends_clause, Opener, opener, ObjectPattern, ArrayPattern, Rest, BoundKeyValue, BoundComputed, BoundShorthand, BoundRest, Shorthand, BoundProperties, Ended, ends_property, ends_property_at, ForIn, ForOf, ForDeclared, ForDeclaredIn, ForDeclaredOf, HeadVariables, HeadDeclarations, fork, HeadEnd, ends_head, ends_head_at, MethodProperty, Getter, Setter, GeneratorProperty, MethodFunction, GeneratorMethod, KeyWord, KeyText, KeyNumber, KeyName, WholeTemplate, Template, MiddlePiece, TailPiece, TaggedTemplate, TagWhole, TagParts, Chain, FirstMember, FirstIndex, FirstCall, LinkMember, LinkIndex, LinkCall, OptionalMember, OptionalIndex, OptionalCall, Link, Defaulted, BoundDefault, NamedDefault, ComputedMethod, ComputedGetter, ComputedSetter, ComputedGenerator, BoundElements, DefaultsOf, ClassPlain, ClassNamed, ClassDeclared, ClassBody, ClassMethod, ClassComputedMethod, ClassGenerator, ClassComputedGenerator, ClassGetter, ClassComputedGetter, ClassSetter, ClassComputedSetter, Field, ComputedField, StaticElement, StaticInit, PrivateKey, ClassBraces, ClassElements, Extends, Leading, Directive, NoDirective, ArrayTarget, ObjectTarget, PatternItem, ValueItem, PatternRest, ValueRest, TargetShorthand, TargetDefault, TargetKeyValue, TargetComputed, TargetPropertyRest, PatternAssignment, TargetElements, TargetProperties, YieldBare, YieldEnd, ImportItems, ExportItems, ForwardItems, ImportBare, ImportNames, ImportNamespace, ImportDefault, ImportDefaultNames, ImportDefaultNamespace, ImportShort, ImportAs, ExportNames, ExportFrom, ExportAll, ExportDeclared, ExportValue, ExportDefault, ExportShort, ExportAs, ForwardName, ForwardText, ForwardAs, DeclaredVariables, DeclaredFunction, DeclaredGenerator, DeclaredClass, DefaultFunction, DefaultGenerator, DefaultClass, DefaultClassNamed, ForPatternIn, ForPatternOf}
+use Rattle.mini_print.specs.Grammar.{Sort, Values, Statements, Declarators, sort, is_of, rule_sort, excluded, Statement, Arrow, BindingName, left, lookahead, perhaps, option, statements, Lookahead, Goal, Anything, Rule, Reference, NumberLiteral, BigIntLiteral, TextLiteral, RegExpLiteral, Null, This, True, False, Parenthesized, Array, Member, Index, New, Import, Call, PropertyName, Postfix, Prefix, Unary, Binary, Logical, Conditional, Assignment, Sequence, unwritten, Part, token, part, commas, form, has, opens, is_opener, Else, Equals, Block, Variables, Declarator, Empty, ExpressionStatement, If, DoWhile, While, For, Return, Throw, Debugger, Object, KeyValue, Computed, Spread, FunctionExpression, FunctionDeclaration, FunctionBody, SpreadItem, ArrowBlock, Break, Continue, Properties, Key, SuperMember, SuperIndex, SuperCall, NewTarget, ImportMeta, PrivateName, PrivateIn, Yield, YieldFrom, GeneratorExpression, GeneratorDeclaration, Label, Switch, Case, DefaultCase, Try, CatchParam, CatchBare, BlockPart, Cases, CaseEnd, Catch, Finally, ends_clause, Opener, opener, ObjectPattern, ArrayPattern, Rest, BoundKeyValue, BoundComputed, BoundShorthand, BoundRest, Shorthand, BoundProperties, Ended, ends_property, ends_property_at, ForIn, ForOf, ForDeclared, ForDeclaredIn, ForDeclaredOf, HeadVariables, HeadDeclarations, fork, HeadEnd, ends_head, ends_head_at, MethodProperty, Getter, Setter, GeneratorProperty, MethodFunction, GeneratorMethod, KeyWord, KeyText, KeyNumber, KeyName, WholeTemplate, Template, MiddlePiece, TailPiece, TaggedTemplate, TagWhole, TagParts, Chain, FirstMember, FirstIndex, FirstCall, LinkMember, LinkIndex, LinkCall, OptionalMember, OptionalIndex, OptionalCall, Link, Defaulted, BoundDefault, NamedDefault, ComputedMethod, ComputedGetter, ComputedSetter, ComputedGenerator, BoundElements, DefaultsOf, ClassPlain, ClassNamed, ClassDeclared, ClassBody, ClassMethod, ClassComputedMethod, ClassGenerator, ClassComputedGenerator, ClassGetter, ClassComputedGetter, ClassSetter, ClassComputedSetter, Field, ComputedField, StaticElement, StaticInit, PrivateKey, ClassBraces, ClassElements, Extends, Leading, Directive, NoDirective, ArrayTarget, ObjectTarget, PatternItem, ValueItem, PatternRest, ValueRest, TargetShorthand, TargetDefault, TargetKeyValue, TargetComputed, TargetPropertyRest, PatternAssignment, TargetElements, TargetProperties, YieldBare, YieldEnd, ImportItems, ExportItems, ForwardItems, ImportBare, ImportNames, ImportNamespace, ImportDefault, ImportDefaultNames, ImportDefaultNamespace, ImportShort, ImportAs, ExportNames, ExportFrom, ExportAll, ExportDeclared, ExportValue, ExportDefault, ExportShort, ExportAs, ForwardName, ForwardText, ForwardAs, DeclaredVariables, DeclaredFunction, DeclaredGenerator, DeclaredClass, DefaultFunction, DefaultGenerator, DefaultClass, DefaultClassNamed, ForPatternIn, ForPatternOf, semicolon}
 use Rattle.mini_print.specs.Printed.{is_statements, sort_of, wanted_goal, plain}
 use Rattle.mini_print.proofs.Placed.{rule_sort_is, Serves, value_serves, limit}
 
@@ -48,6 +48,7 @@ After s Statements [] = is_statements s ≡ true
 After s Statements (token x ∷ ps) = (is_opener Catch x ≡ false) × (is_opener Finally x ≡ false)
 After s Statements _ = ⊥
 After s Declarators (token x ∷ ps) = is_opener Equals x ≡ false
+After s Declarators (semicolon ∷ ps) = Unit {0}
 After s Declarators (lookahead HeadEnd ∷ []) = s ≡ HeadDeclarations
 After s Declarators _ = ⊥
 After s HeadDeclarations (fork ∷ token x ∷ ps) = ends_head_at x ≡ true
@@ -125,6 +126,7 @@ ShutBefore j w = ⊥
 -- what stands where the part is absent doesn't begin as it does
 abbrev pub Shut : Sort → Opener → List Part → Type 0
 Shut s w (token x ∷ ps) = is_opener w x ≡ false
+Shut s w (semicolon ∷ ps) = Unit {0}
 Shut s w [] = (r : List Token) → Ready s r → opens w r ≡ false
 Shut s w (option v o n ∷ []) = (is_opener w (opener v) ≡ false) × ((r : List Token) → Ready s r → opens w r ≡ false)
 Shut s w (lookahead Ended ∷ []) = (r : List Token) → Ready s r → opens w r ≡ false
@@ -151,6 +153,7 @@ Low k s (perhaps i ∷ ps) = ((stands_in_rows (sort i) ≡ false) × After s (so
 Low k s (statements i ∷ ps) = (Tail s i ps × InBlock i) × Low k s ps
 Low k s (unwritten v ∷ ps) = Low k s ps
 Low k s (fork ∷ ps) = Low k s ps
+Low k s (semicolon ∷ ps) = Low k s ps
 Low k s (option w o n ∷ ps) = ((stands_in_rows (sort_of o) ≡ false) × Heir s o × (n ≤ limit (wanted_goal o)) × After s (sort_of o) ps × Shut s w ps) × Low k s ps
 
 -- the first part of an expression is one
@@ -254,8 +257,8 @@ low ClassGetter v = ((tt, omega arith, tt), ((tt, omega arith, tt), tt))
 low ClassComputedGetter v = ((tt, omega arith, tt), ((tt, omega arith, tt), tt))
 low ClassSetter v = ((tt, omega arith, tt), ((tt, omega arith, tt), tt))
 low ClassComputedSetter v = ((tt, omega arith, tt), ((tt, omega arith, tt), tt))
-low Field v = ((tt, omega arith, tt), ((refl, tt, omega arith, tt, refl), tt))
-low ComputedField v = ((tt, omega arith, tt), ((refl, tt, omega arith, tt, refl), tt))
+low Field v = ((tt, omega arith, tt), ((refl, tt, omega arith, tt, tt), tt))
+low ComputedField v = ((tt, omega arith, tt), ((refl, tt, omega arith, tt, tt), tt))
 low StaticElement v = ((tt, omega arith, tt), tt)
 low StaticInit v = (((refl, refl), (refl, no_catch)), tt)
 low (PrivateKey s) v = tt
@@ -285,7 +288,7 @@ low OptionalCall v = ((refl, tt), tt)
 low Arrow v = ((refl, refl), (refl, ((refl, omega arith, tt), tt)))
 low (BindingName s) v = tt
 low Block v = (((refl, refl), (refl, no_catch)), tt)
-low (Variables k) v = ((refl, refl), tt)
+low (Variables k) v = ((refl, tt), tt)
 low Declarator v = ((tt, omega arith, tt), ((refl, refl, omega arith, tt, λ r y. y), tt))
 low Empty v = tt
 low ExpressionStatement v = (refl, ((tt, omega arith, tt), tt))
@@ -372,7 +375,7 @@ low (ExportAs s) v = ((tt, omega arith, tt), tt)
 low (ForwardName s) v = ((λ r y. y), tt)
 low (ForwardText s) v = ((λ r y. y), tt)
 low ForwardAs v = ((tt, omega arith, tt), ((tt, omega arith, tt), tt))
-low (DeclaredVariables k) v = ((refl, refl), tt)
+low (DeclaredVariables k) v = ((refl, tt), tt)
 low DeclaredFunction v = ((tt, omega arith, tt), ((refl, refl), ((tt, omega arith, tt), tt)))
 low DeclaredGenerator v = ((tt, omega arith, tt), ((refl, refl), ((tt, omega arith, tt), tt)))
 low (DeclaredClass s) v = ((refl, tt, omega arith, tt, tt), ((tt, omega arith, tt), tt))

@@ -5,14 +5,14 @@ use Rattle.std.proofs.lemmas.Bool.{false≢true}
 use Rattle.mini_model.specs.Weight.{same_text}
 use Rattle.mini_model.specs.Tree.{Tree, Trees}
 use Rattle.mini_print.specs.Token.{Token, Word, Punct, Times}
-use Rattle.mini_print.specs.Grammar.{Goal, Place, has, Rule, token, form, ends_property, starts_default, ModuleName, KeyWord, KeyText, ImportDefault, ImportDefaultNames, ImportDefaultNamespace, ImportShort, ImportAs, ExportNames, ExportFrom, ExportDeclared, ExportValue, ExportDefault, ExportShort, ExportAs, ForwardName, ForwardText, ForwardAs, DeclaredFunction, DeclaredGenerator, DefaultFunction, DefaultGenerator, DefaultClass}
+use Rattle.mini_print.specs.Grammar.{Goal, Place, has, Rule, token, form, ends_property, starts_default, ModuleName, KeyWord, KeyText, ImportDefault, ImportDefaultNames, ImportDefaultNamespace, ImportShort, ImportAs, ExportNames, ExportFrom, ExportDeclared, ExportValue, ExportDefault, ExportShort, ExportAs, ForwardName, ForwardText, ForwardAs, DeclaredFunction, DeclaredGenerator, DefaultFunction, DefaultGenerator, DefaultClass, ends_statement}
 use Rattle.mini_print.specs.Groups.{Groups, by_rule, Row, end, a_token, a_part, a_list, a_lookahead, present, missing, with, without, a_silent}
 use Rattle.mini_print.proofs.Reader.{statement_at, import_item_at, export_item_at, forward_item_at, declaration_at, default_at, default_class, is_plain_word_next, is_star_next, is_brace_next, bars}
 use Rattle.mini_print.specs.Text.{escaped}
 use Rattle.mini_print.proofs.Escapes.{unescaped, unescaped_back}
 use Rattle.mini_print.proofs.Told.{untrue, same_is}
 use Rattle.mini_print.proofs.Tidy.{starts_declaration}
-use Rattle.mini_print.proofs.Powers.{first_open, neutral_items}
+use Rattle.mini_print.proofs.Powers.{first_open, neutral_items, statement_end}
 
 -- no star stands where a name begins
 pub not_star : (ts : List Token) → bars ts ≡ false → is_star_next ts ≡ false
@@ -31,9 +31,14 @@ import_default_names_begins s (a_token _ _ _ _ _ _ (a_token _ _ _ _ _ _ (a_token
 pub import_default_namespace_begins : (s : List ℕ) {g : Goal} {ks : Trees} {ts r : List Token} → Row g (form (ImportDefaultNamespace s)) ks ts r → statement_at ts ≡ Some (ImportDefaultNamespace s)
 import_default_namespace_begins s (a_token _ _ _ _ _ _ (a_token _ _ _ _ _ _ (a_token _ _ _ _ _ _ (a_token _ _ _ _ _ _ d)))) = refl
 
+no_word_ended : (ts : List Token) → ends_statement ts ≡ true → is_plain_word_next ts ≡ false
+no_word_ended [] e = refl
+no_word_ended (Word s ∷ ts) e = absurd (false≢true e)
+no_word_ended (x ∷ ts) e = refl
+
 pub export_names_begins : {g : Goal} {ks : Trees} {ts r : List Token} → Row g (form ExportNames) ks ts r → statement_at ts ≡ Some ExportNames
-export_names_begins (a_token _ _ _ _ _ _ (a_token _ _ _ _ _ _ (a_silent _ _ _ _ _ _ (a_list _ _ _ _ _ _ _ _ _ c (a_token _ _ _ _ _ _ (a_silent _ _ _ _ _ _ (a_token _ _ _ _ _ _ d))))))) =
-    ap (λ y. Some (if is_plain_word_next y then ExportFrom else ExportNames)) (neutral_items c 0)
+export_names_begins (a_token _ _ _ _ _ _ (a_token _ _ _ _ _ _ (a_silent _ _ _ _ _ _ (a_list _ _ _ _ _ _ _ _ _ c (a_token _ _ _ _ _ _ (a_silent _ _ _ _ us _ d)))))) =
+    ap (λ y. Some (if is_plain_word_next y then ExportFrom else ExportNames)) (neutral_items c 0) ∙ ap (λ b. Some (if b then ExportFrom else ExportNames)) (no_word_ended us (statement_end d))
 
 pub export_from_begins : {g : Goal} {ks : Trees} {ts r : List Token} → Row g (form ExportFrom) ks ts r → statement_at ts ≡ Some ExportFrom
 export_from_begins (a_token _ _ _ _ _ _ (a_token _ _ _ _ _ _ (a_silent _ _ _ _ _ _ (a_list _ _ _ _ _ _ _ _ _ c (a_token _ _ _ _ _ _ (a_token _ _ _ _ _ _ d)))))) =

@@ -9,10 +9,10 @@ use Rattle.mini_model.specs.declared.operator.LogicalOperator.TheVariants.{Or, A
 use Rattle.mini_model.specs.declared.operator.UnaryOperator.TheVariants as unary
 use Rattle.mini_model.specs.declared.operator.UpdateOperator.TheVariants.{Increment, Decrement}
 use Rattle.mini_model.specs.Tree.{Tree, Trees}
-use Rattle.mini_print.specs.Token.{Token, Punct, Comma, LeftBrace, RightBrace, TemplateHead, TemplateMiddle, TemplateTail, binary_token}
+use Rattle.mini_print.specs.Token.{Token, Punct, Comma, LeftBrace, RightBrace, TemplateHead, TemplateMiddle, TemplateTail, binary_token, Semicolon}
 use Rattle.mini_print.specs.Text.{Open, TemplateOpen, BraceOpen, open_behind, may_stand, all_stand, EachLexical, AllLexicalIn}
-use Rattle.mini_print.specs.Grammar.{Goal, TemplateRest, Sort, TemplateRests, sort, has, is_of, excluded, rule_sort, Place, Rule, Binary, Logical, Prefix, Postfix, Unary, Variables, HeadVariables, DeclaredVariables, MiddlePiece, TailPiece, Least, Opener, Equals, Else, Catch, Finally, Extends, As, opener, Part, token, left, part, commas, lookahead, perhaps, option, statements, unwritten, fork, form}
-use Rattle.mini_print.specs.Groups.{goal_of, list_goal_of, Groups, by_rule, Row, end, a_token, a_left, a_part, a_list, a_lookahead, present, missing, with, without, a_block, a_silent, a_fork, Statements as StatementList, no_more, more, Items, nothing, last, next, gap, GroupsProgram, program, items_goal}
+use Rattle.mini_print.specs.Grammar.{Goal, TemplateRest, Sort, TemplateRests, sort, has, is_of, excluded, rule_sort, Place, Rule, Binary, Logical, Prefix, Postfix, Unary, Variables, HeadVariables, DeclaredVariables, MiddlePiece, TailPiece, Least, Opener, Equals, Else, Catch, Finally, Extends, As, opener, Part, token, left, part, commas, lookahead, perhaps, option, statements, unwritten, fork, form, semicolon}
+use Rattle.mini_print.specs.Groups.{goal_of, list_goal_of, Groups, by_rule, Row, end, a_token, a_left, a_part, a_list, a_lookahead, present, missing, with, without, a_block, a_silent, a_fork, Statements as StatementList, no_more, more, Items, nothing, last, next, gap, GroupsProgram, program, items_goal, a_semicolon, inserted}
 use Rattle.mini_print.proofs.Told.{both}
 use Rattle.mini_print.proofs.Placed.{rule_sort_is}
 
@@ -98,6 +98,10 @@ token_stands (TemplateTail s) (BraceOpen ∷ js) ks os ts e = absurd (none_is ks
 token_stands (TemplateTail s) (TemplateOpen ∷ js) ks os ts e = ap (λ k. all_stand (k ++ os) ts) (is_now js ks e)
 token_stands x js ks os ts e = keeps_all x refl (js ++ os) ts ∙ ap (λ k. all_stand (k ++ os) ts) (is_now js ks e)
 
+semicolon_keeps : is_keeping (effect (Punct Semicolon)) ≡ true
+unfolding is_keeping
+semicolon_keeps = refl
+
 opener_keeps : (w : Opener) → is_keeping (effect (opener w)) ≡ true
 unfolding is_keeping
 opener_keeps Equals = refl
@@ -152,6 +156,7 @@ matches c (Some js) (statements i ∷ ps) = not (is_rest i) && matches c (Some j
 matches c (Some js) (lookahead k ∷ ps) = matches c (Some js) ps
 matches c (Some js) (unwritten v ∷ ps) = matches c (Some js) ps
 matches c (Some js) (fork ∷ ps) = matches c (Some js) ps
+matches c (Some js) (semicolon ∷ ps) = matches c (Some js) ps
 
 binary_keeps : (o : BinaryOperator) → effect (binary_token o) ≡ Keeps
 binary_keeps binary.In = refl
@@ -279,6 +284,8 @@ mutual
       list_stands a y.0 (js ++ os) ∙ row_stands d c q js y.1 os
   row_stands (a_fork g ps ks ts r d) c q js e os = row_stands d c q js e os
   row_stands (a_silent g v ps ks ts r d) c q js e os = row_stands d c q js e os
+  row_stands (a_semicolon g ps ks ts r d) c q js e os = keeps_all (Punct Semicolon) semicolon_keeps (js ++ os) ts ∙ row_stands d c q js e os
+  row_stands (inserted g ps ks ts r f d) c q js e os = row_stands d c q js e os
 
   pub items_stand : {i : Goal} {l : Least} {is : Trees} {ts r : List Token} → Items i l is ts r → is_rest i ≡ false → (os : List Open) → all_stand os ts ≡ all_stand os r
   items_stand (nothing i l r u) q os = refl

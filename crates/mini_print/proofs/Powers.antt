@@ -7,11 +7,11 @@ use Rattle.mini_model.specs.declared.operator.BinaryOperator.TheVariants as bina
 use Rattle.mini_model.specs.Weight.{same_text}
 use Rattle.mini_model.specs.Tree.{Tree, Trees}
 use Rattle.mini_print.specs.Token.{Token, Word, Punct, Punctuator, Comma, Semicolon, RightParen, RightBracket, RightBrace, LeftBrace, Dot, LeftParen, Quoted, OptionalDot, TemplateWhole, TemplateHead, TemplateMiddle, TemplateTail, LeftBracket, Assigns}
-use Rattle.mini_print.specs.Grammar.{Block as BlockRule, Goal, Anything, WithoutIn, Callee, AfterDot, Binding, Statement, Declared, Property, Body, Element, SpreadItem, ArrowBlock, FunctionBody, NoBrace, permits, is_left_brace, Binary, Sort, Values, Names, Bindings, Statements, Declarators, Properties, Bodies, sort, heir, Place, place, whole, Rule, Parenthesized, Arrow, Prefix, Unary, Variables, Least, Zero, One, Two, Gaps, silent_tree, Opener, Equals, Else, opener, opens, Part, token, left, part, commas, lookahead, form, level, is_of, excluded, built_before, NewTarget, Yield, YieldFrom, GeneratorExpression, GeneratorDeclaration, CatchParam, CatchBare, Cases, Catches, BlockParts, CaseItem, Catching, BlockOnly, LabelName, CaseEnd, Catch, Finally, ends_clause, is_allowed, same_sort, rule_sort, New, FunctionExpression, FunctionDeclaration, CatchParam, perhaps, option, statements, unwritten, BoundKeyValue, BoundShorthand, Shorthand, BoundProperties, Bound, Parameter, BoundProperty, KeyValue, has, ends_property, is_colon_next, ForIn, ForOf, ForDeclared, ForDeclaredIn, ForDeclaredOf, HeadVariables, HeadDeclarations, HeadDeclaration, HeadDeclared, fork, HeadEnd, For, ends_head, is_word_of, MethodProperty, Getter, Setter, GeneratorProperty, MethodFunction, GeneratorMethod, Methods, GeneratorMethods, MethodValue, GeneratorValue, Key, KeyWord, KeyText, KeyNumber, KeyNames, KeyName, WholeTemplate, Template, MiddlePiece, TailPiece, TaggedTemplate, TagWhole, TagParts, Chain, FirstMember, FirstIndex, FirstCall, LinkMember, LinkIndex, LinkCall, OptionalMember, OptionalIndex, OptionalCall, TemplateRest, TagTemplate, FirstLink, Link, TemplateRests, TagTemplates, FirstLinks, Links, Defaulted, BoundDefault, NamedDefault, ComputedMethod, ComputedGetter, ComputedSetter, ComputedGenerator, BoundElement, DefaultOf, BoundElements, DefaultsOf, Lookahead, Computed, Rest, same_flag, ClassPlain, ClassNamed, ClassDeclared, ClassBody, ClassMethod, ClassComputedMethod, ClassGenerator, ClassComputedGenerator, ClassGetter, ClassComputedGetter, ClassSetter, ClassComputedSetter, Field, ComputedField, StaticElement, StaticInit, PrivateKey, ClassBraces, ClassElement, PlainElement, ClassKey, ClassBodies, ClassElements, Extends, Leading, Leadings, Directive, starts_directive, NoDirective, ArrayTarget, ObjectTarget, PatternItem, ValueItem, PatternRest, ValueRest, TargetShorthand, TargetDefault, TargetKeyValue, TargetComputed, TargetPropertyRest, PatternAssignment, TargetPattern, Target, TargetElement, TargetProperty, Patterns, TargetElements, TargetProperties, Object, Array, As, starts_default, ModuleItem, SourceText, ModuleName, ImportItem, Exportable, DefaultDeclared, ExportItem, ForwardItem, Declarations, DefaultDeclarations}
+use Rattle.mini_print.specs.Grammar.{Block as BlockRule, Goal, Anything, WithoutIn, Callee, AfterDot, Binding, Statement, Declared, Property, Body, Element, SpreadItem, ArrowBlock, FunctionBody, NoBrace, permits, is_left_brace, Binary, Sort, Values, Names, Bindings, Statements, Declarators, Properties, Bodies, sort, heir, Place, place, whole, Rule, Parenthesized, Arrow, Prefix, Unary, Variables, Least, Zero, One, Two, Gaps, silent_tree, Opener, Equals, Else, opener, opens, Part, token, left, part, commas, lookahead, form, level, is_of, excluded, built_before, NewTarget, Yield, YieldFrom, GeneratorExpression, GeneratorDeclaration, CatchParam, CatchBare, Cases, Catches, BlockParts, CaseItem, Catching, BlockOnly, LabelName, CaseEnd, Catch, Finally, ends_clause, is_allowed, same_sort, rule_sort, New, FunctionExpression, FunctionDeclaration, CatchParam, perhaps, option, statements, unwritten, BoundKeyValue, BoundShorthand, Shorthand, BoundProperties, Bound, Parameter, BoundProperty, KeyValue, has, ends_property, is_colon_next, ForIn, ForOf, ForDeclared, ForDeclaredIn, ForDeclaredOf, HeadVariables, HeadDeclarations, HeadDeclaration, HeadDeclared, fork, HeadEnd, For, ends_head, is_word_of, MethodProperty, Getter, Setter, GeneratorProperty, MethodFunction, GeneratorMethod, Methods, GeneratorMethods, MethodValue, GeneratorValue, Key, KeyWord, KeyText, KeyNumber, KeyNames, KeyName, WholeTemplate, Template, MiddlePiece, TailPiece, TaggedTemplate, TagWhole, TagParts, Chain, FirstMember, FirstIndex, FirstCall, LinkMember, LinkIndex, LinkCall, OptionalMember, OptionalIndex, OptionalCall, TemplateRest, TagTemplate, FirstLink, Link, TemplateRests, TagTemplates, FirstLinks, Links, Defaulted, BoundDefault, NamedDefault, ComputedMethod, ComputedGetter, ComputedSetter, ComputedGenerator, BoundElement, DefaultOf, BoundElements, DefaultsOf, Lookahead, Computed, Rest, same_flag, ClassPlain, ClassNamed, ClassDeclared, ClassBody, ClassMethod, ClassComputedMethod, ClassGenerator, ClassComputedGenerator, ClassGetter, ClassComputedGetter, ClassSetter, ClassComputedSetter, Field, ComputedField, StaticElement, StaticInit, PrivateKey, ClassBraces, ClassElement, PlainElement, ClassKey, ClassBodies, ClassElements, Extends, Leading, Leadings, Directive, starts_directive, NoDirective, ArrayTarget, ObjectTarget, PatternItem, ValueItem, PatternRest, ValueRest, TargetShorthand, TargetDefault, TargetKeyValue, TargetComputed, TargetPropertyRest, PatternAssignment, TargetPattern, Target, TargetElement, TargetProperty, Patterns, TargetElements, TargetProperties, Object, Array, As, starts_default, ModuleItem, SourceText, ModuleName, ImportItem, Exportable, DefaultDeclared, ExportItem, ForwardItem, Declarations, DefaultDeclarations, semicolon, inserts, ends_statement}
 use Rattle.mini_print.specs.Grammar as look
-use Rattle.mini_print.specs.Groups.{goal_of, none_is_enough, behind_comma, Groups, by_rule, Row, end, a_token, a_left, a_part, a_list, a_lookahead, present, missing, with, without, a_block, a_silent, Statements as StatementList, no_more, more, Items, nothing, last, next, gap, a_fork}
+use Rattle.mini_print.specs.Groups.{goal_of, none_is_enough, behind_comma, Groups, by_rule, Row, end, a_token, a_left, a_part, a_list, a_lookahead, present, missing, with, without, a_block, a_silent, Statements as StatementList, no_more, more, Items, nothing, last, next, gap, a_fork, a_semicolon, inserted}
 use Rattle.mini_print.specs.Printed.{is_statements}
-use Rattle.mini_print.proofs.Reader.{is_brace_next, infix_punct, infix_rule, binding, bound_by, bound_in, strength, is_weak, power, next_power, goes_on, is_closing, closes, stops, ends, is_comma, is_comma_next, is_sequence, Bracket, Opens, Closes, Neither, bracket, behind_bracket, State, is_separator, separates, Reaches, is_paren_next, is_right_brace, ends_at, declares, is_equals_next}
+use Rattle.mini_print.proofs.Reader.{is_brace_next, infix_punct, infix_rule, binding, bound_by, bound_in, strength, is_weak, power, next_power, goes_on, is_closing, closes, stops, ends, is_comma, is_comma_next, is_sequence, Bracket, Opens, Closes, Neither, bracket, behind_bracket, State, is_separator, separates, Reaches, is_paren_next, is_right_brace, ends_at, declares, is_equals_next, stops_at}
 use Rattle.mini_print.proofs.Told.{is_values, inner, Led, same_is, both}
 use Rattle.mini_print.proofs.Tidy.{Stops, Closed, Stopped, Ended, Starting, starts_clause, brace_separates, starts_rest, starts_template, starts_link, named_separates, StopsBefore, StopsLook, key_separates, StopsOption, starts_declaration}
 use Rattle.mini_print.proofs.Table.{Opening, opening, Balanced, balanced, bars_separate, opens_separates, is_no_value, TargetOpening, target_opening}
@@ -20,6 +20,16 @@ pub apart : {A : Type 0} {b : Bool} → b ≡ true → b ≡ false → A
 apart e f = absurd (false≢true (sym f ∙ e))
 
 -- ---- what a tree begins with
+
+-- behind the last part of a statement stands a `;`, or what it is inserted before
+inserts_ends : (ts : List Token) → inserts ts ≡ true → ends_statement ts ≡ true
+inserts_ends [] e = refl
+inserts_ends (Punct RightBrace ∷ ts) e = refl
+inserts_ends (x ∷ ts) e = absurd (false≢true e)
+
+pub statement_end : {g : Goal} {ps : List Part} {ks : Trees} {ts r : List Token} → Row g (semicolon ∷ ps) ks ts r → ends_statement ts ≡ true
+statement_end (a_semicolon g ps ks ts r d) = refl
+statement_end (inserted g ps ks ts r f d) = inserts_ends ts f
 
 -- a list of two or more has a first
 abbrev pub IsTwo : Least → Type 0
@@ -42,6 +52,7 @@ mutual
   first_row (a_token g x (statements i ∷ ps) ks ts r d) o = o ts
   first_row (a_token g x (unwritten v ∷ ps) ks ts r d) o = o ts
   first_row (a_token g x (fork ∷ ps) ks ts r d) o = o ts
+  first_row (a_token g x (semicolon ∷ ps) ks ts r d) o = o ts (statement_end d)
   first_row (a_left g w n b ps k ks ts m r c d) o = first_open c
   first_row (a_part g None n b ps k ks ts m r c d) o = absurd o
   first_row (a_part g (Some i) n b ps k ks ts m r c d) o = o ts (first_open c)
@@ -110,6 +121,13 @@ weak g (x ∷ r) e = by (is_weak g) e
     by : (b : Bool) → b ≡ true → (if b then 0 else bound_in (heir g) (infix_rule x)) ≤ 0
     by true e = omega arith
     by false e = absurd (false≢true e)
+
+-- nothing goes on a whole statement
+pub ended_statement : (g : Goal) (ts : List Token) → ends_statement ts ≡ true → next_power g ts ≤ 0
+ended_statement g [] e = omega arith
+ended_statement g (Punct Semicolon ∷ ts) e = let l = power_le g (Punct Semicolon) in omega (arith, l)
+ended_statement g (Punct RightBrace ∷ ts) e = let l = power_le g (Punct RightBrace) in omega (arith, l)
+ended_statement g (x ∷ ts) e = absurd (false≢true e)
 
 -- the heir of a goal goes on alike
 pub heir_power : (g : Goal) (r : List Token) → next_power (heir g) r ≡ next_power g r
@@ -283,6 +301,8 @@ behind (a_silent g v ps ks ts r d) e None n s q = behind d e None n s q
 behind (a_fork g ps ks ts r d) e None n s q = behind d e None n s q
 behind (a_fork g ps ks ts r d) e (Some h) n s q = behind d e (Some h) n s q
 behind (a_silent g v ps ks ts r d) e (Some h) n s q = behind d e (Some h) n s q
+behind {g} (a_semicolon _ ps ks ts r d) e o n s q = let l = ended_statement (goal_of g o) (Punct Semicolon ∷ ts) refl in omega (arith, l)
+behind {g} (inserted _ ps ks ts r f d) e o n s q = let l = ended_statement (goal_of g o) ts (inserts_ends ts f) in omega (arith, l)
 
 -- a template stands behind a tag
 pub template_led : (g : Goal) (h : Rule) (ts : List Token) → starts_template ts ≡ true → ((s : List ℕ) → (infix_rule (TemplateWhole s) ≡ Some h) × (infix_rule (TemplateHead s) ≡ Some h)) →
@@ -337,6 +357,11 @@ head_rests (Word s ∷ ts) e = (by (same_text s (codes "in")) (same_text s (code
     by false false p q e = absurd (false≢true e)
 head_rests (x ∷ ts) e = absurd (false≢true e)
 
+inserts_closes : (ts : List Token) → inserts ts ≡ true → (closes ts ≡ true) × (is_comma_next ts ≡ false)
+inserts_closes [] e = (refl, refl)
+inserts_closes (Punct RightBrace ∷ ts) e = (refl, refl)
+inserts_closes (x ∷ ts) e = absurd (false≢true e)
+
 pub closed : {g : Goal} {ps : List Part} {ks : Trees} {ts r : List Token} → Row g ps ks ts r → (i : Goal) (l : Least) → Closed (Some i) l ps → Closing l ts × (next_power i ts ≤ 0) × (is_comma_next ts ≡ false)
 closed (a_token g x ps ks ts r d) i l s = let m = power_le i x in let p = s.1 in (inl s.0, omega (arith, m, p), closing_is_no_comma x s.0)
 closed (a_lookahead g HeadEnd ps ks ts r p d) i l s =
@@ -349,11 +374,20 @@ closed (a_lookahead g HeadEnd ps ks ts r p d) i l s =
 
     some_is : (i j : Goal) → Some i ≡ Some j → i ≡ j
     some_is i j e = ap goal_or e
+closed (a_semicolon g ps ks ts r d) i l s = (inl refl, ended_statement i (Punct Semicolon ∷ ts) refl, refl)
+closed (inserted g ps ks ts r f d) i l s = let c = inserts_closes ts f in (inl c.0, ended_statement i ts (inserts_ends ts f), c.1)
 closed _ i l s = absurd s
+
+inserts_stops : (i : Goal) (ts : List Token) → inserts ts ≡ true → stops_at i (Punct RightBrace) ≡ true → stops i ts ≡ true
+inserts_stops i [] e s = refl
+inserts_stops i (Punct RightBrace ∷ ts) e s = s
+inserts_stops i (x ∷ ts) e s = absurd (false≢true e)
 
 pub stopped : {g : Goal} {ps : List Part} {ks : Trees} {ts r : List Token} → Row g ps ks ts r → (i : Goal) → Stopped i ps → (stops i ts ≡ true) × (next_power i ts ≤ 0)
 stopped (a_token g x ps ks ts r d) i s = let p = s.1 in (s.0, omega (arith, p))
 stopped (a_fork g ps ks ts r d) i s = stopped d i s
+stopped (a_semicolon g ps ks ts r d) i s = (s.0, ended_statement i (Punct Semicolon ∷ ts) refl)
+stopped (inserted g ps ks ts r f d) i s = (inserts_stops i ts f s.1, ended_statement i ts (inserts_ends ts f))
 stopped _ i s = absurd s
 
 pub clause_ends : (ts : List Token) → ends_clause ts ≡ true → ends Statement ts ≡ true
@@ -556,6 +590,8 @@ mutual
   neutral_row (a_block g i ps is ks ts m r c e) j b d = neutral_statements c (deep j d) ∙ neutral_row e j b d
   neutral_row (a_silent g v ps ks ts r e) j b d = neutral_row e j b d
   neutral_row (a_fork g ps ks ts r e) j b d = neutral_row e j b d
+  neutral_row (a_semicolon g ps ks ts r e) j b d = neutral_row e j b d
+  neutral_row (inserted g ps ks ts r f e) j b d = neutral_row e j b d
 
   pub neutral_items : {i : Goal} {l : Least} {is : Trees} {ts r : List Token} → Items i l is ts r → (d : ℕ) → behind_bracket d ts ≡ behind_bracket d r
   neutral_items (nothing g l r u) d = refl

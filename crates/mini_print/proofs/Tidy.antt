@@ -3,8 +3,8 @@ use Rattle.std.specs.Prelude.{ℕ, ◌≡◌, refl, ◌≤◌, Bool, true, false
 use Rattle.std.proofs.Common.{ap, sym, arith}
 use Rattle.std.proofs.lemmas.Bool.{false≢true}
 use Rattle.mini_model.specs.declared.operator.LogicalOperator.TheVariants.{Or, And, Coalesce}
-use Rattle.mini_print.specs.Token.{Token, Word, Punct, RightBrace, LeftBrace, TemplateWhole, TemplateHead, TemplateMiddle, TemplateTail, Private, Quoted, Number}
-use Rattle.mini_print.specs.Grammar.{Goal, Sort, Values, Names, Bindings, Statements, Declarators, Properties, Bodies, sort, Rule, Reference, NumberLiteral, BigIntLiteral, TextLiteral, RegExpLiteral, Null, This, True, False, Parenthesized, Array, Member, Index, New, Import, Call, PropertyName, Postfix, Prefix, Unary, Binary, Logical, Conditional, Assignment, Sequence, Arrow, BindingName, Block as BlockRule, Variables, Declarator, Empty, ExpressionStatement, If, DoWhile, While, For, Return, Throw, Debugger, Object, KeyValue, Computed, Spread, FunctionExpression, FunctionDeclaration, FunctionBody, SpreadItem, ArrowBlock, Break, Continue, Two, NoStatement, permits, begins_statement, Part, token, left, part, commas, lookahead, perhaps, option, statements, unwritten, Statement, form, level, is_reserved, is_of, SuperMember, SuperIndex, SuperCall, NewTarget, ImportMeta, PrivateName, PrivateIn, Yield, YieldFrom, GeneratorExpression, GeneratorDeclaration, Label, Switch, Case, DefaultCase, Try, CatchParam, CatchBare, BlockPart, Cases, Catches, BlockParts, CaseItem, CaseEnd, begins_label, is_colon_next, is_word_of, clause_words, statement_words, ObjectPattern, ArrayPattern, Rest, BoundKeyValue, BoundComputed, BoundShorthand, BoundRest, Shorthand, BoundProperties, ForIn, ForOf, ForDeclared, ForDeclaredIn, ForDeclaredOf, HeadVariables, HeadDeclarations, HeadDeclared, fork, HeadEnd, Least, MethodProperty, Getter, Setter, GeneratorProperty, MethodFunction, GeneratorMethod, Methods, GeneratorMethods, KeyWord, KeyText, KeyNumber, KeyNames, WholeTemplate, Template, MiddlePiece, TailPiece, TaggedTemplate, TagWhole, TagParts, Chain, FirstMember, FirstIndex, FirstCall, LinkMember, LinkIndex, LinkCall, OptionalMember, OptionalIndex, OptionalCall, TemplateRest, TagTemplate, FirstLink, Link, TemplateRests, TagTemplates, FirstLinks, Links, Anything, AfterDot, Defaulted, BoundDefault, NamedDefault, ComputedMethod, ComputedGetter, ComputedSetter, ComputedGenerator, BoundElement, DefaultOf, BoundElements, DefaultsOf, Lookahead, same_flag, Bound, ClassPlain, ClassNamed, ClassDeclared, ClassBody, ClassMethod, ClassComputedMethod, ClassGenerator, ClassComputedGenerator, ClassGetter, ClassComputedGetter, ClassSetter, ClassComputedSetter, Field, ComputedField, StaticElement, StaticInit, PrivateKey, ClassBraces, ClassElement, PlainElement, ClassKey, ClassBodies, ClassElements, Leading, Leadings, Directive, starts_directive, NoDirective, ArrayTarget, ObjectTarget, PatternItem, ValueItem, PatternRest, ValueRest, TargetShorthand, TargetDefault, TargetKeyValue, TargetComputed, TargetPropertyRest, PatternAssignment, TargetPattern, Target, TargetElement, TargetProperty, Patterns, TargetElements, TargetProperties, Opener, Equals, has, YieldBare, starts_default, Declarations, DefaultDeclarations, ImportItems, ExportItems, ForwardItems, ImportBare, ImportNames, ImportNamespace, ImportDefault, ImportDefaultNames, ImportDefaultNamespace, ImportShort, ImportAs, ExportNames, ExportFrom, ExportAll, ExportDeclared, ExportValue, ExportDefault, ExportShort, ExportAs, ForwardName, ForwardText, ForwardAs, DeclaredVariables, DeclaredFunction, DeclaredGenerator, DeclaredClass, DefaultFunction, DefaultGenerator, DefaultClass, DefaultClassNamed, ForPatternIn, ForPatternOf}
+use Rattle.mini_print.specs.Token.{Token, Word, Punct, RightBrace, LeftBrace, TemplateWhole, TemplateHead, TemplateMiddle, TemplateTail, Private, Quoted, Number, Semicolon}
+use Rattle.mini_print.specs.Grammar.{Goal, Sort, Values, Names, Bindings, Statements, Declarators, Properties, Bodies, sort, Rule, Reference, NumberLiteral, BigIntLiteral, TextLiteral, RegExpLiteral, Null, This, True, False, Parenthesized, Array, Member, Index, New, Import, Call, PropertyName, Postfix, Prefix, Unary, Binary, Logical, Conditional, Assignment, Sequence, Arrow, BindingName, Block as BlockRule, Variables, Declarator, Empty, ExpressionStatement, If, DoWhile, While, For, Return, Throw, Debugger, Object, KeyValue, Computed, Spread, FunctionExpression, FunctionDeclaration, FunctionBody, SpreadItem, ArrowBlock, Break, Continue, Two, NoStatement, permits, begins_statement, Part, token, left, part, commas, lookahead, perhaps, option, statements, unwritten, Statement, form, level, is_reserved, is_of, SuperMember, SuperIndex, SuperCall, NewTarget, ImportMeta, PrivateName, PrivateIn, Yield, YieldFrom, GeneratorExpression, GeneratorDeclaration, Label, Switch, Case, DefaultCase, Try, CatchParam, CatchBare, BlockPart, Cases, Catches, BlockParts, CaseItem, CaseEnd, begins_label, is_colon_next, is_word_of, clause_words, statement_words, ObjectPattern, ArrayPattern, Rest, BoundKeyValue, BoundComputed, BoundShorthand, BoundRest, Shorthand, BoundProperties, ForIn, ForOf, ForDeclared, ForDeclaredIn, ForDeclaredOf, HeadVariables, HeadDeclarations, HeadDeclared, fork, HeadEnd, Least, MethodProperty, Getter, Setter, GeneratorProperty, MethodFunction, GeneratorMethod, Methods, GeneratorMethods, KeyWord, KeyText, KeyNumber, KeyNames, WholeTemplate, Template, MiddlePiece, TailPiece, TaggedTemplate, TagWhole, TagParts, Chain, FirstMember, FirstIndex, FirstCall, LinkMember, LinkIndex, LinkCall, OptionalMember, OptionalIndex, OptionalCall, TemplateRest, TagTemplate, FirstLink, Link, TemplateRests, TagTemplates, FirstLinks, Links, Anything, AfterDot, Defaulted, BoundDefault, NamedDefault, ComputedMethod, ComputedGetter, ComputedSetter, ComputedGenerator, BoundElement, DefaultOf, BoundElements, DefaultsOf, Lookahead, same_flag, Bound, ClassPlain, ClassNamed, ClassDeclared, ClassBody, ClassMethod, ClassComputedMethod, ClassGenerator, ClassComputedGenerator, ClassGetter, ClassComputedGetter, ClassSetter, ClassComputedSetter, Field, ComputedField, StaticElement, StaticInit, PrivateKey, ClassBraces, ClassElement, PlainElement, ClassKey, ClassBodies, ClassElements, Leading, Leadings, Directive, starts_directive, NoDirective, ArrayTarget, ObjectTarget, PatternItem, ValueItem, PatternRest, ValueRest, TargetShorthand, TargetDefault, TargetKeyValue, TargetComputed, TargetPropertyRest, PatternAssignment, TargetPattern, Target, TargetElement, TargetProperty, Patterns, TargetElements, TargetProperties, Opener, Equals, has, YieldBare, starts_default, Declarations, DefaultDeclarations, ImportItems, ExportItems, ForwardItems, ImportBare, ImportNames, ImportNamespace, ImportDefault, ImportDefaultNames, ImportDefaultNamespace, ImportShort, ImportAs, ExportNames, ExportFrom, ExportAll, ExportDeclared, ExportValue, ExportDefault, ExportShort, ExportAs, ForwardName, ForwardText, ForwardAs, DeclaredVariables, DeclaredFunction, DeclaredGenerator, DeclaredClass, DefaultFunction, DefaultGenerator, DefaultClass, DefaultClassNamed, ForPatternIn, ForPatternOf, semicolon}
 use Rattle.mini_print.specs.Grammar as look
 use Rattle.mini_print.specs.Groups.{none_is_enough}
 use Rattle.mini_print.specs.Printed.{is_statements}
@@ -34,6 +34,7 @@ abbrev pub Stops : ℕ → Option Goal → ℕ → List Part → Type 0
 Stops e None n (token x ∷ ps) = strength x ≤ n
 Stops e o n (unwritten v ∷ ps) = Stops e o n ps
 Stops e o n (fork ∷ ps) = Stops e o n ps
+Stops e o n (semicolon ∷ ps) = Unit {0}
 Stops e None n [] = e ≤ n
 Stops e None n _ = ⊥
 Stops e (Some g) n (token x ∷ ps) = power g x ≤ n
@@ -45,6 +46,7 @@ Stops e (Some g) n _ = is_weak g ≡ true
 -- behind a list stands what closes it
 abbrev pub Closed : Option Goal → Least → List Part → Type 0
 Closed o l (token x ∷ ps) = (is_closing x ≡ true) × (strength x ≡ 0)
+Closed o l (semicolon ∷ ps) = Unit {0}
 Closed o l (lookahead HeadEnd ∷ ps) = (o ≡ Some HeadDeclared) × (none_is_enough l ≡ false)
 Closed o l _ = ⊥
 
@@ -52,6 +54,7 @@ Closed o l _ = ⊥
 abbrev pub Stopped : Goal → List Part → Type 0
 Stopped i (token x ∷ ps) = (stops_at i x ≡ true) × (power i x ≡ 0)
 Stopped i (fork ∷ ps) = Stopped i ps
+Stopped i (semicolon ∷ ps) = (stops_at i (Punct Semicolon) ≡ true) × (stops_at i (Punct RightBrace) ≡ true)
 Stopped i _ = ⊥
 
 -- a list is none of statements
@@ -149,6 +152,7 @@ Tidy e (option w o n ∷ ps) = Stops e o n ps × Tidy e ps
 Tidy e (statements i ∷ ps) = (Ended i ps × Block i) × Tidy e ps
 Tidy e (unwritten v ∷ ps) = Tidy e ps
 Tidy e (fork ∷ ps) = Tidy e ps
+Tidy e (semicolon ∷ ps) = Tidy e ps
 
 -- the first part of what is told by the token behind it is left aside
 abbrev pub TidyBehind : ℕ → List Part → Type 0
@@ -223,8 +227,8 @@ tidy ClassGetter c = (refl, (refl, tt))
 tidy ClassComputedGetter c = (omega arith, (refl, tt))
 tidy ClassSetter c = (refl, (refl, tt))
 tidy ClassComputedSetter c = (omega arith, (refl, tt))
-tidy Field c = (refl, (omega arith, tt))
-tidy ComputedField c = (omega arith, (omega arith, tt))
+tidy Field c = (refl, (tt, tt))
+tidy ComputedField c = (omega arith, (tt, tt))
 tidy StaticElement c = (refl, tt)
 tidy StaticInit c = ((refl, (refl, λ ts e. e)), tt)
 tidy (PrivateKey s) c = tt
@@ -276,15 +280,15 @@ tidy Sequence c = (refl, tt)
 tidy (Reference s) c = tt
 tidy Arrow c = (((refl, refl), refl), (omega arith, tt))
 tidy BlockRule c = ((refl, (refl, λ ts e. e)), tt)
-tidy (Variables k) c = (((refl, refl), refl), tt)
+tidy (Variables k) c = ((tt, refl), tt)
 tidy Declarator c = (refl, (omega arith, tt))
-tidy ExpressionStatement c = (omega arith, tt)
+tidy ExpressionStatement c = (tt, tt)
 tidy If c = (omega arith, (refl, (refl, tt)))
 tidy DoWhile c = (omega arith, (omega arith, tt))
 tidy While c = (omega arith, (refl, tt))
 tidy For c = (((refl, refl), refl), (((refl, refl), refl), (((refl, refl), refl), (refl, tt))))
 tidy Return c = (((refl, refl), refl), tt)
-tidy Throw c = (omega arith, tt)
+tidy Throw c = (tt, tt)
 tidy (NumberLiteral n) c = tt
 tidy (BigIntLiteral n) c = tt
 tidy (TextLiteral s) c = tt
@@ -355,25 +359,25 @@ tidy BlockPart c = ((refl, (refl, λ ts e. e)), tt)
 tidy FunctionBody c = ((refl, (refl, λ ts e. ap not e)), ((refl, (refl, λ ts e. e)), tt))
 tidy (Directive s) c = tt
 tidy (ImportBare s) c = tt
-tidy ImportNames c = (((refl, refl), refl), (omega arith, tt))
-tidy ImportNamespace c = (omega arith, (omega arith, tt))
-tidy (ImportDefault s) c = (omega arith, tt)
-tidy (ImportDefaultNames s) c = (((refl, refl), refl), (omega arith, tt))
-tidy (ImportDefaultNamespace s) c = (omega arith, (omega arith, tt))
+tidy ImportNames c = (((refl, refl), refl), (tt, tt))
+tidy ImportNamespace c = (omega arith, (tt, tt))
+tidy (ImportDefault s) c = (tt, tt)
+tidy (ImportDefaultNames s) c = (((refl, refl), refl), (tt, tt))
+tidy (ImportDefaultNamespace s) c = (omega arith, (tt, tt))
 tidy (ImportShort s) c = tt
 tidy ImportAs c = (omega arith, (refl, tt))
 tidy ExportNames c = (((refl, refl), refl), tt)
-tidy ExportFrom c = (((refl, refl), refl), (omega arith, tt))
-tidy ExportAll c = (omega arith, (omega arith, tt))
+tidy ExportFrom c = (((refl, refl), refl), (tt, tt))
+tidy ExportAll c = (omega arith, (tt, tt))
 tidy ExportDeclared c = (refl, tt)
-tidy ExportValue c = (omega arith, tt)
+tidy ExportValue c = (tt, tt)
 tidy ExportDefault c = (refl, tt)
 tidy (ExportShort s) c = tt
 tidy (ExportAs s) c = (refl, tt)
 tidy (ForwardName s) c = tt
 tidy (ForwardText s) c = tt
 tidy ForwardAs c = (omega arith, (refl, tt))
-tidy (DeclaredVariables k) c = (((refl, refl), refl), tt)
+tidy (DeclaredVariables k) c = ((tt, refl), tt)
 tidy DeclaredFunction c = (omega arith, (((refl, refl), refl), (refl, tt)))
 tidy DeclaredGenerator c = (omega arith, (((refl, refl), refl), (refl, tt)))
 tidy (DeclaredClass s) c = (tt, (refl, tt))

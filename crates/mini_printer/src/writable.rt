@@ -68,7 +68,8 @@ const DOLLAR: u16 = 36;
 
 const LEFT_BRACE: u16 = 123;
 
-fn spells(units: &[u16], ascii: &[u8]) -> bool
+/// Whether the units are those of the ASCII text.
+pub fn spells(units: &[u16], ascii: &[u8]) -> bool
     ensures { result ≡ same_text units.now ascii.now }
 {
     match (units, ascii) {
@@ -243,8 +244,9 @@ fn is_bare(sought: u16, escaped: bool, unit: u16) -> bool
     !escaped && unit == sought
 }
 
+/// Whether the unit stands in a text with no backslash before it.
 #[tactic(auto, using(crate::proofs::Scans::bare_goes_on, crate::proofs::Scans::bare_stops, crate::proofs::Scans::bare_ends))]
-fn holds_bare(sought: u16, units: &[u16]) -> bool
+pub fn holds_bare(sought: u16, units: &[u16]) -> bool
     ensures { result ≡ unprintable.holds_bare sought false units.now }
 {
     let mut escaped = false;
@@ -257,7 +259,9 @@ fn holds_bare(sought: u16, units: &[u16]) -> bool
     false
 }
 
-fn is_directive(units: &[u16]) -> bool
+/// Whether a text can stand between quotes as it is: no line ends in it, its last backslash escapes
+/// something, and it holds one kind of quotes at most (ECMA-262, "String Literals").
+pub fn is_directive(units: &[u16]) -> bool
     ensures { result ≡ unprintable.is_directive units.now }
 {
     has_no_line_end(units)
@@ -276,6 +280,43 @@ pub fn are_directives(texts: &TextList) -> bool
         }
     }
     true
+}
+
+/// Whether the unit is a digit.
+pub fn is_digit(unit: u16) -> bool
+    ensures { result ≡ text.is_digit unit }
+{
+    matches!(unit, 48..=57)
+}
+
+/// Whether the unit can stand in a word: it is no blank, and begins no punctuator, text or private
+/// name.
+pub fn is_word_unit(unit: u16) -> bool
+    ensures { result ≡ text.is_word_unit unit }
+{
+    matches!(unit, 36 | 48..=57 | 65..=90 | 95 | 97..=122 | 127..=65_535)
+}
+
+#[tactic(auto, using(crate::proofs::Words::words_go_on, crate::proofs::Words::words_stop, crate::proofs::Words::words_end))]
+fn are_word_units(units: &[u16]) -> bool
+    ensures { result ≡ text.are_word_units units.now }
+{
+    for unit in units {
+        if !is_word_unit(*unit) {
+            return false;
+        }
+    }
+    true
+}
+
+/// Whether the text is a word: units of words, of which the first is no digit.
+pub fn is_word(units: &[u16]) -> bool
+    ensures { result ≡ text.is_word units.now }
+{
+    match units {
+        [] => false,
+        [first, ..] => !is_digit(*first) && are_word_units(units),
+    }
 }
 
 fn starts_with(sought: u16, units: &[u16]) -> bool

@@ -1,0 +1,5 @@
+pub mod Before
+pub mod Leads
+pub mod Nameless
+pub mod Numbered
+pub mod Same

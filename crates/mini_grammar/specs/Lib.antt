@@ -1,0 +1,4 @@
+pub mod Firsts
+pub mod Pieces
+pub mod Sorts
+pub mod Views
