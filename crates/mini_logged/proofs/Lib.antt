@@ -1,0 +1,4 @@
+pub mod Told
+pub mod Offered
+pub mod Sites
+pub mod Numbers

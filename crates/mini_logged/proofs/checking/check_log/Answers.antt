@@ -1,0 +1,5 @@
+use Rattle.mini_logged.proofs.Told.{counted_anew}
+use Rattle.mini_logged.proofs.checking.check_log.Goals as goal
+
+pub returns-clause-counts : goal.returns-clause-counts
+returns-clause-counts c = let (o, k) = c.requires.known in counted_anew c.look.new.context o c.replay_rows.new.program (c.in_ok-look.ensures o c.args.program.now k)
