@@ -375,3 +375,5 @@ rule_of (rule.ForwardText s) = grammar.ForwardText s.now
 rule_of (rule.DeclaredVariables s) = grammar.DeclaredVariables s
 rule_of (rule.DeclaredClass s) = grammar.DeclaredClass s.now
 rule_of (rule.DefaultClassNamed s) = grammar.DefaultClassNamed s.now
+rule_of (rule.ArrowName s) = grammar.ArrowName s.now
+rule_of (rule.ArrowNameBlock s) = grammar.ArrowNameBlock s.now

@@ -508,6 +508,8 @@ pub fn pieces_of<'a>(rule: Rule<'a>) -> &'static [Piece]
         Rule::Fixed(Fixed::Sequence) => &SEQUENCE,
         Rule::Fixed(Fixed::Arrow) => &ARROW,
         Rule::Fixed(Fixed::ArrowBlock) => &ARROW_BLOCK,
+        Rule::ArrowName(_) => &ARROW_NAME,
+        Rule::ArrowNameBlock(_) => &ARROW_NAME_BLOCK,
         Rule::Fixed(Fixed::Block) | Rule::Fixed(Fixed::BlockPart) => &BLOCK,
         Rule::Variables(_) | Rule::DeclaredVariables(_) => &VARIABLES,
         Rule::Fixed(Fixed::Declarator) => &DECLARATOR,
