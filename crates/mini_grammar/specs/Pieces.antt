@@ -1,6 +1,6 @@
 -- What stands in each production, as the table in the code has it, and that it is what the grammar
 -- has.
-use Rattle.std.specs.Prelude.{ℕ, ◌+◌, ◌||◌, not, Bool, true, false, List, [], ◌∷◌, codes, Option, Some, None, option_map}
+use Rattle.std.specs.Prelude.{ℕ, ◌+◌, ◌||◌, not, Bool, true, false, List, [], ◌∷◌, Some, None, option_map}
 use Rattle.mini_model.specs.Position.{left_level, right_level, logical_level, mix_of}
 use Rattle.mini_model.specs.declared.seat.Mix.{Mix}
 use Rattle.mini_model.specs.declared.seat.Mix.TheVariants as mix
@@ -12,7 +12,6 @@ use Rattle.mini_print.specs.Grammar.{Rule, Part, Silent, Lookahead, Opener, Leas
 use Rattle.mini_grammar.specs.Views.{word_text, punctuator, goal_of}
 use Rattle.mini_grammar.specs.declared.keyword.Keyword.TheVariants as keyword
 use Rattle.mini_grammar.specs.declared.token.Punct.TheVariants as punct
-use Rattle.mini_grammar.specs.declared.grammar.Goal as goal_type
 use Rattle.mini_grammar.specs.declared.grammar.Goal.TheVariants as goal
 use Rattle.mini_grammar.specs.declared.grammar.Lookahead as lookahead_type
 use Rattle.mini_grammar.specs.declared.grammar.Lookahead.TheVariants as look

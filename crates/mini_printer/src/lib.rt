@@ -1,13 +1,16 @@
 //! The JavaScript text of a program: the text of tokens, which tokens a text has, and what has none.
 #![tactic(auto)]
 
+mod allowed;
 mod compact;
 mod defects;
 mod error;
 mod laws;
 mod lexical;
 mod marks;
+mod printable;
 mod quotes;
+mod sound;
 mod text;
 mod writable;
 
