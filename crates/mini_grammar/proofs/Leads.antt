@@ -6,8 +6,8 @@ use Rattle.mini_model.specs.declared.shape.Shape.TheVariants as shape
 use Rattle.mini_model.specs.Tree.{Tree, Trees, node, none, ◌▸◌, shape_of, children, is_absent}
 use Rattle.mini_node.specs.Children.{names_of}
 use Rattle.mini_print.specs.Grammar.{Assignment, PatternAssignment, first_shape}
-use Rattle.mini_print.specs.Printed.{has_body, second_generates, generates, has_default, has_default_shape, declares_first, is_declaration, first_is_absent, is_absent_shape, first_spelling, first_raw, assigns_first, is_target_shape, part_at, has_items, spelling_of, is_text, is_reference, is_repeated, declares_default, assignment_of, taker}
-use Rattle.mini_grammar.specs.Firsts.{first_tree, second_tree, third_tree, fourth_tree, tree_or_absent, holds_of, is_body, spelling_in, spelling_by, raw_by, text_if, name_text, word_by, is_text_shape, is_reference_shape, is_list_of_some}
+use Rattle.mini_print.specs.Printed.{has_body, second_generates, generates, has_default, has_default_shape, declares_first, is_declaration, first_is_absent, is_absent_shape, first_spelling, first_raw, assigns_first, is_target_shape, part_at, has_items, spelling_of, is_text, is_reference, declares_default, assignment_of, taker}
+use Rattle.mini_grammar.specs.Firsts.{first_tree, second_tree, third_tree, fourth_tree, tree_or_absent, holds_of, is_body, spelling_in, spelling_by, raw_by, text_if, word_by, is_text_shape, is_reference_shape, is_list_of_some}
 
 pub generates_by : (ts : Trees) → second_generates ts ≡ holds_of generates (second_tree ts)
 generates_by none = refl

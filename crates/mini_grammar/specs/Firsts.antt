@@ -1,5 +1,5 @@
 -- What tokens, and the parts of a node, begin with.
-use Rattle.std.specs.Prelude.{ℕ, zero, suc, nat_eq, List, [], ◌∷◌, ◌++◌, Option, Some, None, pos, negsuc, ℤ, not, codes, Bool, true, false, ◌&&◌, if◌then◌else◌}
+use Rattle.std.specs.Prelude.{ℕ, zero, suc, nat_eq, List, [], ◌∷◌, Option, Some, None, pos, negsuc, ℤ, not, codes, Bool, true, false, ◌&&◌, if◌then◌else◌}
 use Rattle.mini_model.specs.declared.name.Name.{Name}
 use Rattle.mini_model.specs.declared.shape.Shape.{Shape}
 use Rattle.mini_model.specs.declared.shape.Shape.TheVariants as shape
@@ -8,7 +8,6 @@ use Rattle.mini_model.specs.Tree.{Tree, Trees, node, none, ◌▸◌, shape_of, 
 use Rattle.mini_model.specs.Weight.{same_text}
 use Rattle.mini_print.specs.Token.{Token, Word, Punct, Colon, Quoted, Semicolon, Dot, OptionalDot, Comma}
 use Rattle.mini_print.specs.Grammar.{Goal, Rule, NumberLiteral, Unary, is_reserved, place}
-use Rattle.mini_print.specs.Text.{spelled}
 use Rattle.mini_print.specs.Printed.{Printer, opens_inside, closes_inside, one_less, is_in}
 use Rattle.mini_model.specs.Position.{assignment_level}
 
