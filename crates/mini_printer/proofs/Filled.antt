@@ -1,9 +1,8 @@
 -- The test of a tree, piece by piece and way by way, is the definition.
 use Rattle.std.proofs.Common.{◌≡◌, ℕ, zero, suc, ◌+◌, ◌<◌, ◌≤◌, Bool, true, false, not, ◌&&◌, ◌||◌, List, [], ◌∷◌, length, get_or, drop, refl, ap, sym, ◌∙◌, Option, Some, None, arith}
-use Rattle.std.specs.Prelude.{negsuc, option_map}
+use Rattle.std.specs.Prelude.{negsuc}
 use Rattle.std.proofs.lemmas.Bool.{false≢true}
 use Rattle.std.proofs.lemmas.List.{at_drop_more, at_drop_all}
-use Rattle.mini_model.specs.declared.name.Name.{Name}
 use Rattle.mini_model.specs.declared.shape.Shape.{Shape}
 use Rattle.mini_model.specs.declared.shape.Shape.TheVariants as shape
 use Rattle.mini_model.specs.Tree.{Tree, Trees, node, none, ◌▸◌, shape_of, children, count, node_count, node_counts}
@@ -11,9 +10,9 @@ use Rattle.mini_node.specs.Children.{trees_of, names_of}
 use Rattle.mini_print.specs.Grammar as grammar
 use Rattle.mini_print.specs.Grammar.{Goal, Rule, Least, Silent, Part, form}
 use Rattle.mini_print.specs.Groups.{has_gaps}
-use Rattle.mini_print.specs.Printed.{a_part, a_list, a_perhaps, a_block, a_silent, are_printable, core, fill, has_core, has_enough, has_no_names, is_gap, is_list, is_nothing, is_printable, is_silent, is_sound, is_wanted, rule_in, stands, takes_values, wants, wants_of}
+use Rattle.mini_print.specs.Printed.{a_part, a_list, a_perhaps, a_block, a_silent, are_printable, core, fill, has_core, has_enough, has_no_names, is_gap, is_list, is_nothing, is_printable, is_silent, is_sound, is_wanted, rule_in, takes_values, wants, wants_of}
 use Rattle.mini_grammar.proofs.Same.{same_form}
-use Rattle.mini_grammar.specs.Pieces.{is_end, is_mark, parts_in, piece_parts, pieces_of, takes_part}
+use Rattle.mini_grammar.specs.Pieces.{is_end, is_mark, pieces_of, takes_part}
 use Rattle.mini_grammar.specs.declared.grammar.Piece.{Piece}
 use Rattle.mini_grammar.specs.declared.grammar.Piece.TheVariants as piece
 use Rattle.mini_printer.specs.Wants.{filled, has_no_trees, is_negative, stands_in, want_in}

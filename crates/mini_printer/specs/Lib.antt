@@ -1,4 +1,8 @@
 pub mod Faults
+pub mod Nexts
+pub mod Ordered
 pub mod Spelling
+pub mod Standing
+pub mod Texts
 pub mod There
 pub mod Wants

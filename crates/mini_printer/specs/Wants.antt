@@ -1,15 +1,14 @@
 -- What the pieces of a production want of its parts.
-use Rattle.std.specs.Prelude.{ℕ, suc, ℤ, pos, negsuc, Bool, true, false, ◌&&◌, List, [], ◌∷◌, Option, Some, None, option_map}
+use Rattle.std.specs.Prelude.{ℕ, suc, ℤ, pos, negsuc, Bool, true, false, List, [], ◌∷◌, Option, Some, None, option_map}
 use Rattle.mini_model.specs.declared.name.Name.{Name}
 use Rattle.mini_model.specs.declared.shape.Shape.{Shape}
 use Rattle.mini_model.specs.declared.shape.Shape.TheVariants as shape
-use Rattle.mini_model.specs.Tree.{Tree, Trees, node, none, ◌▸◌, shape_of, children}
+use Rattle.mini_model.specs.Tree.{Tree, Trees, none, shape_of, children}
 use Rattle.mini_model.specs.Weight.{same_text}
 use Rattle.mini_node.specs.Children.{names_of}
 use Rattle.mini_print.specs.Grammar as grammar
 use Rattle.mini_print.specs.Grammar.{Goal, Rule, Nothing, Leading, static_shape}
-use Rattle.mini_print.specs.Groups.{items_goal}
-use Rattle.mini_print.specs.Printed.{Want, a_part, a_list, a_perhaps, a_block, a_silent, wanted_goal, plain, stands, are_printable, directives, same_member, fill, wants}
+use Rattle.mini_print.specs.Printed.{Want, a_part, a_list, a_perhaps, a_block, a_silent, wanted_goal, plain, stands, same_member, fill, wants}
 use Rattle.mini_grammar.specs.Pieces.{own_text, silent_of, least_of, parts_in}
 use Rattle.mini_grammar.specs.Views.{goal_of}
 use Rattle.mini_grammar.specs.declared.grammar.Piece.{Piece}

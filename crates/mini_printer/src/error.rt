@@ -1,5 +1,8 @@
 // Why a program isn't printed.
 
+ghost use Rattle.std.specs.Prelude.{◌≡◌};
+ghost use Rattle.mini_printer.specs.declared.error.PrintError.TheVariants as error;
+
 use mini_model::{Numbers, OutOfMemory};
 
 /// Why a program isn't printed.
@@ -16,6 +19,8 @@ pub enum PrintError {
 }
 
 impl From<OutOfMemory> for PrintError {
+    ghost from_gives = { λ _ e. e ≡ error.OutOfMemory };
+
     fn from(_gone: OutOfMemory) -> PrintError {
         PrintError::OutOfMemory
     }

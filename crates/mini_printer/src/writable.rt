@@ -68,7 +68,8 @@ const DOLLAR: u16 = 36;
 
 const LEFT_BRACE: u16 = 123;
 
-fn spells(units: &[u16], ascii: &[u8]) -> bool
+/// Whether the units are those of the ASCII text.
+pub fn spells(units: &[u16], ascii: &[u8]) -> bool
     ensures { result ≡ same_text units.now ascii.now }
 {
     match (units, ascii) {

@@ -1,0 +1,46 @@
+// Which of the semicolons that end statements and fields stand in a text.
+
+ghost use Rattle.std.specs.Prelude.{◌≡◌, OnOk};
+ghost use Rattle.mini_print.specs.Grammar.{inserts};
+ghost use Rattle.mini_print.specs.Printed.{terminated};
+ghost use Rattle.mini_printer.specs.Nexts.{style_of};
+
+use mini_grammar::{Punct, Token, Tokens};
+use mini_model::OutOfMemory;
+
+/// Which of the `;` that end statements and fields stand in a text.
+#[derive(Clone, Copy)]
+pub enum Style {
+    /// Each of them.
+    Full,
+    /// Those alone that aren't inserted where they lack: none before a `}` and at the end of the
+    /// text (ECMA-262, 12.10).
+    Short,
+}
+
+// Whether a `;` is inserted here.
+#[tactic(auto, using(crate::proofs::Asked::inserted_first))]
+fn inserts(tokens: &Tokens) -> bool
+    ensures { result ≡ inserts tokens.now }
+{
+    match tokens.first() {
+        Some(token) => matches!(token, Token::Mark(Punct::RightBrace)),
+        None => true,
+    }
+}
+
+/// Puts the `;` that ends a statement or a field, where the style has it.
+pub fn terminate<'a>(tokens: &mut Tokens<'a>, style: Style) -> Result<(), OutOfMemory>
+    ensures { OnOk result (tokens.new ≡ terminated (style_of style) tokens.old) }
+{
+    match style {
+        Style::Full => tokens.push(Token::Mark(Punct::Semicolon)),
+        Style::Short => {
+            if inserts(tokens) {
+                Ok(())
+            } else {
+                tokens.push(Token::Mark(Punct::Semicolon))
+            }
+        }
+    }
+}
