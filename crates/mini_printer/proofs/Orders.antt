@@ -12,12 +12,12 @@ use Rattle.mini_model.specs.Paths.{append}
 use Rattle.mini_model.specs.Tree.{Tree, Trees, node, none, ◌▸◌, absent, listed, leaf, shape_of, children, count, child_or_absent, first_or_absent, node_count, node_counts}
 use Rattle.mini_node.specs.Children.{part, with_part, with_child, with_inserted, without, rest_children, like}
 use Rattle.mini_node.specs.Lends.{with_children}
-use Rattle.mini_node.specs.Walks.{append_none, append_one, count_with, next_child, no_rest, rest_with}
+use Rattle.mini_node.specs.Walks.{append_none, append_one, next_child, no_rest, rest_with}
 use Rattle.mini_print.specs.Printed as printed
-use Rattle.mini_print.specs.Printed.{is_link, is_optional, has_optional, linked, threaded, pieces, shown, all_shown, has_no_names}
+use Rattle.mini_print.specs.Printed.{is_link, is_optional, has_optional, linked, threaded, pieces, shown, all_shown}
 use Rattle.mini_printer.specs.declared.order.Object.{Object}
 use Rattle.mini_printer.specs.declared.order.Object.TheVariants.{Base, Whole}
-use Rattle.mini_printer.specs.Ordered.{is_link_over, chain, base_of, IsUnlinked, ended, pushed, chain_parts, is_list, is_piece_first, template_parts, has_default, has_namespace, local_if, rest_if, import_parts, is_template, is_import, is_body, with_body, function, arrow, inner, export_parts, method_parts, property_parts, parts_in_order, seen}
+use Rattle.mini_printer.specs.Ordered.{is_link_over, chain, base_of, IsUnlinked, chain_parts, is_list, is_piece_first, template_parts, has_default, has_namespace, local_if, rest_if, import_parts, is_template, is_import, is_body, with_body, function, arrow, inner, export_parts, method_parts, property_parts, parts_in_order, seen}
 
 -- ---- parts
 
@@ -36,9 +36,6 @@ pub put_twice : (ts : Trees) (i : ℕ) (x y : Tree) → with_child (with_child t
 put_twice none i x y = refl
 put_twice (t ▸ ts) zero x y = refl
 put_twice (t ▸ ts) (suc i) x y = ap (λ us. t ▸ us) (put_twice ts i x y)
-
-pub still_within : (ts : Trees) (i j : ℕ) (x : Tree) → i < count ts → i < count (with_child ts j x)
-still_within ts i j x h = let same = count_with ts j x in omega (arith, same, h)
 
 -- ---- optional chains
 
@@ -65,21 +62,6 @@ piece_by (t ▸ ts) (suc i) h = piece_by ts i (omega (arith, h))
 pub no_piece : (ts : Trees) (i : ℕ) → count ts ≤ i → is_piece_first (rest_children i ts) ≡ false
 no_piece ts i h = ap is_piece_first (no_rest ts i h)
 
-plain_optional : (h : Shape) → is_link h ≡ false → is_optional h ≡ false
-plain_optional (shape.CallExpression b) e = absurd (false≢true (sym e))
-plain_optional (shape.StaticMemberExpression b) e = absurd (false≢true (sym e))
-plain_optional (shape.ComputedMemberExpression b) e = absurd (false≢true (sym e))
-plain_optional (shape.PrivateFieldExpression b) e = absurd (false≢true (sym e))
-plain_optional _ e = refl
-
-no_links : (t : Tree) → is_link_over t ≡ false → has_optional t ≡ false
-no_links (node h xs n none) e = refl
-no_links (node h xs n (t ▸ ts)) e = ap (λ b. b || (is_link h && has_optional t)) (plain_optional h e) ∙ ap (λ b. b && has_optional t) e
-
--- a tree that is no link is whole
-pub whole_plain : (t : Tree) (ls : Trees) → is_link_over t ≡ false → ls ≡ none → IsUnlinked (Whole t) t ls
-whole_plain t ls e d = (no_links t e, (refl, d))
-
 or_true : (a b : Bool) → b ≡ true → (a || b) ≡ true
 or_true true b e = refl
 or_true false b e = e
@@ -92,18 +74,6 @@ base_more o (node h xs n (x ▸ ts)) ls e i = (
   λ us. ap (λ b. if b then linked x (node h xs n (absent ▸ ts) ▸ us) else x ▸ node h xs n (absent ▸ ts) ▸ listed us ▸ none) i.0 ∙ i.1 (node h xs n (absent ▸ ts) ▸ us) ∙ ap (chain o) (sym (append_one ls (node h xs n (absent ▸ ts)) us)),
 )
 
--- the first link, or none
-whole_more : (b : Bool) (u t : Tree) (ls : Trees) → is_optional (shape_of t) ≡ b → is_link_over t ≡ true → IsUnlinked (Whole u) (part t 0) ls → IsUnlinked (ended b u (with_part t 0 absent)) t (pushed b ls (with_part t 0 absent))
-whole_more b u (node h xs n none) ls d e i = absurd (false≢true e)
-whole_more true u (node h xs n (x ▸ ts)) ls d e i = (
-  ap (λ b. b || (is_link h && has_optional x)) d,
-  λ us. ap (λ b. if b then linked x (node h xs n (absent ▸ ts) ▸ us) else x ▸ node h xs n (absent ▸ ts) ▸ listed us ▸ none) i.0
-      ∙ ap (λ y. y ▸ node h xs n (absent ▸ ts) ▸ listed us ▸ none) (sym i.1.0)
-      ∙ ap (λ vs. chain u (append (append vs (node h xs n (absent ▸ ts) ▸ none)) us)) (sym i.1.1),
-)
-whole_more false u (node h xs n (x ▸ ts)) ls d e i =
-    (ap (λ b. b || (is_link h && has_optional x)) d ∙ ap (λ b. b && has_optional x) e ∙ i.0, (ap (λ y. node h xs n (y ▸ ts)) i.1.0, i.1.1))
-
 -- as the code asks: what a call gave, over the link that is left
 both : {T E : Type 0} (r : Result T E) (P : T → Type 0) (Q : Type 0) (R : T → Type 0) → ((x : T) → P x → Q → R x) → IfOk r P → OnOk r Q → IfOk r R
 both (Ok x) P Q R k p q = k x p q
@@ -114,24 +84,9 @@ base_pushed r s o t l ls ms e is i d =
     both r (λ k. k ≡ Base o) (ms ≡ append ls (l ▸ none)) (λ k. IsUnlinked k t ms)
     (λ k p q. subst (λ k. IsUnlinked k t ms) (sym p) (subst (IsUnlinked (Base o) t) (sym (q ∙ ap (λ w. append ls (w ▸ none)) d)) (base_more o t ls e (subst (λ s. IsUnlinked s (part t 0) ls) is i))))
 
-optional_still : (t : Tree) → is_optional (shape_of t) ≡ is_optional (shape_of (with_part t 0 absent))
-optional_still (node h xs n ts) = refl
-
-pub whole_ended : {E : Type 0} (r : Result Object E) (s : Object) (u t l : Tree) (ls ms : Trees) → is_link_over t ≡ true → s ≡ Whole u → IsUnlinked s (part t 0) ls → l ≡ with_part t 0 absent → IfOk r (λ k. k ≡ ended (is_optional (shape_of l)) u l) → OnOk r (ms ≡ pushed (is_optional (shape_of l)) ls l) → IfOk r (λ k. IsUnlinked k t ms)
-whole_ended r s u t l ls ms e is i d =
-    let w = with_part t 0 absent in
-    both r (λ k. k ≡ ended (is_optional (shape_of l)) u l) (ms ≡ pushed (is_optional (shape_of l)) ls l) (λ k. IsUnlinked k t ms)
-    (λ k p q. subst (λ k. IsUnlinked k t ms) (sym (p ∙ ap (λ w. ended (is_optional (shape_of w)) u w) d))
-    (subst (IsUnlinked (ended (is_optional (shape_of w)) u w) t) (sym (q ∙ ap (λ w. pushed (is_optional (shape_of w)) ls w) d))
-    (whole_more (is_optional (shape_of w)) u t ls (optional_still t) e (subst (λ s. IsUnlinked s (part t 0) ls) is i))))
-
 pub not_empty : (ls : Trees) (x : Tree) → 0 < count (append ls (x ▸ none))
 not_empty none x = omega arith
 not_empty (l ▸ ls) x = omega arith
-
-pub linked_empty : (t : Tree) → count (children t) ≡ 0 → t ▸ none ≡ linked t none
-linked_empty (node h xs n none) e = refl
-linked_empty (node h xs n (t ▸ ts)) e = absurd (omega (arith, e))
 
 chained_by : (s : Object) (t : Tree) (ls : Trees) → 0 < count (children t) → IsUnlinked s (part t 0) ls → chain (base_of s) (append ls (with_part t 0 absent ▸ none)) ≡ linked t none
 chained_by s (node h xs n none) ls c i = absurd (omega (arith, c))
@@ -154,18 +109,6 @@ chain_other (t ▸ none) e = absurd (e refl)
 chain_other (t ▸ u ▸ ts) e = refl
 
 -- ---- the pieces of a template
-
-no_thread : (qs es : Trees) → is_piece_first qs ≡ false → absent ≡ threaded qs es
-no_thread none none e = refl
-no_thread none (x ▸ es) e = refl
-no_thread (node h xs n none ▸ qs) es e = absurd (false≢true (sym e))
-no_thread (node h xs n (u ▸ us) ▸ none) none e = refl
-no_thread (node h xs n (u ▸ us) ▸ none) (x ▸ es) e = refl
-no_thread (node h xs n (u ▸ us) ▸ (q ▸ qs)) none e = refl
-no_thread (node h xs n (u ▸ us) ▸ (q ▸ qs)) (x ▸ es) e = refl
-
-pub thread_ends : (qs es : Trees) (i : ℕ) → is_piece_first (rest_children i qs) ≡ false → absent ≡ threaded (rest_children i qs) (rest_children i es)
-thread_ends qs es i e = no_thread (rest_children i qs) (rest_children i es) e
 
 thread_cons : (q e : Tree) (qs es : Trees) → is_piece_first (q ▸ qs) ≡ true → like q (e ▸ threaded qs es ▸ none) ≡ threaded (q ▸ qs) (e ▸ es)
 thread_cons (node h xs n none) e none es d = refl

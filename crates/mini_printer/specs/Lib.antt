@@ -1,4 +1,5 @@
 pub mod Faults
+pub mod Fronts
 pub mod Nexts
 pub mod Ordered
 pub mod Spelling

@@ -5,6 +5,7 @@ ghost use Rattle.mini_print.specs.Grammar as grammar;
 ghost use Rattle.mini_print.specs.Grammar.{opens, ends_yield, ends_yield_at, permits, is_key_token, is_left_brace, begins_statement};
 ghost use Rattle.mini_print.specs.Printed.{undirected, holds_in, opens_inside, closes_inside};
 ghost use Rattle.mini_grammar.specs.Firsts.{is_that_word, is_it_colon, is_label, is_it_of, is_it_dot, is_it_word, first_of, depth_behind, is_found};
+ghost use Rattle.mini_printer.specs.Fronts.{is_forbidden};
 ghost use Rattle.mini_printer.specs.Nexts.{calls_next, is_import, begins_default, ends_next, is_directive};
 ghost use Rattle.mini_grammar.specs.Pieces.{look_of};
 ghost use Rattle.mini_grammar.specs.Views.{token_of, word_text};
@@ -176,6 +177,19 @@ pub fn is_permitted(restriction: Lookahead, tokens: &Tokens) -> bool
         Lookahead::Key => is_key(first),
         Lookahead::NotAsync => { !(is_word(first, Keyword::Async) && is_of_word(tokens.second())) }
         Lookahead::NoDeclaration => !begins_default(first),
+    }
+}
+
+/// Whether a restriction forbids each text that begins with the token.
+pub fn is_forbidden<'a>(restriction: Lookahead, token: Token<'a>) -> bool
+    ensures { result ≡ is_forbidden restriction (token_of token.entry) }
+{
+    match restriction {
+        Lookahead::NoStatement => begins_statement(token),
+        Lookahead::NoBrace => is_brace(token),
+        Lookahead::Key => !is_key(token),
+        Lookahead::NotAsync => false,
+        Lookahead::NoDeclaration => begins_default(token),
     }
 }
 

@@ -6,6 +6,7 @@ mod asks;
 mod compact;
 mod defects;
 mod error;
+mod front;
 mod laws;
 mod lexical;
 mod marks;

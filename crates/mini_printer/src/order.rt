@@ -1,7 +1,7 @@
 //! A tree in the order of its text: each production of the grammar has its parts as they stand in
 //! the text, from the first to the last.
 
-ghost use Rattle.std.specs.Prelude.{◌≡◌, ◌<◌, ◌≤◌, ◌+◌, ◌&&◌, ◌∷◌, [], true, false, not, get_or, drop, length, IfOk, OnOk};
+ghost use Rattle.std.specs.Prelude.{◌≡◌, ◌<◌, ◌+◌, ◌&&◌, [], true, false, get_or, drop, length, IfOk, OnOk};
 ghost use Rattle.mini_model.specs.declared.shape.Shape.TheVariants as shape;
 ghost use Rattle.mini_model.specs.Tree as tree;
 ghost use Rattle.mini_model.specs.Paths.{append};

@@ -16,6 +16,7 @@ ghost use Rattle.mini_printer.specs.Standing.{standing_of, is_special};
 ghost use Rattle.mini_grammar.specs.Views.{rule_of, place_of, goal_of, aim_of, token_of};
 
 use crate::asks::{ends_yield, holds_in, is_permitted, opens_else, undirect};
+use crate::front::begins_forbidden;
 use crate::places::{
     at, goal_in, has_gaps, heir, in_place, left_operand, list_goal, plain, right_operand, seated,
 };
@@ -36,7 +37,8 @@ fn size_below(value: i64) -> Option<u64>
     if value >= 0 { None } else { Some(size) }
 }
 
-fn below_zero(shape: &Shape) -> Option<u64>
+/// The size of a number below zero; None of any other shape.
+pub fn below_zero(shape: &Shape) -> Option<u64>
     ensures { MatchOption result (is_negative shape.now ≡ false) (λ n. shape.now ≡ below n) }
 {
     match shape {
@@ -261,7 +263,8 @@ fn write_pieces<'a>(
     write_part(tokens, style, rule, goal, *piece, part)
 }
 
-fn is_mark(piece: Piece) -> bool
+/// Whether a piece is a token, or nothing.
+pub fn is_mark(piece: Piece) -> bool
     ensures { result ≡ is_mark piece }
 {
     matches!(
@@ -270,7 +273,8 @@ fn is_mark(piece: Piece) -> bool
     )
 }
 
-fn is_end(piece: Piece) -> bool
+/// Whether a piece says what follows a production.
+pub fn is_end(piece: Piece) -> bool
     ensures { result ≡ is_end piece }
 {
     matches!(piece, Piece::End(_))
@@ -385,6 +389,9 @@ fn write_restricted<'a>(
 ) -> Result<(), OutOfMemory>
     ensures { OnOk result (tokens.new ≡ enclosed (not (permits (look_of restriction) ((printer (style_of style) part.now).one (place_of there.entry) tokens.old))) (printer (style_of style) part.now) (place_of there.entry) tokens.old) }
 {
+    if begins_forbidden(style, restriction, part, there) {
+        return write_enclosed(tokens, style, part, true, there);
+    }
     let count = tokens.len();
     write_node(tokens, style, part, there)?;
     if is_permitted(restriction, tokens) {

@@ -1,7 +1,7 @@
 use Rattle.std.proofs.Common.{◌≡◌, ◌-◌, [], sym, ap, subst, ◌∙◌, arith}
-use Rattle.std.specs.Prelude.{OnOk, Some, option_map}
+use Rattle.std.specs.Prelude.{OnOk, not, Some, option_map}
 use Rattle.mini_node.specs.Children.{trees_of}
-use Rattle.mini_print.specs.Printed.{printers, by_production, lay}
+use Rattle.mini_print.specs.Printed.{printer, enclosed, printers, by_production, lay}
 use Rattle.mini_grammar.specs.Pieces.{piece_parts}
 use Rattle.mini_printer.specs.Nexts.{style_of}
 use Rattle.mini_printer.specs.Standing.{is_yield}
@@ -45,3 +45,9 @@ write_rule-returns-in-Yield t c =
     subst (λ k. OnOk c.write_yield.result (c.write_yield.new.tokens ≡ by_production s (Some k) (printers s (trees_of c.args.parts.now)) (place_of c.args.there) c.args.tokens.now))
     (sym (only_yield (rule_of c.args.rule) (ap is_yield (sym c.standing_of.ensures ∙ c.in-Yield.is))))
     (c.write_yield.ensures (printers s (trees_of c.args.parts.now)))
+
+pub write_restricted-returns-then-begins_forbidden : goal.write_restricted-returns-then-begins_forbidden
+write_restricted-returns-then-begins_forbidden t c =
+    let k = printer (style_of c.args.style) c.args.part.now in
+    let p = place_of c.args.there in
+    subst (λ b. OnOk c.write_enclosed.result (c.write_enclosed.new.tokens ≡ enclosed b k p c.args.tokens.now)) (sym (ap not (c.begins_forbidden.ensures c.if-begins_forbidden.true c.args.tokens.now))) c.write_enclosed.ensures
