@@ -105,9 +105,9 @@ fn write_yield<'a>(tokens: &mut Tokens<'a>, there: Place<'a>) -> Result<(), OutO
     tokens.push(Token::Mark(Punct::LeftParen))
 }
 
-// The production in a style.
+/// The production in a style of a node whose production is this, over these parts.
 #[tactic(auto, using(crate::proofs::Walked::full_same))]
-fn styled<'a>(style: Style, rule: Rule<'a>, parts: &'a [Node]) -> Rule<'a>
+pub fn styled<'a>(style: Style, rule: Rule<'a>, parts: &'a [Node]) -> Rule<'a>
     ensures { rule_of result ≡ printed.styled (rule_of rule.entry) (style_of style) (trees_of parts.now) }
 {
     match style {
