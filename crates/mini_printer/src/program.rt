@@ -8,7 +8,7 @@ ghost use Rattle.mini_print.specs.Compact.{SplitsCompactly, compact_text_of};
 ghost use Rattle.mini_print.specs.Grammar as grammar;
 ghost use Rattle.mini_print.specs.Groups as groups;
 ghost use Rattle.mini_print.specs.Printed as printed;
-ghost use Rattle.mini_print.specs.Printed.{lay_block, printers, printed_program, short_program, styled_program};
+ghost use Rattle.mini_print.specs.Printed.{lay_block, printers, printed_program, short_program};
 ghost use Rattle.mini_print.specs.Unprintable as unprintable;
 ghost use Rattle.mini_grammar.specs.Views.{goal_of};
 ghost use Rattle.mini_printer.specs.Nexts.{style_of};
@@ -193,9 +193,15 @@ pub fn print_program(alloc: Global, program: Node) -> Result<Text, PrintError>
     Ok(text_of(alloc, tokens)?)
 }
 
-/// The JavaScript text of a program, with no `;` that is inserted where it lacks, and with a blank
-/// only where two tokens would run together. It is of one program, and refused, as that of
-/// `print_program`.
+/// The JavaScript text of a program, with no `;` that is inserted where it lacks (ECMA-262, 12.10),
+/// no parentheses round the one name of an arrow function (15.3), and with a blank only where two
+/// tokens would run together.
+///
+/// However it is split into tokens and however these are grouped, they are those of this program
+/// and of no other.
+///
+/// `Reserved` and `BadText` tell the first node, in preorder, that no text has; `Unprintable` says
+/// that there is none and that the grammar has no text of the program.
 #[tactic(auto, using(crate::proofs::Whole::program_tokens, crate::proofs::Whole::before_refuses, crate::proofs::Whole::unlaid_refuses, crate::proofs::Whole::compact_of_one))]
 pub fn print_compact(alloc: Global, program: Node) -> Result<Text, PrintError>
     ensures exact { IfOk result (λ text. text ≡ compact_text_of (short_program program)) }

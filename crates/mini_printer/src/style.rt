@@ -1,4 +1,5 @@
-// Which of the semicolons that end statements and fields stand in a text.
+// What a text has that it could do without: semicolons that are inserted where they lack, and
+// parentheses round the one name of an arrow function.
 
 ghost use Rattle.std.specs.Prelude.{◌≡◌, OnOk};
 ghost use Rattle.mini_print.specs.Grammar.{inserts};
@@ -8,13 +9,13 @@ ghost use Rattle.mini_printer.specs.Nexts.{style_of};
 use mini_grammar::{Punct, Token, Tokens};
 use mini_model::OutOfMemory;
 
-/// Which of the `;` that end statements and fields stand in a text.
+/// Whether a text has the `;` and the parentheses that it could do without.
 #[derive(Clone, Copy)]
 pub enum Style {
-    /// Each of them.
+    /// Each `;`, and parentheses round the parameters of each arrow function.
     Full,
-    /// Those alone that aren't inserted where they lack: none before a `}` and at the end of the
-    /// text (ECMA-262, 12.10).
+    /// No `;` that is inserted where it lacks, before a `}` and at the end of the text (ECMA-262,
+    /// 12.10), and no parentheses round the one name of an arrow function (15.3).
     Short,
 }
 
