@@ -11,3 +11,4 @@ pub mod Statements
 pub mod Modules
 pub mod Served
 pub mod Read
+pub mod Words

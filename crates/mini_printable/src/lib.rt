@@ -1,11 +1,12 @@
 //! Laws: which programs of ESTree have a text.
 #![tactic(auto)]
 
-ghost use Rattle.std.specs.Prelude.{◌≡◌, ℕ, true, None, Ok};
+ghost use Rattle.std.specs.Prelude.{◌≡◌, ℕ, List, true, None, Ok};
 ghost use Rattle.serde_json.specs.Data.{Data};
 ghost use Rattle.mini_model.specs.Tree.{Tree};
 ghost use Rattle.mini_accept.specs.Accept.{program_at};
-ghost use Rattle.mini_accept.specs.WellShaped.{IsWellShaped};
+ghost use Rattle.mini_accept.specs.WellShaped.{IsWellShaped, is_name};
+ghost use Rattle.mini_print.specs.Text.{is_word};
 ghost use Rattle.mini_print.specs.Printed.{program_is_printable};
 ghost use Rattle.mini_print.specs.Unprintable.{first_fault};
 ghost use Rattle.mini_printable.specs.Unresolved.{is_unresolved};
@@ -21,4 +22,10 @@ pub fn programs_are_printable()
 /// of ESTree's programs lack no production.
 pub fn read_programs_are_printable()
     ensures { (depth : ℕ) (value : Data) (t : Tree) (numbers : ℕ) → program_at depth value ≡ Ok (t, numbers) → first_fault t ≡ None → program_is_printable t ≡ true }
+{}
+
+/// The name of an identifier is a word of a text (ECMA-262, 12.7): no blank, and no unit that
+/// begins another token, stands in it, and it begins with no digit.
+pub fn names_are_words()
+    ensures { (s : List ℕ) → is_name s ≡ true → is_word s ≡ true }
 {}
