@@ -73,6 +73,7 @@ abbrev pub print_note : PrintError → Option (List ℕ)
 print_note error.OutOfMemory = None
 print_note (error.Reserved at) = Some (note_line (codes "Reserved") (path_text at))
 print_note (error.BadText at) = Some (note_line (codes "BadText") (path_text at))
+print_note error.TooDeep = Some (note_line (codes "TooDeep") [])
 print_note error.Unprintable = Some (note_line (codes "Unprintable") [])
 
 -- what is told of a text in which half a surrogate pair stands alone: it has no UTF-8

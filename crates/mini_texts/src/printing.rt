@@ -89,6 +89,7 @@ fn refuse_unprinted(alloc: Global, error: PrintError) -> Refusal
         PrintError::OutOfMemory => Refusal::OutOfMemory,
         PrintError::Reserved { at } => refuse_at(alloc, "Reserved", &at),
         PrintError::BadText { at } => refuse_at(alloc, "BadText", &at),
+        PrintError::TooDeep => refuse(alloc, "TooDeep", ""),
         PrintError::Unprintable => refuse(alloc, "Unprintable", ""),
     }
 }
