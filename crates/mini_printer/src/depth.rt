@@ -1,0 +1,56 @@
+//! How deep the text of a tree nests.
+
+ghost use Rattle.std.specs.Prelude.{◌≡◌};
+ghost use Rattle.mini_model.specs.Tree.{shape_of, children};
+ghost use Rattle.mini_node.specs.Children.{trees_of};
+ghost use Rattle.mini_printer.specs.Depth as nesting;
+
+use mini_model::Shape;
+use mini_node::Node;
+
+// The levels of a node: one, and one for each piece of a template.
+fn own_levels(node: &Node) -> usize
+    ensures { result ≡ nesting.own_levels (shape_of node.now) (children node.now) }
+{
+    match node.shape() {
+        Shape::TemplateLiteral => match node.parts().split_first() {
+            Some((pieces, _)) => pieces.parts().len(),
+            None => 1,
+        },
+        _ => 1,
+    }
+}
+
+// Whether a node has at most so many levels.
+#[cycle(levels)]
+#[tactic(auto, using(crate::proofs::Depths::below, crate::proofs::Depths::nests_by, crate::proofs::Depths::too_many))]
+fn nests_within(levels: usize, node: &Node) -> bool
+    ensures { result ≡ nesting.nests_within levels node.now }
+{
+    let own = own_levels(node);
+    if own > levels {
+        return false;
+    }
+    all_nest_within(levels - own, node.parts())
+}
+
+#[cycle(levels)]
+#[tactic(auto, using(crate::proofs::Depths::nodes_go_on, crate::proofs::Depths::nodes_stop, crate::proofs::Depths::nodes_end))]
+fn all_nest_within(levels: usize, nodes: &[Node]) -> bool
+    ensures { result ≡ nesting.all_nest_within levels (trees_of nodes.now) }
+{
+    for node in nodes {
+        if !nests_within(levels, node) {
+            return false;
+        }
+    }
+    true
+}
+
+/// Whether a program nests no deeper than what is printed: 1,000 levels, of which a template has one
+/// for each of its pieces.
+pub fn may_print(program: &Node) -> bool
+    ensures { result ≡ nesting.may_print program.now }
+{
+    nests_within(1000, program)
+}
