@@ -5,9 +5,9 @@ use Rattle.mini_model.specs.declared.operator.AssignmentOperator.TheVariants as 
 use Rattle.mini_model.specs.declared.shape.Shape.TheVariants as shape
 use Rattle.mini_model.specs.Tree.{Tree, Trees, node, none, ◌▸◌, shape_of, children, is_absent}
 use Rattle.mini_node.specs.Children.{names_of}
-use Rattle.mini_print.specs.Grammar.{Assignment, PatternAssignment, first_shape}
-use Rattle.mini_print.specs.Printed.{has_body, second_generates, generates, has_default, has_default_shape, declares_first, is_declaration, first_is_absent, is_absent_shape, first_spelling, first_raw, assigns_first, is_target_shape, part_at, has_items, spelling_of, is_text, is_reference, is_repeated, declares_default, assignment_of, taker}
-use Rattle.mini_grammar.specs.Firsts.{first_tree, second_tree, third_tree, fourth_tree, tree_or_absent, holds_of, is_body, spelling_in, spelling_by, raw_by, text_if, name_text, word_by, is_text_shape, is_reference_shape, is_list_of_some}
+use Rattle.mini_print.specs.Grammar.{Assignment, PatternAssignment, first_shape, Arrow, ArrowBlock}
+use Rattle.mini_print.specs.Printed.{has_body, second_generates, generates, has_default, has_default_shape, declares_first, is_declaration, first_is_absent, is_absent_shape, first_spelling, first_raw, assigns_first, is_target_shape, part_at, has_items, spelling_of, is_text, is_reference, declares_default, assignment_of, taker, Short, arrow_over, arrow_block_over, only_name, styled}
+use Rattle.mini_grammar.specs.Firsts.{first_tree, second_tree, third_tree, fourth_tree, tree_or_absent, holds_of, is_body, spelling_in, spelling_by, raw_by, text_if, word_by, is_text_shape, is_reference_shape, is_list_of_some, name_of_first, name_of_list}
 
 pub generates_by : (ts : Trees) → second_generates ts ≡ holds_of generates (second_tree ts)
 generates_by none = refl
@@ -124,3 +124,27 @@ value_assigned (node shape.BindingIdentifier xs n us ▸ ts) e = refl
 value_assigned (node shape.ObjectPattern xs n us ▸ ts) e = refl
 value_assigned (node shape.ArrayPattern xs n us ▸ ts) e = refl
 value_assigned (node h xs n us ▸ ts) e = refl
+
+-- the one name of a list
+pub only_by : (t : Tree) → only_name t ≡ name_of_list (shape_of t) (names_of t) (children t)
+only_by (node shape.Listed [] n none) = refl
+only_by (node shape.Listed [] n (node shape.BindingIdentifier [] m us ▸ none)) = refl
+only_by (node shape.Listed [] n (node shape.BindingIdentifier (x ∷ []) m none ▸ none)) = refl
+only_by (node shape.Listed [] n (node shape.BindingIdentifier (x ∷ []) m (u ▸ us) ▸ none)) = refl
+only_by (node shape.Listed [] n (node shape.BindingIdentifier (x ∷ y ∷ xs) m us ▸ none)) = refl
+only_by (node shape.Listed [] n (node h xs m us ▸ none)) = refl
+only_by (node shape.Listed [] n (node shape.BindingIdentifier [] m us ▸ v ▸ vs)) = refl
+only_by (node shape.Listed [] n (node shape.BindingIdentifier (x ∷ []) m none ▸ v ▸ vs)) = refl
+only_by (node shape.Listed [] n (node shape.BindingIdentifier (x ∷ []) m (u ▸ us) ▸ v ▸ vs)) = refl
+only_by (node shape.Listed [] n (node shape.BindingIdentifier (x ∷ y ∷ xs) m us ▸ v ▸ vs)) = refl
+only_by (node shape.Listed [] n (node h xs m us ▸ v ▸ vs)) = refl
+only_by (node shape.Listed (x ∷ xs) n ts) = refl
+only_by (node h xs n ts) = refl
+
+pub arrow_styled : (ts : Trees) → styled Arrow Short ts ≡ arrow_over (name_of_first (first_tree ts))
+arrow_styled none = refl
+arrow_styled (t ▸ ts) = refl
+
+pub block_styled : (ts : Trees) → styled ArrowBlock Short ts ≡ arrow_block_over (name_of_first (first_tree ts))
+block_styled none = refl
+block_styled (t ▸ ts) = refl

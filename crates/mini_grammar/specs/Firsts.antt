@@ -1,15 +1,15 @@
 -- What tokens, and the parts of a node, begin with.
-use Rattle.std.specs.Prelude.{ℕ, zero, suc, nat_eq, List, [], ◌∷◌, ◌++◌, Option, Some, None, pos, negsuc, ℤ, not, codes, Bool, true, false, ◌&&◌, if◌then◌else◌}
+use Rattle.std.specs.Prelude.{ℕ, zero, suc, nat_eq, List, [], ◌∷◌, Option, Some, None, pos, negsuc, ℤ, not, codes, Bool, true, false, ◌&&◌, if◌then◌else◌}
 use Rattle.mini_model.specs.declared.name.Name.{Name}
 use Rattle.mini_model.specs.declared.shape.Shape.{Shape}
 use Rattle.mini_model.specs.declared.shape.Shape.TheVariants as shape
 use Rattle.mini_model.specs.declared.operator.UnaryOperator.TheVariants.{UnaryNegation}
-use Rattle.mini_model.specs.Tree.{Tree, Trees, node, none, ◌▸◌, shape_of, absent}
+use Rattle.mini_model.specs.Tree.{Tree, Trees, node, none, ◌▸◌, shape_of, absent, children}
 use Rattle.mini_model.specs.Weight.{same_text}
 use Rattle.mini_print.specs.Token.{Token, Word, Punct, Colon, Quoted, Semicolon, Dot, OptionalDot, Comma}
 use Rattle.mini_print.specs.Grammar.{Goal, Rule, NumberLiteral, Unary, is_reserved, place}
-use Rattle.mini_print.specs.Text.{spelled}
-use Rattle.mini_print.specs.Printed.{Printer, opens_inside, closes_inside, one_less, is_in}
+use Rattle.mini_node.specs.Children.{names_of}
+use Rattle.mini_print.specs.Printed.{Printer, opens_inside, closes_inside, one_less, is_in, only_name}
 use Rattle.mini_model.specs.Position.{assignment_level}
 
 abbrev pub first_of : List Token → Option Token
@@ -85,6 +85,23 @@ is_list_of_some _ ts = false
 abbrev pub raw_by : Shape → List ℕ
 raw_by (shape.TemplateElement b s c) = s
 raw_by _ = []
+
+-- the name of a leaf that is declared, of the one part that there is, and of the one item of a list
+abbrev pub name_of_leaf : Shape → List Name → Trees → Option (List ℕ)
+name_of_leaf shape.BindingIdentifier (x ∷ []) none = Some x.spelling
+name_of_leaf _ xs ts = None
+
+abbrev pub name_of_one : Trees → Option (List ℕ)
+name_of_one (t ▸ none) = name_of_leaf (shape_of t) (names_of t) (children t)
+name_of_one ts = None
+
+abbrev pub name_of_list : Shape → List Name → Trees → Option (List ℕ)
+name_of_list shape.Listed [] ts = name_of_one ts
+name_of_list _ xs ts = None
+
+abbrev pub name_of_first : Option Tree → Option (List ℕ)
+name_of_first None = None
+name_of_first (Some t) = only_name t
 
 abbrev pub text_if : (Tree → List ℕ) → Option Tree → List ℕ
 text_if f None = []

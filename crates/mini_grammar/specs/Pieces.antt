@@ -1,6 +1,6 @@
 -- What stands in each production, as the table in the code has it, and that it is what the grammar
 -- has.
-use Rattle.std.specs.Prelude.{ℕ, ◌+◌, ◌||◌, not, Bool, true, false, List, [], ◌∷◌, codes, Option, Some, None, option_map}
+use Rattle.std.specs.Prelude.{ℕ, ◌+◌, ◌||◌, not, Bool, true, false, List, [], ◌∷◌, Some, None, option_map}
 use Rattle.mini_model.specs.Position.{left_level, right_level, logical_level, mix_of}
 use Rattle.mini_model.specs.declared.seat.Mix.{Mix}
 use Rattle.mini_model.specs.declared.seat.Mix.TheVariants as mix
@@ -8,11 +8,10 @@ use Rattle.mini_model.specs.declared.operator.AssignmentOperator.TheVariants as 
 use Rattle.mini_print.specs.Token.{Token, Word, Punct, Number, BigInt, Quoted, Pattern, Private, TemplateWhole, TemplateHead, TemplateMiddle, TemplateTail, Semicolon, RightBrace, binary_token, logical_token, unary_token, update_token, assignment_token}
 use Rattle.mini_print.specs.Text.{escaped}
 use Rattle.mini_print.specs.Grammar as grammar
-use Rattle.mini_print.specs.Grammar.{Rule, Part, Silent, Lookahead, Opener, Least, left, part, commas, perhaps, option, statements, unwritten, lookahead, fork, form, kind_token, named, NameOf, BindingOf, ReferenceOf, PrivateOf, SuperHere, PieceOf, TextOf, NoItems, Nothing}
+use Rattle.mini_print.specs.Grammar.{Rule, Part, Silent, Lookahead, Opener, Least, left, part, commas, perhaps, option, statements, unwritten, lookahead, fork, form, kind_token, named, NameOf, BindingOf, ReferenceOf, PrivateOf, SuperHere, PieceOf, TextOf, NoItems, ParameterOf, Nothing}
 use Rattle.mini_grammar.specs.Views.{word_text, punctuator, goal_of}
 use Rattle.mini_grammar.specs.declared.keyword.Keyword.TheVariants as keyword
 use Rattle.mini_grammar.specs.declared.token.Punct.TheVariants as punct
-use Rattle.mini_grammar.specs.declared.grammar.Goal as goal_type
 use Rattle.mini_grammar.specs.declared.grammar.Goal.TheVariants as goal
 use Rattle.mini_grammar.specs.declared.grammar.Lookahead as lookahead_type
 use Rattle.mini_grammar.specs.declared.grammar.Lookahead.TheVariants as look
@@ -77,6 +76,8 @@ own (grammar.ForwardText s) = Quoted (escaped s)
 own (grammar.DeclaredVariables k) = kind_token k
 own (grammar.DeclaredClass s) = Word s
 own (grammar.DefaultClassNamed s) = Word s
+own (grammar.ArrowName s) = Word s
+own (grammar.ArrowNameBlock s) = Word s
 own _ = Punct Semicolon
 
 -- the name of a production
@@ -116,6 +117,8 @@ own_text (grammar.ForwardName s) = s
 own_text (grammar.ForwardText s) = s
 own_text (grammar.DeclaredClass s) = s
 own_text (grammar.DefaultClassNamed s) = s
+own_text (grammar.ArrowName s) = s
+own_text (grammar.ArrowNameBlock s) = s
 own_text (grammar.NamedDefault b s) = s
 own_text _ = []
 
@@ -177,6 +180,7 @@ silent_of h (silent.Piece b) = PieceOf b (own_text h)
 silent_of h (silent.Word w) = NameOf (word_text w)
 silent_of h silent.Text = TextOf (own_text h)
 silent_of h silent.NoItems = NoItems
+silent_of h silent.Parameter = ParameterOf (own_text h)
 
 -- a piece of a production, before others
 abbrev pub piece_parts : Rule → Piece → List Part → List Part
@@ -252,6 +256,8 @@ pieces_of (grammar.Assignment o) = piece.Left 18 ∷ piece.Own ∷ piece.Part No
 pieces_of grammar.Sequence = piece.Commas None least.Two ∷ []
 pieces_of grammar.Arrow = piece.Mark punct.LeftParen ∷ piece.Commas (Some goal.Parameter) least.Zero ∷ piece.Mark punct.RightParen ∷ piece.Mark punct.Arrow ∷ piece.Restricted look.NoBrace None 1 ∷ []
 pieces_of grammar.ArrowBlock = piece.Mark punct.LeftParen ∷ piece.Commas (Some goal.Parameter) least.Zero ∷ piece.Mark punct.RightParen ∷ piece.Mark punct.Arrow ∷ piece.Part (Some goal.Body) 0 ∷ []
+pieces_of (grammar.ArrowName s) = piece.Own ∷ piece.Mark punct.Arrow ∷ piece.Silent silent.Parameter ∷ piece.Restricted look.NoBrace None 1 ∷ []
+pieces_of (grammar.ArrowNameBlock s) = piece.Own ∷ piece.Mark punct.Arrow ∷ piece.Silent silent.Parameter ∷ piece.Part (Some goal.Body) 0 ∷ []
 pieces_of (grammar.BindingName s) = piece.Own ∷ []
 pieces_of grammar.Block = piece.Mark punct.LeftBrace ∷ piece.Statements goal.Statement ∷ piece.Mark punct.RightBrace ∷ []
 pieces_of (grammar.Variables k) = piece.Own ∷ piece.Commas (Some goal.Declared) least.One ∷ piece.Semicolon ∷ []

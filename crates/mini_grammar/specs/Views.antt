@@ -1,10 +1,5 @@
 -- What the values of the code are in the grammar's definitions.
-use Rattle.std.specs.Prelude.{ℕ, Bool, true, false, List, [], ◌∷◌, codes, Option, Some, None, option_map}
-use Rattle.mini_model.specs.Position.{left_level, right_level, logical_level, mix_of}
-use Rattle.mini_model.specs.declared.seat.Mix.{Mix}
-use Rattle.mini_model.specs.declared.seat.Mix.TheVariants as mix
-use Rattle.mini_model.specs.declared.operator.AssignmentOperator.TheVariants.{Assign}
-use Rattle.mini_model.specs.declared.operator.UnaryOperator.TheVariants.{UnaryNegation}
+use Rattle.std.specs.Prelude.{ℕ, List, [], ◌∷◌, codes}
 use Rattle.mini_print.specs.Text.{escaped}
 use Rattle.mini_print.specs.Token as tokens
 use Rattle.mini_print.specs.Token.{binary_token, logical_token, unary_token, update_token}
@@ -375,3 +370,5 @@ rule_of (rule.ForwardText s) = grammar.ForwardText s.now
 rule_of (rule.DeclaredVariables s) = grammar.DeclaredVariables s
 rule_of (rule.DeclaredClass s) = grammar.DeclaredClass s.now
 rule_of (rule.DefaultClassNamed s) = grammar.DefaultClassNamed s.now
+rule_of (rule.ArrowName s) = grammar.ArrowName s.now
+rule_of (rule.ArrowNameBlock s) = grammar.ArrowNameBlock s.now

@@ -114,6 +114,20 @@ pub const ARROW_BLOCK: [Piece; 5] = [
     Piece::Part(Some(Goal::Body), 0),
 ];
 
+pub const ARROW_NAME: [Piece; 4] = [
+    Piece::Own,
+    Piece::Mark(Punct::Arrow),
+    Piece::Silent(Silent::Parameter),
+    Piece::Restricted(Lookahead::NoBrace, None, 1),
+];
+
+pub const ARROW_NAME_BLOCK: [Piece; 4] = [
+    Piece::Own,
+    Piece::Mark(Punct::Arrow),
+    Piece::Silent(Silent::Parameter),
+    Piece::Part(Some(Goal::Body), 0),
+];
+
 pub const BLOCK: [Piece; 3] = [
     Piece::Mark(Punct::LeftBrace),
     Piece::Statements(Goal::Statement),

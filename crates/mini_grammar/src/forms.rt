@@ -4,107 +4,8 @@ ghost use Rattle.std.specs.Prelude.{◌≡◌, ◌≤◌, length};
 ghost use Rattle.mini_grammar.specs.Pieces.{pieces_of};
 ghost use Rattle.mini_grammar.specs.Views.{rule_of};
 
-use crate::expressions::ARRAY;
-use crate::expressions::ARRAY_PATTERN;
-use crate::expressions::ARRAY_TARGET;
-use crate::expressions::ARROW;
-use crate::expressions::ARROW_BLOCK;
-use crate::expressions::ASSIGNMENT;
-use crate::expressions::BINARY;
-use crate::expressions::BLOCK;
-use crate::expressions::BOUND_COMPUTED;
-use crate::expressions::BOUND_KEY_VALUE;
-use crate::expressions::BOUND_SHORTHAND;
-use crate::expressions::BREAK;
-use crate::expressions::CALL;
-use crate::expressions::CASE;
-use crate::expressions::CATCH_BARE;
-use crate::expressions::CATCH_PARAM;
-use crate::expressions::COMPUTED;
-use crate::expressions::CONDITIONAL;
-use crate::expressions::CONTINUE;
-use crate::expressions::DEBUGGER;
-use crate::expressions::DECLARATOR;
-use crate::expressions::DEFAULT_CASE;
-use crate::expressions::DEFAULTED;
-use crate::expressions::DIRECTIVE;
-use crate::expressions::DO_WHILE;
-use crate::expressions::EMPTY;
-use crate::expressions::EXPRESSION_STATEMENT;
-use crate::expressions::FALSE;
-use crate::expressions::FOR;
-use crate::expressions::FOR_DECLARED;
-use crate::expressions::FOR_DECLARED_IN;
-use crate::expressions::FOR_DECLARED_OF;
-use crate::expressions::FOR_IN;
-use crate::expressions::FOR_OF;
-use crate::expressions::FOR_PATTERN_IN;
-use crate::expressions::FOR_PATTERN_OF;
-use crate::expressions::FUNCTION_BODY;
-use crate::expressions::FUNCTION_DECLARATION;
-use crate::expressions::FUNCTION_EXPRESSION;
-use crate::expressions::GENERATOR_DECLARATION;
-use crate::expressions::GENERATOR_EXPRESSION;
-use crate::expressions::GENERATOR_PROPERTY;
-use crate::expressions::GETTER;
-use crate::expressions::HEAD_VARIABLES;
-use crate::expressions::IF;
-use crate::expressions::IMPORT;
-use crate::expressions::IMPORT_META;
-use crate::expressions::INDEX;
-use crate::expressions::KEY_VALUE;
-use crate::expressions::LABEL;
-use crate::expressions::MEMBER;
-use crate::expressions::METHOD_FUNCTION;
-use crate::expressions::METHOD_PROPERTY;
-use crate::expressions::NEW;
-use crate::expressions::NEW_TARGET;
-use crate::expressions::NULL;
-use crate::expressions::OBJECT;
-use crate::expressions::OBJECT_PATTERN;
-use crate::expressions::OBJECT_TARGET;
-use crate::expressions::OWN;
-use crate::expressions::PATTERN_ASSIGNMENT;
-use crate::expressions::PATTERN_ITEM;
-use crate::expressions::PATTERN_REST;
-use crate::expressions::POSTFIX;
-use crate::expressions::PREFIX;
-use crate::expressions::PRIVATE_IN;
-use crate::expressions::REST;
-use crate::expressions::RETURN;
-use crate::expressions::SEQUENCE;
-use crate::expressions::SETTER;
-use crate::expressions::SHORTHAND;
-use crate::expressions::SPREAD;
-use crate::expressions::SUPER_CALL;
-use crate::expressions::SUPER_INDEX;
-use crate::expressions::SUPER_MEMBER;
-use crate::expressions::SWITCH;
-use crate::expressions::TARGET_COMPUTED;
-use crate::expressions::TARGET_DEFAULT;
-use crate::expressions::TARGET_KEY_VALUE;
-use crate::expressions::THIS;
-use crate::expressions::THROW;
-use crate::expressions::TRUE;
-use crate::expressions::TRY;
-use crate::expressions::UNARY;
-use crate::expressions::VALUE_ITEM;
-use crate::expressions::VALUE_REST;
-use crate::expressions::VARIABLES;
-use crate::expressions::WHILE;
-use crate::expressions::WHOLE_TEMPLATE;
-use crate::expressions::YIELD;
-use crate::expressions::YIELD_BARE;
-use crate::expressions::YIELD_FROM;
-use crate::grammar::Ending;
-use crate::grammar::Fixed;
-use crate::grammar::Goal;
-use crate::grammar::Least;
-use crate::grammar::Lookahead;
-use crate::grammar::Opener;
-use crate::grammar::Piece;
-use crate::grammar::Rule;
-use crate::grammar::Silent;
+use crate::expressions;
+use crate::grammar::{Ending, Fixed, Goal, Least, Lookahead, Opener, Piece, Rule, Silent};
 use crate::keyword::Keyword;
 use crate::token::Punct;
 use mini_model::AssignmentOperator;
@@ -484,103 +385,106 @@ pub fn pieces_of<'a>(rule: Rule<'a>) -> &'static [Piece]
         | Rule::KeyText(_)
         | Rule::KeyNumber(_)
         | Rule::PrivateKey(_)
-        | Rule::TailPiece(_) => &OWN,
-        Rule::Fixed(Fixed::Null) => &NULL,
-        Rule::Fixed(Fixed::This) => &THIS,
-        Rule::Fixed(Fixed::True) => &TRUE,
-        Rule::Fixed(Fixed::False) => &FALSE,
-        Rule::Fixed(Fixed::Array) => &ARRAY,
-        Rule::Fixed(Fixed::Object) => &OBJECT,
-        Rule::Fixed(Fixed::KeyValue) => &KEY_VALUE,
-        Rule::Fixed(Fixed::Computed) => &COMPUTED,
-        Rule::Fixed(Fixed::Spread) | Rule::Fixed(Fixed::SpreadItem) => &SPREAD,
-        Rule::Fixed(Fixed::Member) => &MEMBER,
-        Rule::Fixed(Fixed::Index) => &INDEX,
-        Rule::Fixed(Fixed::New) => &NEW,
-        Rule::Fixed(Fixed::Import) => &IMPORT,
-        Rule::Fixed(Fixed::Call) => &CALL,
-        Rule::Postfix(_) => &POSTFIX,
-        Rule::Prefix(_) => &PREFIX,
-        Rule::Unary(_) => &UNARY,
-        Rule::Binary(_) | Rule::Logical(_) => &BINARY,
-        Rule::Fixed(Fixed::Conditional) => &CONDITIONAL,
-        Rule::Assignment(_) => &ASSIGNMENT,
-        Rule::Fixed(Fixed::Sequence) => &SEQUENCE,
-        Rule::Fixed(Fixed::Arrow) => &ARROW,
-        Rule::Fixed(Fixed::ArrowBlock) => &ARROW_BLOCK,
-        Rule::Fixed(Fixed::Block) | Rule::Fixed(Fixed::BlockPart) => &BLOCK,
-        Rule::Variables(_) | Rule::DeclaredVariables(_) => &VARIABLES,
-        Rule::Fixed(Fixed::Declarator) => &DECLARATOR,
-        Rule::Fixed(Fixed::Empty) => &EMPTY,
-        Rule::Fixed(Fixed::ExpressionStatement) => &EXPRESSION_STATEMENT,
-        Rule::Fixed(Fixed::If) => &IF,
-        Rule::Fixed(Fixed::DoWhile) => &DO_WHILE,
-        Rule::Fixed(Fixed::While) => &WHILE,
-        Rule::Fixed(Fixed::For) => &FOR,
-        Rule::Fixed(Fixed::Return) => &RETURN,
-        Rule::Fixed(Fixed::Throw) => &THROW,
-        Rule::Fixed(Fixed::Debugger) => &DEBUGGER,
-        Rule::Fixed(Fixed::Break) => &BREAK,
-        Rule::Fixed(Fixed::Continue) => &CONTINUE,
+        | Rule::TailPiece(_) => &expressions::OWN,
+        Rule::Fixed(Fixed::Null) => &expressions::NULL,
+        Rule::Fixed(Fixed::This) => &expressions::THIS,
+        Rule::Fixed(Fixed::True) => &expressions::TRUE,
+        Rule::Fixed(Fixed::False) => &expressions::FALSE,
+        Rule::Fixed(Fixed::Array) => &expressions::ARRAY,
+        Rule::Fixed(Fixed::Object) => &expressions::OBJECT,
+        Rule::Fixed(Fixed::KeyValue) => &expressions::KEY_VALUE,
+        Rule::Fixed(Fixed::Computed) => &expressions::COMPUTED,
+        Rule::Fixed(Fixed::Spread) | Rule::Fixed(Fixed::SpreadItem) => &expressions::SPREAD,
+        Rule::Fixed(Fixed::Member) => &expressions::MEMBER,
+        Rule::Fixed(Fixed::Index) => &expressions::INDEX,
+        Rule::Fixed(Fixed::New) => &expressions::NEW,
+        Rule::Fixed(Fixed::Import) => &expressions::IMPORT,
+        Rule::Fixed(Fixed::Call) => &expressions::CALL,
+        Rule::Postfix(_) => &expressions::POSTFIX,
+        Rule::Prefix(_) => &expressions::PREFIX,
+        Rule::Unary(_) => &expressions::UNARY,
+        Rule::Binary(_) | Rule::Logical(_) => &expressions::BINARY,
+        Rule::Fixed(Fixed::Conditional) => &expressions::CONDITIONAL,
+        Rule::Assignment(_) => &expressions::ASSIGNMENT,
+        Rule::Fixed(Fixed::Sequence) => &expressions::SEQUENCE,
+        Rule::Fixed(Fixed::Arrow) => &expressions::ARROW,
+        Rule::Fixed(Fixed::ArrowBlock) => &expressions::ARROW_BLOCK,
+        Rule::ArrowName(_) => &expressions::ARROW_NAME,
+        Rule::ArrowNameBlock(_) => &expressions::ARROW_NAME_BLOCK,
+        Rule::Fixed(Fixed::Block) | Rule::Fixed(Fixed::BlockPart) => &expressions::BLOCK,
+        Rule::Variables(_) | Rule::DeclaredVariables(_) => &expressions::VARIABLES,
+        Rule::Fixed(Fixed::Declarator) => &expressions::DECLARATOR,
+        Rule::Fixed(Fixed::Empty) => &expressions::EMPTY,
+        Rule::Fixed(Fixed::ExpressionStatement) => &expressions::EXPRESSION_STATEMENT,
+        Rule::Fixed(Fixed::If) => &expressions::IF,
+        Rule::Fixed(Fixed::DoWhile) => &expressions::DO_WHILE,
+        Rule::Fixed(Fixed::While) => &expressions::WHILE,
+        Rule::Fixed(Fixed::For) => &expressions::FOR,
+        Rule::Fixed(Fixed::Return) => &expressions::RETURN,
+        Rule::Fixed(Fixed::Throw) => &expressions::THROW,
+        Rule::Fixed(Fixed::Debugger) => &expressions::DEBUGGER,
+        Rule::Fixed(Fixed::Break) => &expressions::BREAK,
+        Rule::Fixed(Fixed::Continue) => &expressions::CONTINUE,
         Rule::Fixed(Fixed::FunctionExpression) | Rule::Fixed(Fixed::DefaultFunction) =>
-            &FUNCTION_EXPRESSION,
+            &expressions::FUNCTION_EXPRESSION,
         Rule::Fixed(Fixed::FunctionDeclaration) | Rule::Fixed(Fixed::DeclaredFunction) =>
-            &FUNCTION_DECLARATION,
+            &expressions::FUNCTION_DECLARATION,
         Rule::Fixed(Fixed::GeneratorExpression) | Rule::Fixed(Fixed::DefaultGenerator) =>
-            &GENERATOR_EXPRESSION,
+            &expressions::GENERATOR_EXPRESSION,
         Rule::Fixed(Fixed::GeneratorDeclaration) | Rule::Fixed(Fixed::DeclaredGenerator) =>
-            &GENERATOR_DECLARATION,
-        Rule::Fixed(Fixed::Yield) => &YIELD,
-        Rule::Fixed(Fixed::YieldBare) => &YIELD_BARE,
-        Rule::Fixed(Fixed::YieldFrom) => &YIELD_FROM,
-        Rule::Fixed(Fixed::SuperMember) => &SUPER_MEMBER,
-        Rule::Fixed(Fixed::SuperIndex) => &SUPER_INDEX,
-        Rule::Fixed(Fixed::SuperCall) => &SUPER_CALL,
-        Rule::Fixed(Fixed::NewTarget) => &NEW_TARGET,
-        Rule::Fixed(Fixed::ImportMeta) => &IMPORT_META,
-        Rule::PrivateIn(_) => &PRIVATE_IN,
-        Rule::Label(_) => &LABEL,
-        Rule::Fixed(Fixed::Switch) => &SWITCH,
-        Rule::Fixed(Fixed::Case) => &CASE,
-        Rule::Fixed(Fixed::DefaultCase) => &DEFAULT_CASE,
-        Rule::Fixed(Fixed::Try) => &TRY,
-        Rule::Fixed(Fixed::CatchParam) => &CATCH_PARAM,
-        Rule::Fixed(Fixed::CatchBare) => &CATCH_BARE,
-        Rule::Fixed(Fixed::ObjectPattern) => &OBJECT_PATTERN,
-        Rule::Fixed(Fixed::ArrayPattern) => &ARRAY_PATTERN,
-        Rule::Fixed(Fixed::Rest) | Rule::Fixed(Fixed::BoundRest) => &REST,
-        Rule::Fixed(Fixed::BoundKeyValue) => &BOUND_KEY_VALUE,
-        Rule::Fixed(Fixed::BoundComputed) => &BOUND_COMPUTED,
-        Rule::BoundShorthand(_) | Rule::ImportShort(_) => &BOUND_SHORTHAND,
-        Rule::Shorthand(_) | Rule::TargetShorthand(_) => &SHORTHAND,
-        Rule::Fixed(Fixed::ForIn) => &FOR_IN,
-        Rule::Fixed(Fixed::ForOf) => &FOR_OF,
-        Rule::Fixed(Fixed::ForDeclared) => &FOR_DECLARED,
-        Rule::Fixed(Fixed::ForDeclaredIn) => &FOR_DECLARED_IN,
-        Rule::Fixed(Fixed::ForDeclaredOf) => &FOR_DECLARED_OF,
-        Rule::Fixed(Fixed::ForPatternIn) => &FOR_PATTERN_IN,
-        Rule::Fixed(Fixed::ForPatternOf) => &FOR_PATTERN_OF,
-        Rule::HeadVariables(_) => &HEAD_VARIABLES,
-        Rule::Fixed(Fixed::MethodProperty) => &METHOD_PROPERTY,
-        Rule::Fixed(Fixed::Getter) => &GETTER,
-        Rule::Fixed(Fixed::Setter) => &SETTER,
-        Rule::Fixed(Fixed::GeneratorProperty) => &GENERATOR_PROPERTY,
+            &expressions::GENERATOR_DECLARATION,
+        Rule::Fixed(Fixed::Yield) => &expressions::YIELD,
+        Rule::Fixed(Fixed::YieldBare) => &expressions::YIELD_BARE,
+        Rule::Fixed(Fixed::YieldFrom) => &expressions::YIELD_FROM,
+        Rule::Fixed(Fixed::SuperMember) => &expressions::SUPER_MEMBER,
+        Rule::Fixed(Fixed::SuperIndex) => &expressions::SUPER_INDEX,
+        Rule::Fixed(Fixed::SuperCall) => &expressions::SUPER_CALL,
+        Rule::Fixed(Fixed::NewTarget) => &expressions::NEW_TARGET,
+        Rule::Fixed(Fixed::ImportMeta) => &expressions::IMPORT_META,
+        Rule::PrivateIn(_) => &expressions::PRIVATE_IN,
+        Rule::Label(_) => &expressions::LABEL,
+        Rule::Fixed(Fixed::Switch) => &expressions::SWITCH,
+        Rule::Fixed(Fixed::Case) => &expressions::CASE,
+        Rule::Fixed(Fixed::DefaultCase) => &expressions::DEFAULT_CASE,
+        Rule::Fixed(Fixed::Try) => &expressions::TRY,
+        Rule::Fixed(Fixed::CatchParam) => &expressions::CATCH_PARAM,
+        Rule::Fixed(Fixed::CatchBare) => &expressions::CATCH_BARE,
+        Rule::Fixed(Fixed::ObjectPattern) => &expressions::OBJECT_PATTERN,
+        Rule::Fixed(Fixed::ArrayPattern) => &expressions::ARRAY_PATTERN,
+        Rule::Fixed(Fixed::Rest) | Rule::Fixed(Fixed::BoundRest) => &expressions::REST,
+        Rule::Fixed(Fixed::BoundKeyValue) => &expressions::BOUND_KEY_VALUE,
+        Rule::Fixed(Fixed::BoundComputed) => &expressions::BOUND_COMPUTED,
+        Rule::BoundShorthand(_) | Rule::ImportShort(_) => &expressions::BOUND_SHORTHAND,
+        Rule::Shorthand(_) | Rule::TargetShorthand(_) => &expressions::SHORTHAND,
+        Rule::Fixed(Fixed::ForIn) => &expressions::FOR_IN,
+        Rule::Fixed(Fixed::ForOf) => &expressions::FOR_OF,
+        Rule::Fixed(Fixed::ForDeclared) => &expressions::FOR_DECLARED,
+        Rule::Fixed(Fixed::ForDeclaredIn) => &expressions::FOR_DECLARED_IN,
+        Rule::Fixed(Fixed::ForDeclaredOf) => &expressions::FOR_DECLARED_OF,
+        Rule::Fixed(Fixed::ForPatternIn) => &expressions::FOR_PATTERN_IN,
+        Rule::Fixed(Fixed::ForPatternOf) => &expressions::FOR_PATTERN_OF,
+        Rule::HeadVariables(_) => &expressions::HEAD_VARIABLES,
+        Rule::Fixed(Fixed::MethodProperty) => &expressions::METHOD_PROPERTY,
+        Rule::Fixed(Fixed::Getter) => &expressions::GETTER,
+        Rule::Fixed(Fixed::Setter) => &expressions::SETTER,
+        Rule::Fixed(Fixed::GeneratorProperty) => &expressions::GENERATOR_PROPERTY,
         Rule::Fixed(Fixed::MethodFunction) | Rule::Fixed(Fixed::GeneratorMethod) =>
-            &METHOD_FUNCTION,
-        Rule::Fixed(Fixed::FunctionBody) => &FUNCTION_BODY,
-        Rule::WholeTemplate(_) | Rule::TagWhole(_) => &WHOLE_TEMPLATE,
-        Rule::Fixed(Fixed::Defaulted) => &DEFAULTED,
-        Rule::Fixed(Fixed::PatternAssignment) => &PATTERN_ASSIGNMENT,
-        Rule::Fixed(Fixed::ArrayTarget) => &ARRAY_TARGET,
-        Rule::Fixed(Fixed::ObjectTarget) => &OBJECT_TARGET,
-        Rule::Fixed(Fixed::PatternItem) => &PATTERN_ITEM,
-        Rule::Fixed(Fixed::ValueItem) => &VALUE_ITEM,
-        Rule::Fixed(Fixed::PatternRest) => &PATTERN_REST,
-        Rule::Fixed(Fixed::ValueRest) | Rule::Fixed(Fixed::TargetPropertyRest) => &VALUE_REST,
-        Rule::TargetDefault(_) => &TARGET_DEFAULT,
-        Rule::Fixed(Fixed::TargetKeyValue) => &TARGET_KEY_VALUE,
-        Rule::Fixed(Fixed::TargetComputed) => &TARGET_COMPUTED,
-        Rule::Directive(_) => &DIRECTIVE,
+            &expressions::METHOD_FUNCTION,
+        Rule::Fixed(Fixed::FunctionBody) => &expressions::FUNCTION_BODY,
+        Rule::WholeTemplate(_) | Rule::TagWhole(_) => &expressions::WHOLE_TEMPLATE,
+        Rule::Fixed(Fixed::Defaulted) => &expressions::DEFAULTED,
+        Rule::Fixed(Fixed::PatternAssignment) => &expressions::PATTERN_ASSIGNMENT,
+        Rule::Fixed(Fixed::ArrayTarget) => &expressions::ARRAY_TARGET,
+        Rule::Fixed(Fixed::ObjectTarget) => &expressions::OBJECT_TARGET,
+        Rule::Fixed(Fixed::PatternItem) => &expressions::PATTERN_ITEM,
+        Rule::Fixed(Fixed::ValueItem) => &expressions::VALUE_ITEM,
+        Rule::Fixed(Fixed::PatternRest) => &expressions::PATTERN_REST,
+        Rule::Fixed(Fixed::ValueRest) | Rule::Fixed(Fixed::TargetPropertyRest) =>
+            &expressions::VALUE_REST,
+        Rule::TargetDefault(_) => &expressions::TARGET_DEFAULT,
+        Rule::Fixed(Fixed::TargetKeyValue) => &expressions::TARGET_KEY_VALUE,
+        Rule::Fixed(Fixed::TargetComputed) => &expressions::TARGET_COMPUTED,
+        Rule::Directive(_) => &expressions::DIRECTIVE,
         Rule::Fixed(Fixed::ClassPlain) | Rule::Fixed(Fixed::DefaultClass) => &CLASS_PLAIN,
         Rule::ClassNamed(_) => &CLASS_NAMED,
         Rule::ClassDeclared(_) | Rule::DeclaredClass(_) | Rule::DefaultClassNamed(_) =>

@@ -120,6 +120,8 @@ pub enum Rule<'a> {
     DeclaredVariables(VariableDeclarationKind),
     DeclaredClass(&'a [u16]),
     DefaultClassNamed(&'a [u16]),
+    ArrowName(&'a [u16]),
+    ArrowNameBlock(&'a [u16]),
 }
 
 /// A production without a text, a number or an operator of its own.
@@ -348,6 +350,8 @@ pub enum Silent {
     Text,
     /// A list of nothing.
     NoItems,
+    /// A list of the name of the production, declared: the parameters of an arrow function.
+    Parameter,
 }
 
 /// What stands in a production.

@@ -15,7 +15,9 @@ pub use forms::pieces_of;
 pub use grammar::{Aim, Ending, Fixed, Goal, Least, Lookahead, Opener, Piece, Place, Rule, Silent};
 pub use keyword::{Keyword, units_of};
 pub use own::{own_flag, own_text, own_token};
-pub use parts::{first_part, is_absent, is_same_flag, is_same_text, second_part};
+pub use parts::{
+    first_part, is_absent, is_same_flag, is_same_text, only_name, second_part, short_rule,
+};
 pub use rules::rule_in;
 pub use sorts::has_sort;
 pub use token::{Punct, Token, Tokens};

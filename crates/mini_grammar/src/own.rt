@@ -112,7 +112,9 @@ pub fn own_token<'a>(rule: Rule<'a>) -> Token<'a>
         | Rule::ExportAs(text)
         | Rule::ForwardName(text)
         | Rule::DeclaredClass(text)
-        | Rule::DefaultClassNamed(text) => Token::Word(text),
+        | Rule::DefaultClassNamed(text)
+        | Rule::ArrowName(text)
+        | Rule::ArrowNameBlock(text) => Token::Word(text),
         Rule::NumberLiteral(value) | Rule::KeyNumber(value) => Token::Number(value),
         Rule::BigIntLiteral(value) => Token::BigInt(value),
         Rule::TextLiteral(text)
@@ -181,6 +183,8 @@ pub fn own_text<'a>(rule: Rule<'a>) -> &'a [u16]
         | Rule::ForwardText(text)
         | Rule::DeclaredClass(text)
         | Rule::DefaultClassNamed(text)
+        | Rule::ArrowName(text)
+        | Rule::ArrowNameBlock(text)
         | Rule::NamedDefault(_, text) => text,
         Rule::Fixed(_)
         | Rule::NumberLiteral(_)

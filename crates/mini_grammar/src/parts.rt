@@ -2,14 +2,15 @@
 
 ghost use Rattle.std.specs.Prelude.{◌≡◌, ◌&&◌};
 ghost use Rattle.std.specs.Option.{option_copied};
-ghost use Rattle.mini_model.specs.Tree.{shape_of, is_absent as absent_tree};
+ghost use Rattle.mini_model.specs.Tree.{children, shape_of, is_absent as absent_tree};
 ghost use Rattle.mini_model.specs.Weight.{same_text};
 ghost use Rattle.mini_model.specs.declared.shape.Shape.TheVariants as shape;
 ghost use Rattle.mini_model.specs.declared.operator.AssignmentOperator.TheVariants as assignment;
-ghost use Rattle.mini_node.specs.Children.{trees_of, names};
+ghost use Rattle.mini_node.specs.Children.{trees_of, names, names_of};
+ghost use Rattle.mini_print.specs.Grammar as grammar;
 ghost use Rattle.mini_print.specs.Printed as printed;
 ghost use Rattle.mini_print.specs.Grammar.{first_shape, same_flag};
-ghost use Rattle.mini_grammar.specs.Firsts.{first_tree, second_tree, third_tree, fourth_tree, is_body, is_list_of_some, name_text, spelling_by, spelling_in, raw_by};
+ghost use Rattle.mini_grammar.specs.Firsts.{first_tree, second_tree, third_tree, fourth_tree, is_body, is_list_of_some, name_text, spelling_by, spelling_in, raw_by, name_of_first, name_of_leaf, name_of_one};
 ghost use Rattle.mini_grammar.specs.Views.{rule_of};
 
 use crate::grammar::{Fixed, Rule};
@@ -468,5 +469,91 @@ pub fn is_repeated(parts: &[Node]) -> bool
     match others.split_first() {
         Some(_) => false,
         None => is_same_name(first, second),
+    }
+}
+
+fn spelled_leaf<'a>(node: &'a Node) -> Option<&'a [u16]>
+    ensures { option_copied result ≡ name_of_leaf shape.BindingIdentifier (names_of node.now) (children node.now) }
+{
+    match node.name() {
+        Some(name) => match node.parts().split_first() {
+            Some(_) => None,
+            None => Some(name.spelling.as_slice()),
+        },
+        None => None,
+    }
+}
+
+fn name_of_leaf<'a>(node: &'a Node) -> Option<&'a [u16]>
+    ensures { option_copied result ≡ name_of_leaf (shape_of node.now) (names_of node.now) (children node.now) }
+{
+    match node.shape() {
+        Shape::BindingIdentifier => spelled_leaf(node),
+        _ => None,
+    }
+}
+
+fn name_of_one<'a>(parts: &'a [Node]) -> Option<&'a [u16]>
+    ensures { option_copied result ≡ name_of_one (trees_of parts.now) }
+{
+    let (part, others) = parts.split_first()?;
+    match others.split_first() {
+        Some(_) => None,
+        None => name_of_leaf(part),
+    }
+}
+
+/// The name that is all that a list holds.
+#[tactic(auto, using(crate::proofs::Leads::only_by))]
+pub fn only_name<'a>(list: &'a Node) -> Option<&'a [u16]>
+    ensures { option_copied result ≡ printed.only_name list.now }
+{
+    match list.name() {
+        Some(_) => None,
+        None => match list.shape() {
+            Shape::Listed => name_of_one(list.parts()),
+            _ => None,
+        },
+    }
+}
+
+fn name_of_first<'a>(parts: &'a [Node]) -> Option<&'a [u16]>
+    ensures { option_copied result ≡ name_of_first (first_tree (trees_of parts.now)) }
+{
+    match first_part(parts) {
+        Some(part) => only_name(part),
+        None => None,
+    }
+}
+
+#[tactic(auto, using(crate::proofs::Leads::arrow_styled))]
+fn short_arrow<'a>(parts: &'a [Node]) -> Rule<'a>
+    ensures { rule_of result ≡ printed.styled grammar.Arrow printed.Short (trees_of parts.now) }
+{
+    match name_of_first(parts) {
+        Some(text) => Rule::ArrowName(text),
+        None => Rule::Fixed(Fixed::Arrow),
+    }
+}
+
+#[tactic(auto, using(crate::proofs::Leads::block_styled))]
+fn short_arrow_block<'a>(parts: &'a [Node]) -> Rule<'a>
+    ensures { rule_of result ≡ printed.styled grammar.ArrowBlock printed.Short (trees_of parts.now) }
+{
+    match name_of_first(parts) {
+        Some(text) => Rule::ArrowNameBlock(text),
+        None => Rule::Fixed(Fixed::ArrowBlock),
+    }
+}
+
+/// The production in short text of a node whose production elsewhere is this, over these parts: an
+/// arrow function of one name has no parentheses around that.
+pub fn short_rule<'a>(rule: Rule<'a>, parts: &'a [Node]) -> Rule<'a>
+    ensures { rule_of result ≡ printed.styled (rule_of rule.entry) printed.Short (trees_of parts.now) }
+{
+    match rule {
+        Rule::Fixed(Fixed::Arrow) => short_arrow(parts),
+        Rule::Fixed(Fixed::ArrowBlock) => short_arrow_block(parts),
+        _ => rule,
     }
 }

@@ -297,7 +297,9 @@ fn sort_of<'a>(rule: Rule<'a>) -> Sort
         | Rule::PrivateIn(_)
         | Rule::WholeTemplate(_)
         | Rule::Template(_)
-        | Rule::ClassNamed(_) => Sort::Values,
+        | Rule::ClassNamed(_)
+        | Rule::ArrowName(_)
+        | Rule::ArrowNameBlock(_) => Sort::Values,
         Rule::PropertyName(_) | Rule::PrivateName(_) => Sort::Names,
         Rule::BindingName(_) => Sort::Bindings,
         Rule::Variables(_)

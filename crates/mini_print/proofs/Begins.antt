@@ -9,10 +9,10 @@ use Rattle.mini_model.specs.declared.operator.UnaryOperator.TheVariants as unary
 use Rattle.mini_model.specs.declared.operator.UpdateOperator.TheVariants.{Increment, Decrement}
 use Rattle.mini_model.specs.Tree.{Tree, Trees}
 use Rattle.mini_print.specs.Token.{Token, Word, Punct, Comma, Semicolon, RightParen, RightBracket, RightBrace, Arrow as ArrowToken, LeftBrace, Times, Dot, Colon, LeftParen, Quoted, Number, OptionalDot, LeftBracket, Private, Assigns, Ellipsis, TemplateMiddle, TemplateTail}
-use Rattle.mini_print.specs.Grammar.{Goal, Anything, WithoutIn, Callee, Body, Element, ArrowBlock, FunctionBody, NoBrace, permits, is_left_brace, Sort, Values, Statements, Properties, Bodies, sort, heir, Place, Rule, Parenthesized, Arrow, Prefix, Unary, Variables, Zero, One, Two, Gaps, Equals, Part, token, left, part, commas, lookahead, form, level, is_of, excluded, NewTarget, Yield, YieldFrom, GeneratorExpression, GeneratorDeclaration, CatchParam, CatchBare, Catches, is_allowed, same_sort, rule_sort, New, FunctionExpression, FunctionDeclaration, CatchParam, perhaps, option, statements, unwritten, BoundKeyValue, BoundShorthand, Shorthand, BoundProperties, KeyValue, has, ends_property, is_colon_next, ForIn, ForOf, ForDeclared, ForDeclaredIn, ForDeclaredOf, HeadVariables, fork, For, is_word_of, MethodProperty, Getter, Setter, GeneratorProperty, MethodFunction, GeneratorMethod, Methods, GeneratorMethods, Key, KeyWord, KeyText, KeyNumber, KeyName, Chain, FirstMember, FirstCall, LinkCall, OptionalMember, Link, FirstLinks, Links, Defaulted, BoundDefault, ComputedMethod, ComputedGenerator, BoundElements, Computed, Rest, ClassPlain, ClassMethod, ClassComputedMethod, ClassGenerator, ClassComputedGenerator, ClassGetter, ClassComputedGetter, ClassSetter, ClassComputedSetter, Field, ComputedField, StaticElement, StaticInit, PrivateKey, ClassKey, ClassElements, ArrayTarget, ObjectTarget, PatternItem, ValueItem, PatternRest, ValueRest, TargetShorthand, TargetDefault, TargetKeyValue, PatternAssignment, TargetPattern, Target, TargetElements, TargetProperties, Object, Array, YieldBare, ends_yield, Declarations, DefaultDeclarations, ImportItems, ExportItems, ForwardItems, ImportDefault, ImportDefaultNames, ImportDefaultNamespace, ImportShort, ImportAs, ExportNames, ExportFrom, ExportDeclared, ExportValue, ExportDefault, ExportShort, ForwardName, ForwardText, ForwardAs, DeclaredVariables, DeclaredFunction, DefaultFunction, DefaultClass, ForPatternIn, ForPatternOf, semicolon, inserts}
+use Rattle.mini_print.specs.Grammar.{Goal, Anything, WithoutIn, Callee, Body, Element, ArrowBlock, FunctionBody, NoBrace, permits, is_left_brace, Sort, Values, Statements, Properties, Bodies, sort, heir, Place, Rule, Parenthesized, Arrow, Prefix, Unary, Variables, Zero, One, Two, Gaps, Equals, Part, token, left, part, commas, lookahead, form, level, is_of, excluded, NewTarget, Yield, YieldFrom, GeneratorExpression, GeneratorDeclaration, CatchParam, CatchBare, Catches, is_allowed, same_sort, rule_sort, New, FunctionExpression, FunctionDeclaration, CatchParam, perhaps, option, statements, unwritten, BoundKeyValue, BoundShorthand, Shorthand, BoundProperties, KeyValue, has, ends_property, is_colon_next, ForIn, ForOf, ForDeclared, ForDeclaredIn, ForDeclaredOf, HeadVariables, fork, For, is_word_of, MethodProperty, Getter, Setter, GeneratorProperty, MethodFunction, GeneratorMethod, Methods, GeneratorMethods, Key, KeyWord, KeyText, KeyNumber, KeyName, Chain, FirstMember, FirstCall, LinkCall, OptionalMember, Link, FirstLinks, Links, Defaulted, BoundDefault, ComputedMethod, ComputedGenerator, BoundElements, Computed, Rest, ClassPlain, ClassMethod, ClassComputedMethod, ClassGenerator, ClassComputedGenerator, ClassGetter, ClassComputedGetter, ClassSetter, ClassComputedSetter, Field, ComputedField, StaticElement, StaticInit, PrivateKey, ClassKey, ClassElements, ArrayTarget, ObjectTarget, PatternItem, ValueItem, PatternRest, ValueRest, TargetShorthand, TargetDefault, TargetKeyValue, PatternAssignment, TargetPattern, Target, TargetElements, TargetProperties, Object, Array, YieldBare, ends_yield, Declarations, DefaultDeclarations, ImportItems, ExportItems, ForwardItems, ImportDefault, ImportDefaultNames, ImportDefaultNamespace, ImportShort, ImportAs, ExportNames, ExportFrom, ExportDeclared, ExportValue, ExportDefault, ExportShort, ForwardName, ForwardText, ForwardAs, DeclaredVariables, DeclaredFunction, DefaultFunction, DefaultClass, ForPatternIn, ForPatternOf, semicolon, inserts, ArrowName, ArrowNameBlock, Reference, is_reserved}
 use Rattle.mini_print.specs.Groups.{Groups, by_rule, Row, end, a_token, a_left, a_part, a_list, a_lookahead, present, missing, with, without, a_silent, a_semicolon, inserted}
 use Rattle.mini_print.specs.Printed.{is_statements}
-use Rattle.mini_print.proofs.Reader.{start_at, arrow_rule, is_brace_next, prefix, power, next_power, ends, is_left_paren, is_arrow_next, tail, bars, is_star_next, is_dot_next, is_paren_next, statement_at, property_at, bound_at, end_words, is_word_next, accessor, first_link, optional_link, link_at, is_equals_next, is_bracket_next, computed_accessor, is_name_end, class_rule, keyed_member, worded_member, member_at, rest_element, element_at, target_property_at}
+use Rattle.mini_print.proofs.Reader.{start_at, arrow_rule, is_brace_next, prefix, power, next_power, ends, is_left_paren, is_arrow_next, tail, bars, is_star_next, is_dot_next, is_paren_next, statement_at, property_at, bound_at, end_words, is_word_next, accessor, first_link, optional_link, link_at, is_equals_next, is_bracket_next, computed_accessor, is_name_end, class_rule, keyed_member, worded_member, member_at, rest_element, element_at, target_property_at, keyword_at, name_or_arrow}
 use Rattle.mini_print.proofs.Told.{is_values, inner, ToldBy, Told, told, ToldByTwo, is_special, ToldUnless, is_forked, both, untrue}
 use Rattle.mini_print.proofs.Tidy.{Tidy, TidyBehind, Starting, is_name_next, is_key_next, opens_next}
 use Rattle.mini_print.proofs.Table.{is_no_value}
@@ -149,6 +149,9 @@ no_paren _ e = refl
 pub sorted : (s : Sort) (h : Rule) → is_of s h ≡ true → same_sort s (rule_sort h) ≡ true
 sorted s h e = (both (same_sort s (rule_sort h)) (is_allowed h) e).0
 
+pub allowed : (s : Sort) (h : Rule) → is_of s h ≡ true → is_allowed h ≡ true
+allowed s h e = (both (same_sort s (rule_sort h)) (is_allowed h) e).1
+
 pub of_values : (s : Sort) → same_sort s Values ≡ true → is_values s ≡ true
 of_values Values e = refl
 of_values _ e = absurd (false≢true e)
@@ -172,6 +175,22 @@ heir_values Callee e = refl
 heir_values Target e = refl
 heir_values Element e = refl
 heir_values _ e = absurd (false≢true e)
+
+-- a name, and an arrow function of one
+named : (s : List ℕ) (ts : List Token) → not (is_reserved s) ≡ true → start_at (Word s ∷ ts) ≡ Some (name_or_arrow s ts)
+named s ts e = ap (λ b. if b then keyword_at s ts else Some (name_or_arrow s ts)) (untrue (is_reserved s) e)
+
+pub reference_begins : (s : List ℕ) {g : Goal} {ks : Trees} {ts r : List Token} → Row g (form (Reference s)) ks ts r → is_values (sort g) ≡ true → not (is_reserved s) ≡ true → next_power g r ≤ 19 → prefix (sort g) ts ≡ Some (Reference s)
+reference_begins s (a_token g x _ _ _ _ (end _ r)) v e q =
+    value_prefix g (x ∷ r) v ∙ named s r e ∙ ap (λ b. Some (if b then (if is_brace_next (tail r) then ArrowNameBlock s else ArrowName s) else Reference s)) (no_arrow g r v q)
+
+pub arrow_name_begins : (s : List ℕ) {g : Goal} {ks : Trees} {ts r : List Token} → Row g (form (ArrowName s)) ks ts r → is_values (sort g) ≡ true → not (is_reserved s) ≡ true → prefix (sort g) ts ≡ Some (ArrowName s)
+arrow_name_begins s (a_token g x _ _ _ _ (a_token _ y _ _ us _ (a_silent _ _ _ _ _ _ (a_lookahead _ _ _ _ _ _ f d)))) v e =
+    value_prefix g (x ∷ y ∷ us) v ∙ named s (y ∷ us) e ∙ ap (λ b. Some (if b then ArrowNameBlock s else ArrowName s)) (unbraced_next us f)
+
+pub arrow_name_block_begins : (s : List ℕ) {g : Goal} {ks : Trees} {ts r : List Token} → Row g (form (ArrowNameBlock s)) ks ts r → is_values (sort g) ≡ true → not (is_reserved s) ≡ true → prefix (sort g) ts ≡ Some (ArrowNameBlock s)
+arrow_name_block_begins s (a_token g x _ _ _ _ (a_token _ y _ _ us _ (a_silent _ _ _ _ _ _ (a_part _ _ _ _ _ _ _ _ _ _ c d)))) v e =
+    value_prefix g (x ∷ y ∷ us) v ∙ named s (y ∷ us) e ∙ ap (λ b. Some (if b then ArrowNameBlock s else ArrowName s)) (body_brace refl c)
 
 pub new_begins : {g : Goal} {ks : Trees} {ts r : List Token} → Row g (form New) ks ts r → is_values (sort g) ≡ true → prefix (sort g) ts ≡ Some New
 new_begins (a_token g x ps ks _ r (a_part _ _ _ _ _ k _ ts _ _ c d)) v = value_prefix g (x ∷ ts) v ∙ ap (λ b. Some (if b then NewTarget else New)) (not_dot ts (first_open c))
@@ -531,6 +550,9 @@ pub specially : (h : Rule) → is_special h ≡ true → is_forked h ≡ false �
 specially Parenthesized e f {g} d v q X = parenthesized_begins d (of_values (sort g) (sorted (sort g) Parenthesized v)) (omega (arith, q))
 specially Arrow e f {g} d v q X = arrow_begins d (of_values (sort g) (sorted (sort g) Arrow v))
 specially ArrowBlock e f {g} d v q X = arrow_block_begins d (of_values (sort g) (sorted (sort g) ArrowBlock v))
+specially (Reference s) e f {g} d v q X = reference_begins s d (of_values (sort g) (sorted (sort g) (Reference s) v)) (allowed (sort g) (Reference s) v) (omega (arith, q))
+specially (ArrowName s) e f {g} d v q X = arrow_name_begins s d (of_values (sort g) (sorted (sort g) (ArrowName s) v)) (allowed (sort g) (ArrowName s) v)
+specially (ArrowNameBlock s) e f {g} d v q X = arrow_name_block_begins s d (of_values (sort g) (sorted (sort g) (ArrowNameBlock s) v)) (allowed (sort g) (ArrowNameBlock s) v)
 specially New e f {g} d v q X = new_begins d (of_values (sort g) (sorted (sort g) New v))
 specially Yield e f {g} d v q X = yield_begins d (of_values (sort g) (sorted (sort g) Yield v))
 specially YieldBare e f {g} d v q X = yield_bare_begins d (of_values (sort g) (sorted (sort g) YieldBare v))
@@ -635,6 +657,9 @@ led_plainly ForPatternOf e = absurd (false≢true e)
 led_plainly MethodProperty e = absurd (false≢true e)
 led_plainly Getter e = absurd (false≢true e)
 led_plainly Setter e = absurd (false≢true e)
+led_plainly (Reference s) e = absurd (false≢true e)
+led_plainly (ArrowName s) e = absurd (false≢true e)
+led_plainly (ArrowNameBlock s) e = absurd (false≢true e)
 led_plainly MethodFunction e = absurd (false≢true e)
 led_plainly GeneratorMethod e = absurd (false≢true e)
 led_plainly GeneratorProperty e = absurd (false≢true e)

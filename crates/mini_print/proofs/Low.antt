@@ -8,7 +8,7 @@ use Rattle.mini_print.proofs.Tidy.{Starting, starts_clause}
 use Rattle.mini_print.proofs.Reader.{is_right_brace, ends}
 use Rattle.mini_model.specs.Weight.{same_text}
 use Rattle.mini_print.specs.Token.{Token, Punct, RightParen, RightBrace, Comma, Word, RightBracket}
-use Rattle.mini_print.specs.Grammar.{Sort, Values, Statements, Declarators, sort, is_of, rule_sort, excluded, Statement, Arrow, BindingName, left, lookahead, perhaps, option, statements, Lookahead, Goal, Anything, Rule, Reference, NumberLiteral, BigIntLiteral, TextLiteral, RegExpLiteral, Null, This, True, False, Parenthesized, Array, Member, Index, New, Import, Call, PropertyName, Postfix, Prefix, Unary, Binary, Logical, Conditional, Assignment, Sequence, unwritten, Part, token, part, commas, form, has, opens, is_opener, Else, Equals, Block, Variables, Declarator, Empty, ExpressionStatement, If, DoWhile, While, For, Return, Throw, Debugger, Object, KeyValue, Computed, Spread, FunctionExpression, FunctionDeclaration, FunctionBody, SpreadItem, ArrowBlock, Break, Continue, Properties, Key, SuperMember, SuperIndex, SuperCall, NewTarget, ImportMeta, PrivateName, PrivateIn, Yield, YieldFrom, GeneratorExpression, GeneratorDeclaration, Label, Switch, Case, DefaultCase, Try, CatchParam, CatchBare, BlockPart, Cases, CaseEnd, Catch, Finally, ends_clause, Opener, opener, ObjectPattern, ArrayPattern, Rest, BoundKeyValue, BoundComputed, BoundShorthand, BoundRest, Shorthand, BoundProperties, Ended, ends_property, ends_property_at, ForIn, ForOf, ForDeclared, ForDeclaredIn, ForDeclaredOf, HeadVariables, HeadDeclarations, fork, HeadEnd, ends_head, ends_head_at, MethodProperty, Getter, Setter, GeneratorProperty, MethodFunction, GeneratorMethod, KeyWord, KeyText, KeyNumber, KeyName, WholeTemplate, Template, MiddlePiece, TailPiece, TaggedTemplate, TagWhole, TagParts, Chain, FirstMember, FirstIndex, FirstCall, LinkMember, LinkIndex, LinkCall, OptionalMember, OptionalIndex, OptionalCall, Link, Defaulted, BoundDefault, NamedDefault, ComputedMethod, ComputedGetter, ComputedSetter, ComputedGenerator, BoundElements, DefaultsOf, ClassPlain, ClassNamed, ClassDeclared, ClassBody, ClassMethod, ClassComputedMethod, ClassGenerator, ClassComputedGenerator, ClassGetter, ClassComputedGetter, ClassSetter, ClassComputedSetter, Field, ComputedField, StaticElement, StaticInit, PrivateKey, ClassBraces, ClassElements, Extends, Leading, Directive, NoDirective, ArrayTarget, ObjectTarget, PatternItem, ValueItem, PatternRest, ValueRest, TargetShorthand, TargetDefault, TargetKeyValue, TargetComputed, TargetPropertyRest, PatternAssignment, TargetElements, TargetProperties, YieldBare, YieldEnd, ImportItems, ExportItems, ForwardItems, ImportBare, ImportNames, ImportNamespace, ImportDefault, ImportDefaultNames, ImportDefaultNamespace, ImportShort, ImportAs, ExportNames, ExportFrom, ExportAll, ExportDeclared, ExportValue, ExportDefault, ExportShort, ExportAs, ForwardName, ForwardText, ForwardAs, DeclaredVariables, DeclaredFunction, DeclaredGenerator, DeclaredClass, DefaultFunction, DefaultGenerator, DefaultClass, DefaultClassNamed, ForPatternIn, ForPatternOf, semicolon}
+use Rattle.mini_print.specs.Grammar.{Sort, Values, Statements, Declarators, sort, is_of, rule_sort, excluded, Statement, Arrow, BindingName, left, lookahead, perhaps, option, statements, Lookahead, Goal, Anything, Rule, Reference, NumberLiteral, BigIntLiteral, TextLiteral, RegExpLiteral, Null, This, True, False, Parenthesized, Array, Member, Index, New, Import, Call, PropertyName, Postfix, Prefix, Unary, Binary, Logical, Conditional, Assignment, Sequence, unwritten, Part, token, part, commas, form, has, opens, is_opener, Else, Equals, Block, Variables, Declarator, Empty, ExpressionStatement, If, DoWhile, While, For, Return, Throw, Debugger, Object, KeyValue, Computed, Spread, FunctionExpression, FunctionDeclaration, FunctionBody, SpreadItem, ArrowBlock, Break, Continue, Properties, Key, SuperMember, SuperIndex, SuperCall, NewTarget, ImportMeta, PrivateName, PrivateIn, Yield, YieldFrom, GeneratorExpression, GeneratorDeclaration, Label, Switch, Case, DefaultCase, Try, CatchParam, CatchBare, BlockPart, Cases, CaseEnd, Catch, Finally, ends_clause, Opener, opener, ObjectPattern, ArrayPattern, Rest, BoundKeyValue, BoundComputed, BoundShorthand, BoundRest, Shorthand, BoundProperties, Ended, ends_property, ends_property_at, ForIn, ForOf, ForDeclared, ForDeclaredIn, ForDeclaredOf, HeadVariables, HeadDeclarations, fork, HeadEnd, ends_head, ends_head_at, MethodProperty, Getter, Setter, GeneratorProperty, MethodFunction, GeneratorMethod, KeyWord, KeyText, KeyNumber, KeyName, WholeTemplate, Template, MiddlePiece, TailPiece, TaggedTemplate, TagWhole, TagParts, Chain, FirstMember, FirstIndex, FirstCall, LinkMember, LinkIndex, LinkCall, OptionalMember, OptionalIndex, OptionalCall, Link, Defaulted, BoundDefault, NamedDefault, ComputedMethod, ComputedGetter, ComputedSetter, ComputedGenerator, BoundElements, DefaultsOf, ClassPlain, ClassNamed, ClassDeclared, ClassBody, ClassMethod, ClassComputedMethod, ClassGenerator, ClassComputedGenerator, ClassGetter, ClassComputedGetter, ClassSetter, ClassComputedSetter, Field, ComputedField, StaticElement, StaticInit, PrivateKey, ClassBraces, ClassElements, Extends, Leading, Directive, NoDirective, ArrayTarget, ObjectTarget, PatternItem, ValueItem, PatternRest, ValueRest, TargetShorthand, TargetDefault, TargetKeyValue, TargetComputed, TargetPropertyRest, PatternAssignment, TargetElements, TargetProperties, YieldBare, YieldEnd, ImportItems, ExportItems, ForwardItems, ImportBare, ImportNames, ImportNamespace, ImportDefault, ImportDefaultNames, ImportDefaultNamespace, ImportShort, ImportAs, ExportNames, ExportFrom, ExportAll, ExportDeclared, ExportValue, ExportDefault, ExportShort, ExportAs, ForwardName, ForwardText, ForwardAs, DeclaredVariables, DeclaredFunction, DeclaredGenerator, DeclaredClass, DefaultFunction, DefaultGenerator, DefaultClass, DefaultClassNamed, ForPatternIn, ForPatternOf, semicolon, ArrowName, ArrowNameBlock}
 use Rattle.mini_print.specs.Printed.{is_statements, sort_of, wanted_goal, plain}
 use Rattle.mini_print.proofs.Placed.{rule_sort_is, Serves, value_serves, limit}
 
@@ -303,6 +303,8 @@ low Break v = ((refl, tt), tt)
 low Continue v = ((refl, tt), tt)
 low SpreadItem v = ((refl, omega arith, tt), tt)
 low ArrowBlock v = ((refl, refl), ((tt, omega arith, tt), tt))
+low (ArrowName s) v = (refl, ((refl, omega arith, tt), tt))
+low (ArrowNameBlock s) v = ((tt, omega arith, tt), tt)
 low Object v = ((refl, refl), tt)
 low ObjectPattern v = ((refl, refl), tt)
 low ArrayPattern v = ((refl, refl), tt)

@@ -8,7 +8,7 @@ use Rattle.mini_model.specs.Tree.{Tree, Trees, node, none, ◌▸◌}
 use Rattle.mini_print.specs.Token.{Token, Punct, Quoted, Word, LeftParen, RightParen, LeftBrace, RightBrace, Comma, Semicolon}
 use Rattle.mini_print.specs.Grammar as grammar
 use Rattle.mini_print.specs.Grammar.{Goal, Rule, Place, Part, form, place, permits, opens, ends_yield, ends_statement, inserts, opener, Anything}
-use Rattle.mini_print.specs.Printed.{Style, Full, Short, Printer, terminated, lay, lay_block, lay_items, by_production, parenthesized, braced, third_is_absent, printer, printers, parts_of, number_printer, enclosed, undirected, rule_in, plain, seated, is_fit}
+use Rattle.mini_print.specs.Printed.{Style, Full, Short, Printer, terminated, lay, lay_block, lay_items, by_production, parenthesized, braced, third_is_absent, printer, printers, parts_of, number_printer, enclosed, undirected, rule_in, styled_of, plain, seated, is_fit}
 use Rattle.mini_grammar.specs.Pieces.{parts_in, pieces_of}
 use Rattle.mini_printer.specs.Standing.{is_special, standing_of, is_open}
 use Rattle.mini_grammar.specs.declared.grammar.Piece.{Piece}
@@ -166,6 +166,8 @@ rule_ends style (grammar.Assignment s) ks p r a = plainly style (grammar.Assignm
 rule_ends style grammar.Sequence ks p r a = plainly style grammar.Sequence ks p r a refl
 rule_ends style grammar.Arrow ks p r a = plainly style grammar.Arrow ks p r a refl
 rule_ends style grammar.ArrowBlock ks p r a = plainly style grammar.ArrowBlock ks p r a refl
+rule_ends style (grammar.ArrowName s) ks p r a = plainly style (grammar.ArrowName s) ks p r a refl
+rule_ends style (grammar.ArrowNameBlock s) ks p r a = plainly style (grammar.ArrowNameBlock s) ks p r a refl
 rule_ends style (grammar.BindingName s) ks p r a = plainly style (grammar.BindingName s) ks p r a refl
 rule_ends style grammar.Block ks p r a = plainly style grammar.Block ks p r a refl
 rule_ends style (grammar.Variables s) ks p r a = plainly style (grammar.Variables s) ks p r a refl
@@ -324,7 +326,7 @@ parts_tame style h ks a = a
 
 mutual
   pub tame : (style : Style) (t : Tree) → Tame (printer style t)
-  tame style (node h xs n ts) = ((λ p r. production_ends style (rule_in (plain p.goal) h xs ts) (parts_of style h (printers style ts)) (seated (rule_in (plain p.goal) h xs ts) p) r (parts_tame style h (printers style ts) (all_tame style ts))), (λ g b r. items_end g b (printers style ts) r (all_tame style ts)), (λ g r. block_ends g (printers style ts) r (all_tame style ts)))
+  tame style (node h xs n ts) = ((λ p r. production_ends style (styled_of (rule_in (plain p.goal) h xs ts) style ts) (parts_of style h (printers style ts)) (seated (rule_in (plain p.goal) h xs ts) p) r (parts_tame style h (printers style ts) (all_tame style ts))), (λ g b r. items_end g b (printers style ts) r (all_tame style ts)), (λ g r. block_ends g (printers style ts) r (all_tame style ts)))
 
   all_tame : (style : Style) (ts : Trees) → AllTame (printers style ts)
   all_tame style none = tt

@@ -8,12 +8,13 @@ use Rattle.mini_model.specs.declared.kind.MethodDefinitionKind.{MethodDefinition
 use Rattle.mini_model.specs.declared.name.Name.{Name}
 use Rattle.mini_model.specs.declared.shape.Shape.{Shape}
 use Rattle.mini_model.specs.declared.shape.Shape.TheVariants as shape
-use Rattle.mini_model.specs.Tree.{Tree, Trees, node, none, ◌▸◌, shape_of, is_absent}
-use Rattle.mini_print.specs.Grammar.{NameOf, BindingOf, ReferenceOf, PrivateOf, PieceOf, TextOf, NoItems, SuperHere, has_private, is_private_shape, constructor_shape, first_shape, static_shape, static_kind, same_flag}
-use Rattle.mini_print.specs.Printed.{is_absent_shape, is_nothing, is_positive_literal, is_silent, same_cooked, same_kind, same_member}
+use Rattle.mini_model.specs.Tree.{Tree, Trees, node, none, ◌▸◌, shape_of, is_absent, children}
+use Rattle.mini_node.specs.Children.{names_of}
+use Rattle.mini_print.specs.Grammar.{NameOf, BindingOf, ReferenceOf, PrivateOf, PieceOf, TextOf, NoItems, SuperHere, has_private, is_private_shape, constructor_shape, first_shape, static_shape, static_kind, same_flag, ParameterOf}
+use Rattle.mini_print.specs.Printed.{is_absent_shape, is_nothing, is_positive_literal, is_silent, same_cooked, same_kind, same_member, only_name}
 use Rattle.mini_print.proofs.Told.{same_is}
 use Rattle.mini_grammar.specs.Firsts.{first_tree, second_tree, holds_of}
-use Rattle.mini_printer.specs.Wants.{is_leaf, is_spelled, is_positive_shape, has_no_trees, static_by}
+use Rattle.mini_printer.specs.Wants.{is_leaf, is_spelled, is_positive_shape, has_no_trees, static_by, is_that_text}
 
 pub positive_is : (t : Tree) → is_positive_literal t ≡ is_positive_shape (shape_of t)
 positive_is (node (shape.NumericLiteral (pos zero)) xs m ts) = refl
@@ -127,3 +128,18 @@ piece_by b d s r c xs ts e =
 
 pub no_piece : (b d : Bool) (s r : List ℕ) (c : Option (List ℕ)) (xs : List Name) (ts : Trees) → (is_leaf xs ts && (same_flag d b && same_text r s)) ≡ false → is_silent (PieceOf b s) (shape.TemplateElement d r c) xs ts ≡ false
 no_piece b d s r c xs ts e = piece_is b d s r c xs ts ∙ untold (is_leaf xs ts) (same_flag d b) (same_text r s) (same_cooked c (cooked s)) e
+
+pub parameter_by : (s : List ℕ) (t : Tree) → is_silent (ParameterOf s) (shape_of t) (names_of t) (children t) ≡ is_that_text s (only_name t)
+parameter_by s (node shape.Listed [] n none) = refl
+parameter_by s (node shape.Listed [] n (node shape.BindingIdentifier [] m us ▸ none)) = refl
+parameter_by s (node shape.Listed [] n (node shape.BindingIdentifier (x ∷ []) m none ▸ none)) = refl
+parameter_by s (node shape.Listed [] n (node shape.BindingIdentifier (x ∷ []) m (u ▸ us) ▸ none)) = refl
+parameter_by s (node shape.Listed [] n (node shape.BindingIdentifier (x ∷ y ∷ xs) m us ▸ none)) = refl
+parameter_by s (node shape.Listed [] n (node h xs m us ▸ none)) = refl
+parameter_by s (node shape.Listed [] n (node shape.BindingIdentifier [] m us ▸ v ▸ vs)) = refl
+parameter_by s (node shape.Listed [] n (node shape.BindingIdentifier (x ∷ []) m none ▸ v ▸ vs)) = refl
+parameter_by s (node shape.Listed [] n (node shape.BindingIdentifier (x ∷ []) m (u ▸ us) ▸ v ▸ vs)) = refl
+parameter_by s (node shape.Listed [] n (node shape.BindingIdentifier (x ∷ y ∷ xs) m us ▸ v ▸ vs)) = refl
+parameter_by s (node shape.Listed [] n (node h xs m us ▸ v ▸ vs)) = refl
+parameter_by s (node shape.Listed (x ∷ xs) n ts) = refl
+parameter_by s (node h xs n ts) = refl

@@ -10,7 +10,7 @@ use Rattle.mini_model.specs.Tree.{Tree, Trees, node, shape_of, children}
 use Rattle.mini_print.specs.Token.{Token, Punct, Word, Number, Minus, LeftParen, RightParen, LeftBrace, RightBrace}
 use Rattle.mini_print.specs.Grammar as grammar
 use Rattle.mini_print.specs.Grammar.{Goal, Rule, Place, form, place, heir, Anything, ends_yield}
-use Rattle.mini_print.specs.Printed.{Style, Full, Printer, third_is_absent, lay, lay_items, lay_block, by_production, parenthesized, braced, printer, printers, parts_of, number_printer, rule_in, turned, plain, seated, is_absent_shape, is_fit}
+use Rattle.mini_print.specs.Printed.{Style, Full, Printer, third_is_absent, lay, lay_items, lay_block, by_production, parenthesized, braced, printer, printers, parts_of, number_printer, rule_in, styled, styled_of, turned, plain, seated, is_absent_shape, is_fit}
 use Rattle.mini_grammar.specs.Firsts.{is_negative, below, laid_item}
 use Rattle.mini_grammar.specs.Pieces.{piece_parts, parts_in, pieces_of, own, is_mark, is_end, takes_part}
 use Rattle.mini_printer.specs.Standing.{is_special, standing_of, opened}
@@ -25,21 +25,21 @@ use Rattle.mini_printer.proofs.Stands.{produced, open_is}
 abbrev pub rule_there : Tree → Place → Option Rule
 rule_there t p = rule_in (plain p.goal) (shape_of t) (names_of t) (children t)
 
-there_is : (style : Style) (t : Tree) (p : Place) (r : List Token) → (printer style t).one p r ≡ by_production style (rule_there t p) (parts_of style (shape_of t) (printers style (children t))) (seated (rule_there t p) p) r
+there_is : (style : Style) (t : Tree) (p : Place) (r : List Token) → (printer style t).one p r ≡ by_production style (styled_of (rule_there t p) style (children t)) (parts_of style (shape_of t) (printers style (children t))) (seated (rule_there t p) p) r
 there_is style (node h xs n ts) p r = refl
 
 pub nothing_there : (style : Style) (t : Tree) (p : Place) (r : List Token) → rule_there t p ≡ None → (printer style t).one p r ≡ r
-nothing_there style t p r e = there_is style t p r ∙ ap (λ o. by_production style o (parts_of style (shape_of t) (printers style (children t))) (seated o p) r) e
+nothing_there style t p r e = there_is style t p r ∙ ap (λ o. by_production style (styled_of o style (children t)) (parts_of style (shape_of t) (printers style (children t))) (seated o p) r) e
 
-something_there : (style : Style) (t : Tree) (p : Place) (r : List Token) (h : Rule) → rule_there t p ≡ Some h → (printer style t).one p r ≡ by_production style (Some h) (parts_of style (shape_of t) (printers style (children t))) (seated (Some h) p) r
-something_there style t p r h e = there_is style t p r ∙ ap (λ o. by_production style o (parts_of style (shape_of t) (printers style (children t))) (seated o p) r) e
+something_there : (style : Style) (t : Tree) (p : Place) (r : List Token) (h : Rule) → rule_there t p ≡ Some h → (printer style t).one p r ≡ by_production style (Some (styled h style (children t))) (parts_of style (shape_of t) (printers style (children t))) (seated (Some h) p) r
+something_there style t p r h e = there_is style t p r ∙ ap (λ o. by_production style (styled_of o style (children t)) (parts_of style (shape_of t) (printers style (children t))) (seated o p) r) e
 
 plain_parts : (style : Style) (h : Shape) (ks : List Printer) → is_negative h ≡ false → parts_of style h ks ≡ ks
 plain_parts style (shape.NumericLiteral (negsuc n)) ks e = absurd (false≢true (sym e))
 plain_parts style h ks e = refl
 
-pub rule_stands : (style : Style) (t : Tree) (p : Place) (r : List Token) (h : Rule) → rule_there t p ≡ Some h → is_negative (shape_of t) ≡ false → (printer style t).one p r ≡ by_production style (Some h) (printers style (children t)) (seated (Some h) p) r
-rule_stands style t p r h e f = something_there style t p r h e ∙ ap (λ ks. by_production style (Some h) ks (seated (Some h) p) r) (plain_parts style (shape_of t) (printers style (children t)) f)
+pub rule_stands : (style : Style) (t : Tree) (p : Place) (r : List Token) (h : Rule) → rule_there t p ≡ Some h → is_negative (shape_of t) ≡ false → (printer style t).one p r ≡ by_production style (Some (styled h style (children t))) (printers style (children t)) (seated (Some h) p) r
+rule_stands style t p r h e f = something_there style t p r h e ∙ ap (λ ks. by_production style (Some (styled h style (children t))) ks (seated (Some h) p) r) (plain_parts style (shape_of t) (printers style (children t)) f)
 
 none_some : {A : Type 0} (x : A) → None ≡ Some x → ⊥
 none_some x e = cc
@@ -101,9 +101,9 @@ minus_rule g (suc n) [] ts h e = sym (turned_minus g) ∙ some_same _ h e
 minus_rule g (suc n) (x ∷ xs) ts h e = absurd (none_some h e)
 
 -- a number below zero
-pub minus_stands : (style : Style) (t : Tree) (p : Place) (r : List Token) (h : Rule) (n : ℕ) → rule_there t p ≡ Some h → shape_of t ≡ below n → (printer style t).one p r ≡ by_production style (Some h) (number_printer style n ∷ []) (seated (Some h) p) r
+pub minus_stands : (style : Style) (t : Tree) (p : Place) (r : List Token) (h : Rule) (n : ℕ) → rule_there t p ≡ Some h → shape_of t ≡ below n → (printer style t).one p r ≡ by_production style (Some (styled h style (children t))) (number_printer style n ∷ []) (seated (Some h) p) r
 minus_stands style t p r h zero e f = absurd (none_some h (sym (ap (λ s. rule_in (plain p.goal) s (names_of t) (children t)) f) ∙ e))
-minus_stands style t p r h (suc n) e f = something_there style t p r h e ∙ ap (λ s. by_production style (Some h) (parts_of style s (printers style (children t))) (seated (Some h) p) r) f
+minus_stands style t p r h (suc n) e f = something_there style t p r h e ∙ ap (λ s. by_production style (Some (styled h style (children t))) (parts_of style s (printers style (children t))) (seated (Some h) p) r) f
 
 pub minus_is : (t : Tree) (p : Place) (h : Rule) (n : ℕ) → rule_there t p ≡ Some h → shape_of t ≡ below n → h ≡ grammar.Unary UnaryNegation
 minus_is t p h n e f = sym (minus_rule (plain p.goal) n (names_of t) (children t) h (sym (ap (λ s. rule_in (plain p.goal) s (names_of t) (children t)) f) ∙ e))
@@ -275,12 +275,19 @@ negative_done style t p r h n g o q a b c d e =
     let found = found_there t p h g o a b c in
     minus_same style n q r
     ∙ (ap (λ z. by_production style (Some (grammar.Unary UnaryNegation)) (number_printer style n ∷ []) z r) d
-    ∙ (ap (λ k. by_production style (Some k) (number_printer style n ∷ []) (seated (Some h) p) r) (sym (minus_is t p h n found e))
+    ∙ (ap (λ k. by_production style (Some (styled k style (children t))) (number_printer style n ∷ []) (seated (Some h) p) r) (sym (minus_is t p h n found e))
     ∙ sym (minus_stands style t p r h n found e)))
 
-pub rule_done : (style : Style) (t : Tree) (p : Place) (r : List Token) (h : Rule) (g : Goal) (o : Option Rule) (q : Place) (s : Shape) (ts : Trees) → g ≡ plain p.goal → o ≡ rule_in g (shape_of t) (names_of t) (children t) → o ≡ Some h → q ≡ seated (Some h) p → s ≡ shape_of t → is_negative s ≡ false → ts ≡ children t →
-    by_production style (Some h) (printers style ts) q r ≡ (printer style t).one p r
-rule_done style t p r h g o q s ts a b c d e f k =
-    ap (λ z. by_production style (Some h) (printers style ts) z r) d
-    ∙ (ap (λ us. by_production style (Some h) (printers style us) (seated (Some h) p) r) k
-    ∙ sym (rule_stands style t p r h (found_there t p h g o a b c) (sym (ap is_negative e) ∙ f)))
+-- with each `;` a production is itself
+pub full_same : (h : Rule) (ts : Trees) → styled h Full ts ≡ h
+full_same grammar.Arrow ts = refl
+full_same grammar.ArrowBlock ts = refl
+full_same _ ts = refl
+
+pub rule_done : (style : Style) (t : Tree) (p : Place) (r : List Token) (h k : Rule) (g : Goal) (o : Option Rule) (q : Place) (s : Shape) (ts : Trees) → g ≡ plain p.goal → o ≡ rule_in g (shape_of t) (names_of t) (children t) → o ≡ Some h → q ≡ seated (Some h) p → s ≡ shape_of t → is_negative s ≡ false → ts ≡ children t → k ≡ styled h style ts →
+    by_production style (Some k) (printers style ts) q r ≡ (printer style t).one p r
+rule_done style t p r h k g o q s ts a b c d e f m l =
+    ap (λ z. by_production style (Some z) (printers style ts) q r) l
+    ∙ (ap (λ z. by_production style (Some (styled h style ts)) (printers style ts) z r) d
+    ∙ (ap (λ us. by_production style (Some (styled h style us)) (printers style us) (seated (Some h) p) r) m
+    ∙ sym (rule_stands style t p r h (found_there t p h g o a b c) (sym (ap is_negative e) ∙ f))))

@@ -32,7 +32,7 @@ assign_barred assignment.Assign = barred.Pattern
 assign_barred _ = barred.Never
 
 abbrev pub standing_of : Rule → Standing
-standing_of (grammar.Reference s) = standing.Named
+standing_of (grammar.Reference s) = standing.Named 18
 standing_of (grammar.NumberLiteral s) = standing.Value 18 barred.Never
 standing_of (grammar.BigIntLiteral s) = standing.Value 18 barred.Never
 standing_of (grammar.TextLiteral s) = standing.Value 18 barred.Never
@@ -64,6 +64,8 @@ standing_of (grammar.Assignment s) = standing.Value (1) (assign_barred s)
 standing_of grammar.Sequence = standing.Value 0 barred.Never
 standing_of grammar.Arrow = standing.Value 1 barred.Never
 standing_of grammar.ArrowBlock = standing.Value 1 barred.Never
+standing_of (grammar.ArrowName s) = standing.Named 1
+standing_of (grammar.ArrowNameBlock s) = standing.Named 1
 standing_of (grammar.BindingName s) = standing.Plain
 standing_of grammar.Block = standing.Plain
 standing_of (grammar.Variables s) = standing.Plain
@@ -148,7 +150,7 @@ standing_of grammar.Defaulted = standing.Plain
 standing_of (grammar.BoundDefault s) = standing.Plain
 standing_of (grammar.NamedDefault s f) = standing.Plain
 standing_of grammar.ClassPlain = standing.Value 18 barred.Never
-standing_of (grammar.ClassNamed s) = standing.Named
+standing_of (grammar.ClassNamed s) = standing.Named 18
 standing_of (grammar.ClassDeclared s) = standing.Plain
 standing_of grammar.ClassBody = standing.Plain
 standing_of grammar.ClassMethod = standing.Plain
@@ -247,7 +249,7 @@ abbrev pub opened : Standing → Token → Place → Bool
 opened standing.If x p = true
 opened standing.Plain x p = true
 opened standing.Yield x p = fits p 1 barred.Never
-opened standing.Named x p = fits p 18 barred.Never || is_reserved_token x
+opened (standing.Named n) x p = fits p n barred.Never || is_reserved_token x
 opened (standing.Value n b) x p = fits p n b
 
 -- what the definitions ask
@@ -263,7 +265,7 @@ abbrev pub value_by : Standing → Token → Bool
 value_by standing.If x = false
 value_by standing.Plain x = false
 value_by standing.Yield x = true
-value_by standing.Named x = not (is_reserved_token x)
+value_by (standing.Named n) x = not (is_reserved_token x)
 value_by (standing.Value n b) x = true
 
 abbrev pub is_special : Standing → Bool

@@ -67,3 +67,8 @@ is_negative _ = false
 abbrev pub static_by : Shape → Option Tree → Bool
 static_by h None = same_member shape.Absent h
 static_by h (Some t) = same_member (static_shape (shape_of t)) h
+
+-- whether there is a text, and it is this one
+abbrev pub is_that_text : List ℕ → Option (List ℕ) → Bool
+is_that_text s None = false
+is_that_text s (Some r) = same_text r s

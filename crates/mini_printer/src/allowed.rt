@@ -34,7 +34,9 @@ fn is_allowed<'a>(rule: Rule<'a>) -> bool
         | Rule::ExportShort(text)
         | Rule::ExportAs(text)
         | Rule::DeclaredClass(text)
-        | Rule::DefaultClassNamed(text) => !is_reserved(text),
+        | Rule::DefaultClassNamed(text)
+        | Rule::ArrowName(text)
+        | Rule::ArrowNameBlock(text) => !is_reserved(text),
         Rule::Directive(text) => is_directive(text),
         _ => true,
     }

@@ -18,7 +18,7 @@ use crate::asks::is_forbidden;
 use crate::places::{goal_in, has_gaps, in_place, left_operand, list_goal, plain, seated};
 use crate::standing::{Standing, is_enclosed, standing_of};
 use crate::style::Style;
-use crate::walk::{below_zero, is_end, is_mark};
+use crate::walk::{below_zero, is_end, is_mark, styled};
 use mini_grammar::{
     Aim, Lookahead, Piece, Place, Punct, Rule, Token, own_token, pieces_of, rule_in, units_of,
 };
@@ -50,7 +50,15 @@ fn front_of<'a>(style: Style, node: &'a Node, there: Place<'a>) -> Option<Token<
     };
     match below_zero(node.shape()) {
         Some(_) => None,
-        None => rule_front(style, rule, node.parts(), seated(rule, there)),
+        None => {
+            let parts = node.parts();
+            rule_front(
+                style,
+                styled(style, rule, parts),
+                parts,
+                seated(rule, there),
+            )
+        }
     }
 }
 

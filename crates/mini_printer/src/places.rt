@@ -114,7 +114,7 @@ fn is_value<'a>(rule: Rule<'a>) -> bool
 {
     match standing_of(rule) {
         Standing::If | Standing::Plain => false,
-        Standing::Named => !is_reserved_token(own_token(rule)),
+        Standing::Named(_) => !is_reserved_token(own_token(rule)),
         Standing::Yield | Standing::Value(_, _) => true,
     }
 }

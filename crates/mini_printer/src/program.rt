@@ -8,7 +8,7 @@ ghost use Rattle.mini_print.specs.Compact.{SplitsCompactly, compact_text_of};
 ghost use Rattle.mini_print.specs.Grammar as grammar;
 ghost use Rattle.mini_print.specs.Groups as groups;
 ghost use Rattle.mini_print.specs.Printed as printed;
-ghost use Rattle.mini_print.specs.Printed.{lay_block, printers, printed_program, short_program, styled_program};
+ghost use Rattle.mini_print.specs.Printed.{lay_block, printers, printed_program, short_program};
 ghost use Rattle.mini_print.specs.Unprintable as unprintable;
 ghost use Rattle.mini_grammar.specs.Views.{goal_of};
 ghost use Rattle.mini_printer.specs.Nexts.{style_of};

@@ -15,7 +15,7 @@ ghost use Rattle.mini_grammar.specs.Views.{rule_of};
 ghost use Rattle.mini_printer.specs.Wants.{has_no_trees, is_leaf, is_positive, is_positive_shape, is_spelled};
 
 use mini_grammar::{
-    Rule, Silent, first_part, is_absent, is_same_flag, is_same_text, own_flag, own_text,
+    Rule, Silent, first_part, is_absent, is_same_flag, is_same_text, only_name, own_flag, own_text,
     second_part, units_of,
 };
 use mini_model::{BoxedText, MethodDefinitionKind, OutOfMemory, Shape, Text, UnaryOperator, cook};
@@ -342,6 +342,17 @@ fn is_no_items(node: &Node) -> bool
     }
 }
 
+// Whether a node is a list of this name, declared.
+#[tactic(auto, using(crate::proofs::Shapes::parameter_by))]
+fn is_parameter(node: &Node, text: &[u16]) -> bool
+    ensures { result ≡ printed.is_silent (grammar.ParameterOf text.now) (shape_of node.now) (names_of node.now) (children node.now) }
+{
+    match only_name(node) {
+        Some(own) => is_same_text(own, text),
+        None => false,
+    }
+}
+
 // Whether a node is the name of a property whose default this is: declared, or referred to.
 fn is_taker<'a>(node: &Node, rule: Rule<'a>) -> bool
     ensures { result ≡ printed.is_silent (grammar.named (flag_of (rule_of rule.entry)) (own_text (rule_of rule.entry))) (shape_of node.now) (names_of node.now) (children node.now) }
@@ -398,5 +409,6 @@ pub fn is_silent<'a>(
         Silent::Private => Ok(is_private_name(node, own_text(rule))),
         Silent::Text => Ok(is_text(node, own_text(rule))),
         Silent::NoItems => Ok(is_no_items(node)),
+        Silent::Parameter => Ok(is_parameter(node, own_text(rule))),
     }
 }

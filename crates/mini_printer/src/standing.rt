@@ -2,11 +2,10 @@
 
 ghost use Rattle.std.specs.Prelude.{◌≡◌, ◌≤◌, not};
 ghost use Rattle.mini_model.specs.Position.{binary_level, logical_level};
-ghost use Rattle.mini_print.specs.Grammar.{is_reserved, is_word_of, same_sort, sort, Values, is_of};
-ghost use Rattle.mini_print.specs.Grammar as grammar;
+ghost use Rattle.mini_print.specs.Grammar.{is_reserved, is_word_of};
 ghost use Rattle.mini_grammar.specs.Pieces.{own};
 ghost use Rattle.mini_printer.specs.Standing.{standing_of, in_barred, mix_barred, assign_barred, fits, is_barred, is_mixed, is_reserved_token, is_value_goal, opened};
-ghost use Rattle.mini_grammar.specs.Views.{rule_of, fixed_of, place_of, goal_of, aim_of, token_of, word_texts};
+ghost use Rattle.mini_grammar.specs.Views.{rule_of, fixed_of, place_of, goal_of, token_of, word_texts};
 
 use crate::writable::is_reserved;
 use mini_grammar::{Aim, Fixed, Goal, Keyword, Place, Rule, Token, own_token, units_of};
@@ -42,8 +41,8 @@ pub enum Standing {
     Yield,
     /// No expression.
     Plain,
-    /// An expression that is a name, or a class of a name.
-    Named,
+    /// An expression that is a name, or begins with one of its own: how tightly it binds.
+    Named(u8),
     /// Another expression: how tightly it binds, and where it doesn't stand.
     Value(u8, Barred),
 }
@@ -156,7 +155,8 @@ pub fn standing_of<'a>(rule: Rule<'a>) -> Standing
         Rule::Binary(operator) => Standing::Value(binary_level(operator), in_barred(operator)),
         Rule::Logical(operator) => Standing::Value(logical_level(operator), mix_barred(operator)),
         Rule::Assignment(operator) => Standing::Value(1, assign_barred(operator)),
-        Rule::Reference(_) | Rule::ClassNamed(_) => Standing::Named,
+        Rule::Reference(_) | Rule::ClassNamed(_) => Standing::Named(18),
+        Rule::ArrowName(_) | Rule::ArrowNameBlock(_) => Standing::Named(1),
         Rule::NumberLiteral(_)
         | Rule::BigIntLiteral(_)
         | Rule::TextLiteral(_)
@@ -240,8 +240,8 @@ pub fn is_enclosed<'a>(rule: Rule<'a>, place: Place<'a>) -> bool
     match standing_of(rule) {
         Standing::If | Standing::Plain => false,
         Standing::Yield => !fits(place, 1, Barred::Never),
-        Standing::Named => {
-            !fits(place, 18, Barred::Never) && !is_reserved_token(own_token(rule))
+        Standing::Named(level) => {
+            !fits(place, level, Barred::Never) && !is_reserved_token(own_token(rule))
         }
         Standing::Value(level, barred) => !fits(place, level, barred),
     }

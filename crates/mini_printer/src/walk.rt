@@ -24,7 +24,7 @@ use crate::standing::{Standing, is_enclosed, standing_of};
 use crate::style::{Style, terminate};
 use mini_grammar::{
     Aim, Fixed, Goal, Keyword, Lookahead, Opener, Piece, Place, Punct, Rule, Token, Tokens,
-    is_absent, own_text, own_token, pieces_of, rule_in, units_of,
+    is_absent, own_text, own_token, pieces_of, rule_in, short_rule, units_of,
 };
 use mini_model::{AssignmentOperator, OutOfMemory, Shape, UnaryOperator};
 use mini_node::Node;
@@ -105,6 +105,17 @@ fn write_yield<'a>(tokens: &mut Tokens<'a>, there: Place<'a>) -> Result<(), OutO
     tokens.push(Token::Mark(Punct::LeftParen))
 }
 
+/// The production in a style of a node whose production is this, over these parts.
+#[tactic(auto, using(crate::proofs::Walked::full_same))]
+pub fn styled<'a>(style: Style, rule: Rule<'a>, parts: &'a [Node]) -> Rule<'a>
+    ensures { rule_of result ≡ printed.styled (rule_of rule.entry) (style_of style) (trees_of parts.now) }
+{
+    match style {
+        Style::Full => rule,
+        Style::Short => short_rule(rule, parts),
+    }
+}
+
 /// A node, in its place.
 #[cycle(writing)]
 #[tactic(auto, using(crate::proofs::Walked::nothing_there, crate::proofs::Walked::rule_stands, crate::proofs::Walked::minus_stands, crate::proofs::Walked::minus_is))]
@@ -122,7 +133,10 @@ pub fn write_node<'a>(
     let there = seated(rule, there);
     match below_zero(node.shape()) {
         Some(number) => write_negative(tokens, number, there),
-        None => write_rule(tokens, style, rule, node.parts(), there),
+        None => {
+            let parts = node.parts();
+            write_rule(tokens, style, styled(style, rule, parts), parts, there)
+        }
     }
 }
 

@@ -11,8 +11,8 @@ use Rattle.mini_printer.proofs.front.+fronts.Goals as goal
 pub front_of-returns-in-None : goal.front_of-returns-in-None
 front_of-returns-in-None t c =
     let s = style_of c.args.style in
-    front_same (option_map token_of c.rule_front.result) (λ r. (printer s c.args.node.now).one (place_of c.args.there) r) (λ r. by_production s (Some (rule_of c.in-Some.rule)) (printers s (trees_of c.parts.result.now)) (place_of c.seated.result) r)
-    (λ r. rule_done s c.args.node.now (place_of c.args.there) r (rule_of c.in-Some.rule) (aim_of c.plain.result) (option_map rule_of c.rule_in.result) (place_of c.seated.result) c.shape.result.now (trees_of c.parts.result.now) c.plain.ensures c.rule_in.ensures (ap (option_map rule_of) c.in-Some.is) c.seated.ensures c.shape.ensures c.in-None.ensures c.parts.ensures.value)
+    front_same (option_map token_of c.rule_front.result) (λ r. (printer s c.args.node.now).one (place_of c.args.there) r) (λ r. by_production s (Some (rule_of c.styled.result)) (printers s (trees_of c.parts-parts.result.now)) (place_of c.seated.result) r)
+    (λ r. rule_done s c.args.node.now (place_of c.args.there) r (rule_of c.in-Some.rule) (rule_of c.styled.result) (aim_of c.plain.result) (option_map rule_of c.rule_in.result) (place_of c.seated.result) c.shape.result.now (trees_of c.parts-parts.result.now) c.plain.ensures c.rule_in.ensures (ap (option_map rule_of) c.in-Some.is) c.seated.ensures c.shape.ensures c.in-None.ensures c.parts-parts.ensures.value c.styled.ensures)
     c.rule_front.ensures
 
 pub pieces_front-returns-then-is_mark : goal.pieces_front-returns-then-is_mark

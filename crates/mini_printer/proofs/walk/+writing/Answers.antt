@@ -26,7 +26,7 @@ write_node-returns-in-Some-below_zero t c =
 pub write_node-returns-in-None : goal.write_node-returns-in-None
 write_node-returns-in-None t c =
     subst (λ ts. OnOk c.write_rule.result (c.write_rule.new.tokens ≡ ts))
-    (rule_done (style_of c.args.style) c.args.node.now (place_of c.args.there) c.args.tokens.now (rule_of c.in-Some.rule) (aim_of c.plain.result) (option_map rule_of c.rule_in.result) (place_of c.seated-there.result) c.shape.result.now (trees_of c.parts.result.now) c.plain.ensures c.rule_in.ensures (ap (option_map rule_of) c.in-Some.is) c.seated-there.ensures c.shape.ensures c.in-None.ensures c.parts.ensures.value)
+    (rule_done (style_of c.args.style) c.args.node.now (place_of c.args.there) c.args.tokens.now (rule_of c.in-Some.rule) (rule_of c.styled.result) (aim_of c.plain.result) (option_map rule_of c.rule_in.result) (place_of c.seated-there.result) c.shape.result.now (trees_of c.parts-parts.result.now) c.plain.ensures c.rule_in.ensures (ap (option_map rule_of) c.in-Some.is) c.seated-there.ensures c.shape.ensures c.in-None.ensures c.parts-parts.ensures.value c.styled.ensures)
     c.write_rule.ensures
 
 pub write_pieces-returns-then-is_mark : goal.write_pieces-returns-then-is_mark
