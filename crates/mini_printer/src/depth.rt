@@ -1,24 +1,36 @@
 //! How deep the text of a tree nests.
 
-ghost use Rattle.std.specs.Prelude.{◌≡◌};
-ghost use Rattle.mini_model.specs.Tree.{shape_of, children};
+ghost use Rattle.std.specs.Prelude.{◌≡◌, nat_le};
 ghost use Rattle.mini_node.specs.Children.{trees_of};
 ghost use Rattle.mini_printer.specs.Depth as nesting;
 
 use mini_model::Shape;
 use mini_node::Node;
 
-// The levels of a node: one, and one for each piece of a template.
-fn own_levels(node: &Node) -> usize
-    ensures { result ≡ nesting.own_levels (shape_of node.now) (children node.now) }
+fn is_template(shape: &Shape) -> bool
+    ensures { result ≡ nesting.is_template shape.now }
 {
-    match node.shape() {
-        Shape::TemplateLiteral => match node.parts().split_first() {
-            Some((pieces, _)) => pieces.parts().len(),
-            None => 1,
-        },
-        _ => 1,
+    matches!(shape, Shape::TemplateLiteral)
+}
+
+// The levels of a node: one, or one for each piece of a template.
+#[tactic(auto, using(crate::proofs::Depths::levels_of_template, crate::proofs::Depths::levels_of_none, crate::proofs::Depths::one_level))]
+fn own_levels(node: &Node) -> usize
+    ensures { result ≡ nesting.own_levels node.now }
+{
+    if !is_template(node.shape()) {
+        return 1;
     }
+    if node.children().len() == 0 {
+        return 0;
+    }
+    node.child(0).children().len()
+}
+
+fn is_at_most(levels: usize, most: usize) -> bool
+    ensures { result ≡ nat_le levels most }
+{
+    levels <= most
 }
 
 // Whether a node has at most so many levels.
@@ -28,10 +40,10 @@ fn nests_within(levels: usize, node: &Node) -> bool
     ensures { result ≡ nesting.nests_within levels node.now }
 {
     let own = own_levels(node);
-    if own > levels {
+    if !is_at_most(own, levels) {
         return false;
     }
-    all_nest_within(levels - own, node.parts())
+    all_nest_within(levels.saturating_sub(own), node.parts())
 }
 
 #[cycle(levels)]
