@@ -37,12 +37,14 @@ pub tells_refuses : (t : Tree) (e : PrintError) → Tells e (first_fault t) → 
 tells_refuses t error.OutOfMemory r = tt
 tells_refuses t (error.Reserved at) r = r
 tells_refuses t (error.BadText at) r = r
+tells_refuses t error.TooDeep r = absurd r
 tells_refuses t error.Unprintable r = absurd r
 
 pub before_refuses : (style : Style) (t : Tree) (e : PrintError) → IsRefusedBefore t e → IsRefusalOf style t e
 before_refuses style t error.OutOfMemory r = tt
 before_refuses style t (error.Reserved at) r = r
 before_refuses style t (error.BadText at) r = r
+before_refuses style t error.TooDeep r = r
 before_refuses style t error.Unprintable r = (r.0, λ p. false≢true (sym r.1 ∙ p.0))
 
 -- what refuses a program whose statements are in the order of their text refuses the program
@@ -50,6 +52,7 @@ pub unlaid_refuses : (style : Style) (t u : Tree) (e : PrintError) → u ≡ sho
 unlaid_refuses style t u error.OutOfMemory s p f r = tt
 unlaid_refuses style t u (error.Reserved at) s p f r = absurd r
 unlaid_refuses style t u (error.BadText at) s p f r = absurd r
+unlaid_refuses style t u error.TooDeep s p f r = absurd r
 unlaid_refuses style t u error.Unprintable s p f r =
     (f, λ q. r (ap is_laid s ∙ (same_printable t p ∙ q.0), subst EachLexical (sym (ap (laid_program style) s ∙ same_tokens style t p)) q.1))
 

@@ -77,4 +77,5 @@ abbrev pub Tells : PrintError → Option unprintable.Fault → Type 0
 Tells error.OutOfMemory f = Unit {0}
 Tells (error.Reserved at) f = f ≡ Some (record { at = at; cause = unprintable.Reserved })
 Tells (error.BadText at) f = f ≡ Some (record { at = at; cause = unprintable.BadText })
+Tells error.TooDeep f = ⊥
 Tells error.Unprintable f = ⊥

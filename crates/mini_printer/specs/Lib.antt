@@ -1,3 +1,4 @@
+pub mod Depth
 pub mod Faults
 pub mod Fronts
 pub mod Nexts

@@ -10,6 +10,7 @@ use Rattle.mini_print.specs.Grammar.{Leading}
 use Rattle.mini_print.specs.Groups.{GroupsProgram, items_goal}
 use Rattle.mini_print.specs.Printed.{Style, printers, lay_block, undirected, directives, styled_program, program_is_printable, are_printable, bare_program, is_module_of, is_list, has_no_names}
 use Rattle.mini_print.specs.Unprintable.{Reserved, BadText, first_fault}
+use Rattle.mini_printer.specs.Depth.{may_print}
 use Rattle.mini_printer.specs.declared.error.PrintError.{PrintError}
 use Rattle.mini_printer.specs.declared.error.PrintError.TheVariants as error
 
@@ -27,12 +28,14 @@ pub record IsTextOf (splits : List ℕ → List Token → Type 0) (t : Tree) (u 
 abbrev pub IsPrintable : Style → Tree → Type 0
 IsPrintable style t = (program_is_printable t ≡ true) × EachLexical (styled_program style t)
 
--- what an error says of the program: its first fault, or that it has none and can't be printed.
+-- what an error says of the program: its first fault, that it nests too deep, or that it has no
+-- fault and can't be printed.
 -- Want of memory tells nothing
 abbrev pub IsRefusalOf : Style → Tree → PrintError → Type 0
 IsRefusalOf style t error.OutOfMemory = Unit {0}
 IsRefusalOf style t (error.Reserved at) = first_fault t ≡ Some (record { at = at; cause = Reserved })
 IsRefusalOf style t (error.BadText at) = first_fault t ≡ Some (record { at = at; cause = BadText })
+IsRefusalOf style t error.TooDeep = may_print t ≡ false
 IsRefusalOf style t error.Unprintable = (first_fault t ≡ None) × (IsPrintable style t → ⊥)
 
 -- the same of what is told before there are tokens
@@ -40,6 +43,7 @@ abbrev pub IsRefusedBefore : Tree → PrintError → Type 0
 IsRefusedBefore t error.OutOfMemory = Unit {0}
 IsRefusedBefore t (error.Reserved at) = first_fault t ≡ Some (record { at = at; cause = Reserved })
 IsRefusedBefore t (error.BadText at) = first_fault t ≡ Some (record { at = at; cause = BadText })
+IsRefusedBefore t error.TooDeep = may_print t ≡ false
 IsRefusedBefore t error.Unprintable = (first_fault t ≡ None) × (program_is_printable t ≡ false)
 
 -- ---- a program, and one whose statements are in the order of their text
@@ -87,4 +91,5 @@ abbrev pub IsUnlaid : Style → Tree → PrintError → Type 0
 IsUnlaid style t error.OutOfMemory = Unit {0}
 IsUnlaid style t (error.Reserved at) = ⊥
 IsUnlaid style t (error.BadText at) = ⊥
+IsUnlaid style t error.TooDeep = ⊥
 IsUnlaid style t error.Unprintable = (is_laid t ≡ true) × EachLexical (laid_program style t) → ⊥

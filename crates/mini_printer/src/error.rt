@@ -14,6 +14,9 @@ pub enum PrintError {
     Reserved { at: Numbers },
     /// The text at the path can't stand in a program, or no text has the parts of the node there.
     BadText { at: Numbers },
+    /// The program nests deeper than 1,000 levels, of which a template has one for each of its
+    /// pieces.
+    TooDeep,
     /// A node isn't printed.
     Unprintable,
 }

@@ -5,6 +5,7 @@ mod allowed;
 mod asks;
 mod compact;
 mod defects;
+mod depth;
 mod error;
 mod front;
 mod laws;

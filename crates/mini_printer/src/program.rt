@@ -17,6 +17,7 @@ ghost use Rattle.mini_printer.specs.Texts.{IsTextOf, IsRefusalOf, IsRefusedBefor
 use crate::asks::undirect;
 use crate::compact::compact_text_of;
 use crate::defects::refuse_defects;
+use crate::depth::may_print;
 use crate::error::PrintError;
 use crate::lexical::are_lexical;
 use crate::order::shown;
@@ -167,6 +168,9 @@ fn in_order(alloc: Global, program: Node) -> Result<Node, PrintError>
     ensures refused { IfErr result (λ error. IsRefusedBefore program error) }
 {
     refuse_defects(alloc, &program)?;
+    if !may_print(&program) {
+        return Err(PrintError::TooDeep);
+    }
     if !is_program(&program) {
         return Err(PrintError::Unprintable);
     }
@@ -179,8 +183,9 @@ fn in_order(alloc: Global, program: Node) -> Result<Node, PrintError>
 /// However it is split into tokens and however these are grouped, they are those of this program
 /// and of no other; numbers, symbols, and parentheses that the tree keeps count for nothing.
 ///
-/// `Reserved` and `BadText` tell the first node, in preorder, that no text has; `Unprintable` says
-/// that there is none and that the grammar has no text of the program.
+/// `Reserved` and `BadText` tell the first node, in preorder, that no text has; `TooDeep` says that
+/// the program nests deeper than 1,000 levels, and `Unprintable` that no node is such a one and the
+/// grammar has no text of the program.
 #[tactic(auto, using(crate::proofs::Whole::program_tokens, crate::proofs::Whole::before_refuses, crate::proofs::Whole::unlaid_refuses, crate::proofs::Whole::text_of_one))]
 pub fn print_program(alloc: Global, program: Node) -> Result<Text, PrintError>
     ensures exact { IfOk result (λ text. text ≡ text_of (printed_program program)) }
