@@ -80,11 +80,11 @@ function split(tree) {
 
 // ---- the texts
 
-// What the program writes of a tree, without the line's end; null where it refuses it.
+// What the program writes of a tree, without the line's end, or why it refuses the tree.
 function textOf(program, tree, mode) {
   const { status, output, notes } = run(program, written(tree), MODES[mode]);
   if (status !== 0 && status !== REFUSED) throw new Error(`status ${status}: ${notes}`);
-  return status === 0 ? output.slice(0, -1) : null;
+  return status === 0 ? { source: output.slice(0, -1) } : { refused: notes.trim() };
 }
 
 // How the tree of a text differs from the one that was printed; null where it doesn't.
@@ -108,15 +108,20 @@ function held(program, name, trees) {
   const left = [...joined(trees)];
   while (left.length > 0) {
     const tree = left.pop();
-    const texts = Object.keys(MODES).map((mode) => [mode, textOf(program, tree, mode)]);
-    if (texts.some(([, source]) => source === null)) {
-      const parts = split(tree);
-      if (parts.length > 1) left.push(...parts);
-      else told.refused += 1;
+    const texts = Object.keys(MODES).map((mode) => ({ mode, ...textOf(program, tree, mode) }));
+    const refused = texts.find((made) => made.refused);
+    const parts = refused ? split(tree) : [];
+    if (parts.length > 1) {
+      left.push(...parts);
+      continue;
+    }
+    if (refused) {
+      told.refused += 1;
+      if (told.refused <= SHOWN) console.log(`${name}, ${refused.mode}: ${refused.refused}`);
       continue;
     }
     told.printed += 1;
-    for (const [mode, source] of texts) {
+    for (const { mode, source } of texts) {
       const differs = difference(tree, source);
       if (differs === null) continue;
       told.differ += 1;
@@ -141,11 +146,11 @@ function library(name) {
 
 const esbuild = (source) => spawnSync(ESBUILD, ["--log-level=error", "--charset=utf8", "--minify-whitespace"], { input: source, maxBuffer: 1 << 28 }).stdout.toString();
 
-// The name of each printer, and what it writes of a tree; null, or an error, where it writes none.
+// The name of each printer, and what it writes of a tree: nothing, or an error, where it can't.
 function printers(program) {
   const [uglify, terser] = [library("uglify-js"), library("terser")];
   return [
-    ["mini_text", (tree) => textOf(program, tree, "compact")],
+    ["mini_text", (tree) => textOf(program, tree, "compact").source],
     fs.existsSync(ESBUILD) && ["esbuild", (tree) => esbuild(print(tree))],
     uglify && ["uglify-js", (tree) => uglify.minify(print(tree), PLAIN).code],
     terser && ["terser", async (tree) => (await terser.minify(print(tree), PLAIN)).code],
