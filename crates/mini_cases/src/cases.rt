@@ -63,6 +63,7 @@ const CASES: [(&str, Case); 31] = [
     ("minify", Case::Program(Task::Minify)),
     ("answer", Case::Program(Task::Answer)),
     ("shake", Case::Program(Task::Shake)),
+    ("edition", Case::Program(Task::Edition)),
     ("lighter", Case::Lighter),
     ("again", Case::Again),
     ("echo", Case::Echo),

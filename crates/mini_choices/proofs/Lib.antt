@@ -1,4 +1,5 @@
 pub mod Trials
+pub mod Editions
 pub mod Names
 pub mod FormsAre
 pub mod Spines

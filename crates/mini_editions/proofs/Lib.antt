@@ -1,0 +1,4 @@
+pub mod Times
+pub mod Steps
+pub mod Negated
+pub mod Spelled
