@@ -21,7 +21,7 @@ use Rattle.mini_model.specs.declared.seat.Seat.{Seat}
 use Rattle.mini_rows.specs.Editions.{LighterIn, ChoiceIn}
 use Rattle.mini_rows.specs.Choices.{AreNullish, CallRow, ChoiceRow, ChosenIndexedRow, ChosenMemberRow, ChosenRow, HeldRow, Key, LighterRow, Named, Numbered, OwnRow, Row13Both, Row21Zero, Row35, Row35Member, Row37, Row37After, Row38, Row38Last, Row39, Row41And, Row41Or, Row42And, Row42Or, Row43And, Row43AndThen, Row43Or, Row43OrThen, Row44, Row45, Row45Indexed, Row45Member, Row46Equal, Row46Unequal, Row49, Row57, Row57Null, Spelled, ZeroRow, argument, asks_object, assign, ended, held, is_grouped, joined, joining, member_on, null_compared, Shorter, TestedBranch, SharedBranch, OptionalChain, JoinedCall, ChainLink, ChainEnd, BothSides, ChosenIndexed, ZeroFirst, Rotated, Decided, Combined, NullishIfEqual, NullishIfUnequal, Chosen, LooseNull, LooseNullAfter, ObjectTest, ObjectTestAfter, CombinedMember, ChosenMember, DecidedLast, OrTest, AndTest, AndBoth, OrEither, LastAfterOr, LastAfterAnd, AndThenOr, OrThenAnd, Alike}
 use Rattle.std.proofs.Common.{ap, inl, inr}
-use Rattle.std.specs.Prelude.{Bool, None, Option, Some, false, not, refl, true, ◌≡◌}
+use Rattle.std.specs.Prelude.{ℕ, Bool, None, Option, Some, false, not, refl, true, ◌≡◌}
 use Rattle.mini_model.specs.declared.shape.Shape.TheVariants as shape
 
 pub are_nullish_again : (ρ : Renaming) (a b : Tree) → AreNullish a b → AreNullish (again ρ a) (again ρ b)

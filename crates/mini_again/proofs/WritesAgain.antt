@@ -19,7 +19,7 @@ use Rattle.mini_rows.specs.Editions.{WriteIn}
 use Rattle.mini_rows.specs.Writes.{Row34, Row37Assigned, Row46Assigned, Row46AssignedChain, WriteContracts, WriteRow, if_null}
 use Rattle.mini_terms.specs.Exact.{by_value, is_guarded}
 use Rattle.std.proofs.Common.{ap, inl, inr}
-use Rattle.std.specs.Prelude.{Bool, false, map, refl, true, ◌≡◌}
+use Rattle.std.specs.Prelude.{ℕ, Bool, false, map, refl, true, ◌≡◌}
 
 pub row34_again : (ρ : Renaming) (W : VariableSet) (n w : Tree) → Row34 (with_others_in ρ W) n w → Row34 W (again ρ n) (again ρ w)
 row34_again ρ W n w r = record {

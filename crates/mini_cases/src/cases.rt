@@ -55,7 +55,7 @@ enum NumberCase {
     Nested,
 }
 
-const CASES: [(&str, Case); 31] = [
+const CASES: [(&str, Case); 32] = [
     ("#", Case::Title),
     ("tell", Case::Program(Task::Tell)),
     ("numbers", Case::Program(Task::Numbers)),

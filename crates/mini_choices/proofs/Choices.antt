@@ -62,7 +62,7 @@ use Rattle.mini_choices.proofs.HeldBranches.{held_row, held_passes}
 use Rattle.mini_choices.proofs.Calls.{called_row, called_passes}
 use Rattle.mini_choices.proofs.AssignedIndexed.{indexed_row, indexed_passes}
 use Rattle.mini_choices.specs.OwnRows.{SharedRow, OlderRow}
-use Rattle.mini_choices.proofs.Editions.{since_is, since_passes, in_edition, newer_passes, either_passes}
+use Rattle.mini_choices.proofs.Since.{since_is, since_passes, in_edition, newer_passes, either_passes}
 use Rattle.mini_choices.specs.Choices.{first_of, decided_in, decided_last_in, chains_in, branches_in, operands_written, written, Gives, Rests, WrittenIsRow, UnwrittenRests}
 use Rattle.mini_terms.specs.Effects.{ef}
 

@@ -1,5 +1,5 @@
 pub mod Trials
-pub mod Editions
+pub mod Since
 pub mod Names
 pub mod FormsAre
 pub mod Spines

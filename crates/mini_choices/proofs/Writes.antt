@@ -30,7 +30,7 @@ use Rattle.mini_choices.proofs.AssignedChains.{chain_row, chain_passes}
 use Rattle.mini_choices.proofs.AssignedComparison.{assigned_row, assigned_passes}
 use Rattle.mini_choices.proofs.AssignedNullishComparison.{nullish_row, nullish_passes_for}
 use Rattle.mini_choices.proofs.CombinedLogicalAssignment.{combined_row, combined_passes}
-use Rattle.mini_choices.proofs.Editions.{since_is, since_passes}
+use Rattle.mini_choices.proofs.Since.{since_is, since_passes}
 use Rattle.mini_choices.specs.MinimizeNormalAssignmentToCombinedLogicalAssignment as combine
 use Rattle.mini_choices.proofs.Trials.{first_there, second_there}
 
