@@ -1,4 +1,0 @@
-pub mod Times
-pub mod Steps
-pub mod Negated
-pub mod Spelled
