@@ -104,4 +104,5 @@ write_in_again e ρ W (Expr s) n w (inr (inr (inr r))) a = a
 write_in_again e ρ W p n w r a = absurd r
 
 pub writes_in_again : (e : ℕ) (ρ : Renaming) (W : VariableSet) (p : Position) (n w : Tree) → WritesIn e (with_others_in ρ W) p n w → WritesIn e W p (again ρ n) (again ρ w)
+unfolding write_contracts_again
 writes_in_again e ρ W p n w r = (write_contracts_again ρ W p n w r.0, write_in_again e ρ W p n w r.0.row r.1)
