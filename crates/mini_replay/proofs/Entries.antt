@@ -3,6 +3,7 @@ use Rattle.std.proofs.Common.{◌≡◌, ℕ, ◌+◌, ◌<◌, ◌≤◌, Bool,
 use Rattle.std.specs.Prelude.{Option, Some, None, is_some, option_and_then}
 use Rattle.std.proofs.lemmas.Bool.{false≢true}
 use Rattle.mini_model.specs.declared.place.Position.TheVariants.{Elsewhere}
+use Rattle.mini_model.specs.Paths.{Path}
 use Rattle.mini_model.specs.Tree.{Tree}
 use Rattle.mini_log.specs.declared.row.LogRow.{LogRow}
 use Rattle.mini_log.specs.declared.row.LogRow.TheVariants as row
@@ -11,7 +12,9 @@ use Rattle.mini_log.specs.Walk.{step_at}
 use Rattle.mini_checker.specs.declared.log.LogEntry.{LogEntry}
 use Rattle.mini_checker.specs.Made.{Made}
 use Rattle.mini_checker.specs.Checked.{Rows, entry_step_by, replayed_by}
-use Rattle.mini_replay.specs.Logged.{Entered, NoMore, NothingLeft, Passed}
+use Rattle.mini_replay.specs.Logged.{Entered, EnteredIf, Further, Next, NoMore, NotEntered, NothingLeft}
+use Rattle.mini_replay.specs.Seeking.{Sought}
+use Rattle.mini_replay.specs.declared.seeking.Found.{Found}
 
 pub numbered : (r : LogRow) → row_numbered (row_number r) ≡ Some r
 numbered row.Row1 = refl
@@ -56,14 +59,18 @@ made_is : (o : Option Tree) (t u : Tree) (b : Bool) → is_some o ≡ true → M
 made_is None t u b e m = absurd (false≢true e)
 made_is (Some v) t u b e m = ap Some (sym m.tree)
 
--- what was found is entered
-pub entered : (F : Rows) (r : LogRow) (x : LogEntry) (t u : Tree) (old new : List LogEntry) (b : Bool) → is_some (step_at (F r) Elsewhere t x.at) ≡ true → x.row ≡ row_number r →
-    Made (step_at (F r) Elsewhere t x.at) t u b → new ≡ old ++ x ∷ [] → Entered F t u old new
-entered F r x t u old new b e f m g = record {
+-- the step of what was found is entered
+pub entered : (F : Rows) (r : LogRow) (q : Path) (x : LogEntry) (t u : Tree) (old new : List LogEntry) → x ≡ record { at = q; row = row_number r } → Made (step_at (F r) Elsewhere t q) t u true → new ≡ old ++ x ∷ [] → Entered F t u old new
+entered F r q x t u old new e m g = record {
   entry = x;
   log = g;
-  made = ap (option_and_then (λ s. step_at (F s) Elsewhere t x.at)) (ap row_numbered f ∙ numbered r) ∙ made_is (step_at (F r) Elsewhere t x.at) t u b e m;
+  made = ap (entry_step_by F t) e ∙ ap (option_and_then (λ s. step_at (F s) Elsewhere t q)) (numbered r) ∙ made_is (step_at (F r) Elsewhere t q) t u true (sym m.said) m;
 }
+
+-- or it has none
+pub not_entered : (F : Rows) (w : Option Tree) (t u : Tree) (log : List LogEntry) → Made w t u false → NotEntered F w t u log log
+not_entered F None t u log m = record { none = refl; log = refl; program = m.tree }
+not_entered F (Some v) t u log m = absurd (false≢true m.said)
 
 pub replays_on : (F : Rows) (first t u : Tree) (old new : List LogEntry) → Entered F t u old new → replayed_by F first old ≡ Some t → replayed_by F first new ≡ Some u
 replays_on F first t u old new e r = ap (replayed_by F first) e.log ∙ one_more F first old e.entry ∙ ap (option_and_then (λ v. entry_step_by F v e.entry)) r ∙ e.made
@@ -71,23 +78,54 @@ replays_on F first t u old new e r = ap (replayed_by F first) e.log ∙ one_more
 pub longer_by : (F : Rows) (t u : Tree) (old new : List LogEntry) → Entered F t u old new → length new ≡ length old + 1
 longer_by F t u old new e = ap length e.log ∙ length-append old (e.entry ∷ [])
 
--- a pass up to here: whether it has made a step
-abbrev pub SoFar : Tree → Tree → List LogEntry → List LogEntry → ℕ → Bool → Type 0
-SoFar t u old new max true = (length old < length new) × (length new ≤ max)
-SoFar t u old new max false = (new ≡ old) × (u ≡ t)
+-- ---- entries, one after another
 
-pub one_further : (F : Rows) (t u v : Tree) (old mid new : List LogEntry) (max : ℕ) (b : Bool) → SoFar t u old mid max b → length mid < max → Entered F u v mid new → SoFar t v old new max true
-one_further F t u v old mid new max true (more, within) room e = let l = longer_by F u v mid new e in (omega (arith, more, l), omega (arith, room, l))
-one_further F t u v old mid new max false (same, still) room e = let l = longer_by F u v mid new e in let s = ap length same in (omega (arith, s, l), omega (arith, room, l))
+pub none_further : (F : Rows) (t : Tree) (log : List LogEntry) (max : ℕ) → Further F t t log log max
+none_further F t log max = record { replays = λ first r. r; longer = omega arith; within = λ h. h }
 
-pub pass_ends : (F : Rows) (t u v : Tree) (old mid new : List LogEntry) (max : ℕ) (b : Bool) → SoFar t u old mid max b → NoMore F u v mid new max b → Passed F t v old new max b
-pass_ends F t u v old mid new max true (more, within) n = let l = ap length n.log in (omega (arith, more, l), omega (arith, within, l))
-pass_ends F t u v old mid new max false (same, still) n = record {
-  log = n.log ∙ same;
-  program = n.program ∙ still;
-  left = λ e room. subst (NothingLeft F) still (n.left refl (subst (λ l. length l < max) (sym same) room));
-}
+pub one_further : (F : Rows) (t u v : Tree) (old mid new : List LogEntry) (max : ℕ) → Further F t u old mid max → length mid < max → Entered F u v mid new → Further F t v old new max
+one_further F t u v old mid new max f room e =
+    let l = longer_by F u v mid new e in
+    let more = f.longer in
+    record {
+      replays = λ first r. replays_on F first u v mid new e (f.replays first r);
+      longer = omega (arith, more, l);
+      within = λ h. omega (arith, room, l);
+    }
 
--- no more entries: what was replayed stays replayed
-pub none_further : (F : Rows) (first u v : Tree) (mid new : List LogEntry) (max : ℕ) (b : Bool) → NoMore F u v mid new max b → replayed_by F first mid ≡ Some u → replayed_by F first new ≡ Some v
-none_further F first u v mid new max b n r = ap (replayed_by F first) n.log ∙ r ∙ ap Some (sym n.program)
+-- none was made: what was replayed stays replayed
+pub still_further : (F : Rows) (w : Option Tree) (t u v : Tree) (old mid new : List LogEntry) (max : ℕ) → Further F t u old mid max → NotEntered F w u v mid new → Further F t v old new max
+still_further F w t u v old mid new max f n = subst (λ l. Further F t v old l max) (sym n.log) (subst (λ x. Further F t x old mid max) (sym n.program) f)
+
+-- what was sought, and was or wasn't there
+pub next_found : (F : Rows) (w : Option Tree) (t u : Tree) (old new : List LogEntry) (max : ℕ) (b : Bool) → is_some w ≡ true → length old < max → EnteredIf F w t u old new b → Next F t u old new max b
+next_found F w t u old new max true e room x = (room, x)
+next_found F w t u old new max false e room x = absurd (false≢true (sym (ap is_some x.none) ∙ e))
+
+-- the log goes on being replayed, and stays within its bound
+pub next_replays : (F : Rows) (first t u : Tree) (old new : List LogEntry) (max : ℕ) (b : Bool) → Next F t u old new max b → replayed_by F first old ≡ Some t → replayed_by F first new ≡ Some u
+next_replays F first t u old new max true (room, e) r = replays_on F first t u old new e r
+next_replays F first t u old new max false n r = ap (replayed_by F first) n.log ∙ r ∙ ap Some (sym n.program)
+
+pub next_within : (F : Rows) (t u : Tree) (old new : List LogEntry) (max : ℕ) (b : Bool) → Next F t u old new max b → length old ≤ max → length new ≤ max
+next_within F t u old new max true (room, e) h = let l = longer_by F t u old new e in omega (arith, room, l)
+next_within F t u old new max false n h = let l = ap length n.log in omega (arith, h, l)
+
+pub next_longer : (F : Rows) (t u : Tree) (old new : List LogEntry) (max : ℕ) (b : Bool) → b ≡ true → Next F t u old new max b → (length old < length new) × (length new ≤ max)
+next_longer F t u old new max true e (room, x) = let l = longer_by F t u old new x in (omega (arith, l), omega (arith, room, l))
+next_longer F t u old new max false e n = absurd (false≢true e)
+
+pub next_left : (F : Rows) (t u : Tree) (old new : List LogEntry) (max : ℕ) (b : Bool) → b ≡ false → Next F t u old new max b → length new < max → NothingLeft F u
+next_left F t u old new max true e x room = absurd (false≢true (sym e))
+next_left F t u old new max false e n room = subst (NothingLeft F) (sym n.program) (n.left (subst (λ l. length l < max) n.log room))
+
+-- nothing was found
+pub none_next : (F : Rows) (t : Tree) (log : List LogEntry) (max : ℕ) (o : Option Found) → o ≡ None → Sought F Elsewhere t o → NoMore F t t log log max
+none_next F t log max None e s = record { log = refl; program = refl; left = λ room. s }
+none_next F t log max (Some x) e s = absurd (cc e)
+
+pub no_room : (F : Rows) (t : Tree) (log : List LogEntry) (max : ℕ) → max ≤ length log → NoMore F t t log log max
+no_room F t log max h = record { log = refl; program = refl; left = λ room. absurd (full (length log) room h) }
+  where
+    full : (n : ℕ) → n < max → max ≤ n → ⊥
+    full n room h = omega (arith, room, h)
