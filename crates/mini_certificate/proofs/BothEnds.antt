@@ -61,7 +61,7 @@ values_next f xs i x old new y h e yet is n =
 -- ---- a log is read as it was written
 
 number_back : (n : ℕ) → n < 2 ^ 32 → number_at (number (unsigned n)) ≡ Some n
-number_back n h = ap (λ b. if b then Some n else _) (lt-ltb n (2 ^ 32) h)
+number_back n h = ap (λ b. if b then Some n else None) (lt-ltb n (2 ^ 32) h)
 
 numbers_back : (ns : List ℕ) → AreSmall ns → numbers_in (items_of (map (λ n. number (unsigned n)) ns)) ≡ Some ns
 numbers_back [] small = refl
