@@ -35,12 +35,7 @@ pub fn put_behind(numbers: &mut Numbers, more: &[u32]) -> Result<(), OutOfMemory
 }
 
 // Adds a row at the node, or at what these indices lead to from there.
-fn add(
-    draft: &mut Draft,
-    alloc: Global,
-    row: LogRow,
-    more: &[u32],
-) -> Result<(), OutOfMemory>
+fn add(draft: &mut Draft, alloc: Global, row: LogRow, more: &[u32]) -> Result<(), OutOfMemory>
     requires { 0 < draft.old.room }
     ensures { OnOk result (draft.new.room < draft.old.room) }
 {
