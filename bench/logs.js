@@ -14,7 +14,7 @@
 // (bench/redex/, and row 66 here): the row has to make the next program of the one before at the
 // node that the path leads to, or around it. A refused entry of which the tables read something is
 // counted, and is no error: the rows of a log ask for more. Then the seconds of both ways on n and
-// 2 n statements.
+// 2 n statements, and on the pieces together, each in a function of its own, of n and 2 n bytes.
 "use strict";
 const { words, run } = require("./built.js");
 const { chances, chosenPieces } = require("./pieces.js");
@@ -153,7 +153,7 @@ function* wrongDamage(check, certificate, damage, told) {
   yield* wrongSteps(check, { ...certificate, log: damage.log }, damage.at, told);
 }
 
-function held(check, count, seed) {
+function held(check, count, seed, read) {
   const told = { pieces: 0, entries: 0, damaged: 0, refused: 0, narrower: 0, steps: 0, wrong: 0 };
   const pick = chances(seed);
   const tell = (wrong) => {
@@ -165,6 +165,7 @@ function held(check, count, seed) {
     const { status, output } = run(check, written(tree), ["--log"]);
     if (status !== 0) continue;
     const certificate = JSON.parse(output);
+    read.push(tree);
     told.pieces += 1;
     told.entries += certificate.log.length;
     if (checked(check, certificate).refused !== undefined) tell(`its own log is refused: ${text(certificate.log)}`);
@@ -185,6 +186,18 @@ function seconds(program, value, given) {
   return { took: Number(process.hrtime.bigint() - begun) / 1e9, output };
 }
 
+// A script of the pieces, again and again, each in a function of its own, of so many bytes of JSON.
+function together(pieces, bytes) {
+  const body = [];
+  for (let size = 0, next = 0; size < bytes; next = (next + 1) % pieces.length) {
+    const block = { type: "BlockStatement", body: pieces[next].body };
+    const expression = { type: "FunctionExpression", id: null, params: [], body: block };
+    body.push({ type: "ExpressionStatement", expression });
+    size += text(written(body.at(-1))).length;
+  }
+  return { type: "Program", sourceType: "script", body };
+}
+
 function grown(check, name, tree) {
   const made = seconds(check, written(tree), ["--log"]);
   const certificate = JSON.parse(made.output);
@@ -193,9 +206,12 @@ function grown(check, name, tree) {
 }
 
 const { program: check, count, seed } = words(500, "mini_check");
-const told = held(check, count, seed);
+const read = [];
+const told = held(check, count, seed, read);
 console.log(`${told.pieces} pieces, ${told.entries} entries, ${told.damaged} damaged logs, ${told.refused} refused, ${told.steps} steps, ${told.narrower} narrower, ${told.wrong} wrong`);
 for (const statements of [500, 1000, 2000, 4000]) {
   grown(check, `${2 * statements} statements`, parseLeniently("x = !(a == b); if (c) d();".repeat(statements), "script"));
 }
+const scripts = read.filter(({ sourceType }) => sourceType === "script");
+for (const bytes of [1e6, 2e6, 4e6]) grown(check, "real code", together(scripts, bytes));
 process.exitCode = told.wrong === 0 ? 0 : 1;
