@@ -1,4 +1,5 @@
--- A program that is read carries no name at a declarator, so it is printable where it has no fault.
+-- A program that is read carries no name at a declarator, so it is printable where it has no fault,
+-- and its tokens are ones that a text has.
 use Rattle.std.proofs.Common.{◌≡◌, ℕ, true, List, [], ◌∷◌, refl}
 use Rattle.std.specs.Prelude.{None, Ok}
 use Rattle.std.proofs.lemmas.Bool.{false≢true}
@@ -12,10 +13,12 @@ use Rattle.mini_accept.specs.Symbols.{are_as_written, has_no_symbol, have_no_sym
 use Rattle.mini_accept.proofs.Shaped.{program_shaped}
 use Rattle.mini_accept.proofs.Symbols.{program_unresolved}
 use Rattle.mini_print.specs.Unprintable.{first_fault}
-use Rattle.mini_print.specs.Printed.{program_is_printable}
+use Rattle.mini_print.specs.Text.{EachLexical}
+use Rattle.mini_print.specs.Printed.{Style, styled_program, program_is_printable}
 use Rattle.mini_printable.specs.Unresolved.{carries_no_name, is_unresolved, are_unresolved}
 use Rattle.mini_printable.proofs.Clean.{and_l, and_r, both}
 use Rattle.mini_printable.proofs.Served.{faultless_prints}
+use Rattle.mini_printable.proofs.Voiced.{faultless_says}
 
 head_unresolved : (h : Shape) (xs : List Name) → are_as_written h xs ≡ true → carries_no_name h xs ≡ true
 head_unresolved shape.VariableDeclarator [] e = refl
@@ -32,3 +35,6 @@ mutual
 
 pub read_prints : (k : ℕ) (d : Data) (t : Tree) (n : ℕ) → program_at k d ≡ Ok (t, n) → first_fault t ≡ None → program_is_printable t ≡ true
 read_prints k d t n e f = faultless_prints t (program_shaped k d t n e) f (tree_unresolved t (program_unresolved k d t n e))
+
+pub read_says : (style : Style) (k : ℕ) (d : Data) (t : Tree) (n : ℕ) → program_at k d ≡ Ok (t, n) → first_fault t ≡ None → EachLexical (styled_program style t)
+read_says style k d t n e f = faultless_says style t (program_shaped k d t n e) f (tree_unresolved t (program_unresolved k d t n e))

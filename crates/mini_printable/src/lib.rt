@@ -6,8 +6,8 @@ ghost use Rattle.serde_json.specs.Data.{Data};
 ghost use Rattle.mini_model.specs.Tree.{Tree};
 ghost use Rattle.mini_accept.specs.Accept.{program_at};
 ghost use Rattle.mini_accept.specs.WellShaped.{IsWellShaped, is_name};
-ghost use Rattle.mini_print.specs.Text.{is_word};
-ghost use Rattle.mini_print.specs.Printed.{program_is_printable};
+ghost use Rattle.mini_print.specs.Text.{EachLexical, is_word};
+ghost use Rattle.mini_print.specs.Printed.{Style, styled_program, program_is_printable};
 ghost use Rattle.mini_print.specs.Unprintable.{first_fault};
 ghost use Rattle.mini_printable.specs.Unresolved.{is_unresolved};
 
@@ -22,6 +22,18 @@ pub fn programs_are_printable()
 /// of ESTree's programs lack no production.
 pub fn read_programs_are_printable()
     ensures { (depth : ℕ) (value : Data) (t : Tree) (numbers : ℕ) → program_at depth value ≡ Ok (t, numbers) → first_fault t ≡ None → program_is_printable t ≡ true }
+{}
+
+/// Each token that is printed of a program of ESTree without a fault is one that a text has
+/// (ECMA-262, 12), in full and in short: each name is a word, each number small enough, each text
+/// between its quotes, and no regular expression and no piece of a template ends before its end.
+pub fn programs_are_lexical()
+    ensures { (style : Style) (t : Tree) → IsWellShaped t → first_fault t ≡ None → is_unresolved t ≡ true → EachLexical (styled_program style t) }
+{}
+
+/// The same of a program that is read.
+pub fn read_programs_are_lexical()
+    ensures { (style : Style) (depth : ℕ) (value : Data) (t : Tree) (numbers : ℕ) → program_at depth value ≡ Ok (t, numbers) → first_fault t ≡ None → EachLexical (styled_program style t) }
 {}
 
 /// The name of an identifier is a word of a text (ECMA-262, 12.7): no blank, and no unit that
