@@ -16,7 +16,6 @@ use Rattle.mini_print.specs.Grammar.{Leading}
 use Rattle.mini_print.specs.Groups.{items_goal}
 use Rattle.mini_print.specs.Unprintable.{first_fault, has_text, has_label, are_raw, are_directives}
 use Rattle.mini_print.specs.Printed.{Style, printers, lay_block, undirected, pieces, import_parts, printed_items, styled_program, with_directives, directives, seen, shown, all_shown}
-use Rattle.mini_printable.specs.Unresolved.{is_unresolved}
 use Rattle.mini_printable.proofs.Clean.{and_l, and_r, is_clean, are_clean, clean_node, program_clean}
 use Rattle.mini_printable.proofs.Rows.{never, either, present, many_case, holes_case, rest_case, holes_rest_case}
 use Rattle.mini_printable.proofs.Seats.{by_either}
@@ -135,7 +134,7 @@ as_it_is c strict l h xs n ts b p d m a st e k =
     let clean = clean_node l h xs n ts st k in
     let w = accept.fill inside (filling_by (slots_of strict c h)) ts in (
       head_says h xs (all_shown ts) (names_in c h xs n ts w e) (needed strict inside c h ts (fields_of c h xs n ts w e) clean.1 (parts_in c h xs n ts w e) m filled) d,
-      fair_slots ts b inside (has_label h) (slots_of strict c h) (slots_fair strict c h p a) filled clean.3,
+      fair_slots ts b inside (has_label h) (slots_of strict c h) (slots_fair strict c h p a) filled clean.2,
     )
   where
     parts_in : (c : Class) (h : Shape) (xs : List Name) (n : ℕ) (ts : Trees) (z : Bool) → (is_whole c h xs n ts && z) ≡ true → accept.has_its_parts c h ts ≡ true
@@ -246,34 +245,35 @@ row c strict l shape.ChainExpression xs n ts b p d e k =
     let w = accept.fill strict (filling_by (slots_of strict c shape.ChainExpression)) ts in
     let f = and_r (is_whole c shape.ChainExpression xs n ts) w e in
     chain_seen strict xs n (slots_of strict c shape.ChainExpression) ts (chain_slots strict c) f (names_in c shape.ChainExpression xs n ts w e)
-    (fair_slots ts b strict false (slots_of strict c shape.ChainExpression) (slots_fair strict c shape.ChainExpression p refl) f (clean_node l shape.ChainExpression xs n ts refl k).3)
+    (fair_slots ts b strict false (slots_of strict c shape.ChainExpression) (slots_fair strict c shape.ChainExpression p refl) f (clean_node l shape.ChainExpression xs n ts refl k).2)
 row c strict l (shape.MethodDefinition m q true) xs n ts b p d e k =
     let w = accept.fill strict (filling_by (slots_of strict c (shape.MethodDefinition m q true))) ts in
-    method_seen m q xs n (all_shown ts) (names_in c (shape.MethodDefinition m q true) xs n ts w e) (fair_slots ts b strict false (slots_of strict c (shape.MethodDefinition m q true)) (slots_fair strict c (shape.MethodDefinition m q true) p refl) (and_r (is_whole c (shape.MethodDefinition m q true) xs n ts) w e) (clean_node l (shape.MethodDefinition m q true) xs n ts refl k).3)
+    method_seen m q xs n (all_shown ts) (names_in c (shape.MethodDefinition m q true) xs n ts w e) (fair_slots ts b strict false (slots_of strict c (shape.MethodDefinition m q true)) (slots_fair strict c (shape.MethodDefinition m q true) p refl) (and_r (is_whole c (shape.MethodDefinition m q true) xs n ts) w e) (clean_node l (shape.MethodDefinition m q true) xs n ts refl k).2)
 row c strict l (shape.PropertyDefinition q true) xs n ts b p d e k =
     let w = accept.fill strict (filling_by (slots_of strict c (shape.PropertyDefinition q true))) ts in
-    field_seen q xs n (all_shown ts) (names_in c (shape.PropertyDefinition q true) xs n ts w e) (fair_slots ts b strict false (slots_of strict c (shape.PropertyDefinition q true)) (slots_fair strict c (shape.PropertyDefinition q true) p refl) (and_r (is_whole c (shape.PropertyDefinition q true) xs n ts) w e) (clean_node l (shape.PropertyDefinition q true) xs n ts refl k).3)
+    field_seen q xs n (all_shown ts) (names_in c (shape.PropertyDefinition q true) xs n ts w e) (fair_slots ts b strict false (slots_of strict c (shape.PropertyDefinition q true)) (slots_fair strict c (shape.PropertyDefinition q true) p refl) (and_r (is_whole c (shape.PropertyDefinition q true) xs n ts) w e) (clean_node l (shape.PropertyDefinition q true) xs n ts refl k).2)
 row c strict l shape.TemplateLiteral xs n ts b p d e k =
     let w = accept.fill strict (filling_by (slots_of strict c shape.TemplateLiteral)) ts in
     let clean = clean_node l shape.TemplateLiteral xs n ts refl k in
-    template_over strict false xs n (slots_of strict c shape.TemplateLiteral) ts b (template_slots strict c) (and_r (is_whole c shape.TemplateLiteral xs n ts) w e) (names_in c shape.TemplateLiteral xs n ts w e) clean.1 clean.3
+    template_over strict false xs n (slots_of strict c shape.TemplateLiteral) ts b (template_slots strict c) (and_r (is_whole c shape.TemplateLiteral xs n ts) w e) (names_in c shape.TemplateLiteral xs n ts w e) clean.1 clean.2
 row c strict l (shape.Function q g ds) xs n ts b p d e k =
     let inside = accept.is_strict_in strict (shape.Function q g ds) in
     let w = accept.fill inside (filling_by (slots_of strict c (shape.Function q g ds))) ts in
     let clean = clean_node l (shape.Function q g ds) xs n ts refl k in
-    function_over inside q g ds xs n (slots_of strict c (shape.Function q g ds)) ts b (function_slots_of strict c q g ds) (and_r (is_whole c (shape.Function q g ds) xs n ts) w e) (names_in c (shape.Function q g ds) xs n ts w e) clean.1 clean.3
+    function_over inside q g ds xs n (slots_of strict c (shape.Function q g ds)) ts b (function_slots_of strict c q g ds) (and_r (is_whole c (shape.Function q g ds) xs n ts) w e) (names_in c (shape.Function q g ds) xs n ts w e) clean.1 clean.2
 row c strict l (shape.ArrowFunctionExpression ds) xs n ts b p d e k =
     let inside = accept.is_strict_in strict (shape.ArrowFunctionExpression ds) in
     let w = accept.fill inside (filling_by (slots_of strict c (shape.ArrowFunctionExpression ds))) ts in
     let clean = clean_node l (shape.ArrowFunctionExpression ds) xs n ts refl k in
-    arrow_over inside ds xs n (slots_of strict c (shape.ArrowFunctionExpression ds)) ts b (arrow_slots strict c ds) (and_r (is_whole c (shape.ArrowFunctionExpression ds) xs n ts) w e) (names_in c (shape.ArrowFunctionExpression ds) xs n ts w e) clean.1 clean.3
+    arrow_over inside ds xs n (slots_of strict c (shape.ArrowFunctionExpression ds)) ts b (arrow_slots strict c ds) (and_r (is_whole c (shape.ArrowFunctionExpression ds) xs n ts) w e) (names_in c (shape.ArrowFunctionExpression ds) xs n ts w e) clean.1 clean.2
 row c strict l shape.ImportDeclaration xs n ts b p d e k =
     let w = accept.fill strict (filling_by (slots_of strict c shape.ImportDeclaration)) ts in
-    import_over strict false xs n (slots_of strict c shape.ImportDeclaration) ts b (import_slots strict c) (and_r (is_whole c shape.ImportDeclaration xs n ts) w e) (names_in c shape.ImportDeclaration xs n ts w e) (clean_node l shape.ImportDeclaration xs n ts refl k).3
+    import_over strict false xs n (slots_of strict c shape.ImportDeclaration) ts b (import_slots strict c) (and_r (is_whole c shape.ImportDeclaration xs n ts) w e) (names_in c shape.ImportDeclaration xs n ts w e) (clean_node l shape.ImportDeclaration xs n ts refl k).2
 row c strict l shape.ExportSpecifier xs n ts b p d e k =
     let w = accept.fill strict (filling_by (slots_of strict c shape.ExportSpecifier)) ts in
-    export_over strict false xs n (slots_of strict c shape.ExportSpecifier) ts b (export_slots strict c) (and_r (is_whole c shape.ExportSpecifier xs n ts) w e) (names_in c shape.ExportSpecifier xs n ts w e) (clean_node l shape.ExportSpecifier xs n ts refl k).3
+    export_over strict false xs n (slots_of strict c shape.ExportSpecifier) ts b (export_slots strict c) (and_r (is_whole c shape.ExportSpecifier xs n ts) w e) (names_in c shape.ExportSpecifier xs n ts w e) (clean_node l shape.ExportSpecifier xs n ts refl k).2
 row c strict l shape.FunctionBody xs n ts b p d e k = absurd (false≢true (sym d))
+row c strict l shape.VariableDeclarator xs n ts b p d e k = (head_says shape.VariableDeclarator [] (all_shown ts) refl refl refl, (as_it_is c strict l shape.VariableDeclarator xs n ts b p refl refl refl refl e k).1)
 row c strict l h xs n ts b p d e k = as_it_is c strict l h xs n ts b p refl refl refl refl e k
 
 slotted : (h : Shape) (xs : List Name) (n : ℕ) (ts : Trees) → AllVoiced ts → (strict l : Bool) (s : Slot) → is_fair_slot s ≡ true → fits strict s (node h xs n ts) ≡ true → is_clean l (node h xs n ts) ≡ true → Spoken (shown (node h xs n ts))
@@ -342,15 +342,15 @@ items_lead false = refl
 program_says : (style : Style) (b : Bool) (ds : List (List ℕ)) (is : Trees) → are_directives ds ≡ true → AllSpoken (all_shown is) → are_lexical (lay_block Leading (printers style (directives ds)) (undirected (printed_items style b is))) ≡ true
 program_says style b ds is d s = directives_say style ds (undirected (printed_items style b is)) d (undirected_says (printed_items style b is) (block_says (items_goal b) (printers style (all_shown is)) [] (items_lead b) (trees_say style (all_shown is) s) refl))
 
-pub faultless_says : (style : Style) (t : Tree) → fits false (one a_program) t ≡ true → first_fault t ≡ None → is_unresolved t ≡ true → EachLexical (styled_program style t)
-faultless_says style t e f q = each_lexical (styled_program style t) (program_by t e f q)
+pub faultless_says : (style : Style) (t : Tree) → fits false (one a_program) t ≡ true → first_fault t ≡ None → EachLexical (styled_program style t)
+faultless_says style t e f = each_lexical (styled_program style t) (program_by t e f)
   where
-    program_by : (t : Tree) → fits false (one a_program) t ≡ true → first_fault t ≡ None → is_unresolved t ≡ true → are_lexical (styled_program style t) ≡ true
-    program_by (node (shape.Program m ds) [] n ts) e f q =
+    program_by : (t : Tree) → fits false (one a_program) t ≡ true → first_fault t ≡ None → are_lexical (styled_program style t) ≡ true
+    program_by (node (shape.Program m ds) [] n ts) e f =
         let inside = accept.is_strict_in false (shape.Program m ds) in
-        let c = clean_node false (shape.Program m ds) [] n ts refl (program_clean (shape.Program m ds) [] n ts refl f q) in
+        let c = clean_node false (shape.Program m ds) [] n ts refl (program_clean (shape.Program m ds) [] n ts refl f) in
         one_part inside (many (a_statement (if m then in_module else in_body))) (λ us. are_clean false us ≡ true → are_lexical (styled_program style (node (shape.Program m ds) [] n us)) ≡ true) ts
         (λ t et k. many_listed inside (a_statement (if m then in_module else in_body)) t (λ z. Spoken (shown z) → are_lexical (styled_program style (node (shape.Program m ds) [] n (z ▸ none))) ≡ true) et (λ k' is s. program_says style m ds is c.1 s.1) ((voiced t).plain inside false (many (a_statement (if m then in_module else in_body))) refl et (and_l (is_clean false t) true k)))
-        (and_r (is_whole a_program (shape.Program m ds) [] n ts) (accept.fill inside (these (many (a_statement (if m then in_module else in_body)) ∷ [])) ts) e) c.3
-    program_by (node (shape.Program m ds) (x ∷ xs) n ts) e f q = absurd (false≢true e)
-    program_by (node h xs n ts) e f q = absurd (never (is_whole a_program h xs n ts) e)
+        (and_r (is_whole a_program (shape.Program m ds) [] n ts) (accept.fill inside (these (many (a_statement (if m then in_module else in_body)) ∷ [])) ts) e) c.2
+    program_by (node (shape.Program m ds) (x ∷ xs) n ts) e f = absurd (false≢true e)
+    program_by (node h xs n ts) e f = absurd (never (is_whole a_program h xs n ts) e)

@@ -9,13 +9,12 @@ ghost use Rattle.mini_accept.specs.WellShaped.{IsWellShaped, is_name};
 ghost use Rattle.mini_print.specs.Text.{EachLexical, is_word};
 ghost use Rattle.mini_print.specs.Printed.{Style, styled_program, program_is_printable};
 ghost use Rattle.mini_print.specs.Unprintable.{first_fault};
-ghost use Rattle.mini_printable.specs.Unresolved.{is_unresolved};
 
 /// A program of ESTree without a fault is one that the grammar of texts has (ECMA-262, 11 to 16):
-/// what keeps a well-shaped program from a text is a first fault, and nothing else. No declarator of
-/// it carries a name, as one does that writes another variable than the one that it declares.
+/// what keeps a well-shaped program from a text is a first fault, and nothing else. Its names may be
+/// resolved or not.
 pub fn programs_are_printable()
-    ensures { (t : Tree) → IsWellShaped t → first_fault t ≡ None → is_unresolved t ≡ true → program_is_printable t ≡ true }
+    ensures { (t : Tree) → IsWellShaped t → first_fault t ≡ None → program_is_printable t ≡ true }
 {}
 
 /// A program that is read is one that the grammar of texts has, or it has a first fault: the texts
@@ -28,7 +27,7 @@ pub fn read_programs_are_printable()
 /// (ECMA-262, 12), in full and in short: each name is a word, each number small enough, each text
 /// between its quotes, and no regular expression and no piece of a template ends before its end.
 pub fn programs_are_lexical()
-    ensures { (style : Style) (t : Tree) → IsWellShaped t → first_fault t ≡ None → is_unresolved t ≡ true → EachLexical (styled_program style t) }
+    ensures { (style : Style) (t : Tree) → IsWellShaped t → first_fault t ≡ None → EachLexical (styled_program style t) }
 {}
 
 /// The same of a program that is read.
