@@ -1,27 +1,28 @@
 -- Trees that are shown in the order of their text: their tokens are ones that a text has.
-use Rattle.std.proofs.Common.{◌≡◌, ℕ, Bool, true, false, ◌&&◌, ◌||◌, not, List, [], ◌∷◌, refl, sym}
-use Rattle.std.specs.Prelude.{Option, Some, None, if◌then◌else◌}
+use Rattle.std.proofs.Common.{◌∙◌, ap, ◌≡◌, ℕ, Bool, true, false, ◌&&◌, ◌||◌, not, List, [], ◌∷◌, refl, sym}
+use Rattle.std.specs.Prelude.{is_some, ◌==◌, Option, Some, None, if◌then◌else◌}
 use Rattle.std.proofs.lemmas.Bool.{false≢true}
 use Rattle.mini_model.specs.declared.name.Name.{Name}
 use Rattle.mini_model.specs.declared.kind.MethodDefinitionKind.{MethodDefinitionKind}
 use Rattle.mini_model.specs.declared.shape.Shape.{Shape}
 use Rattle.mini_model.specs.declared.shape.Shape.TheVariants as shape
+use Rattle.mini_model.specs.Templates.{cooked}
 use Rattle.mini_model.specs.Tree.{Tree, Trees, node, none, ◌▸◌, shape_of, absent, listed}
 use Rattle.mini_accept.specs.WellShaped as accept
-use Rattle.mini_accept.specs.WellShaped.{Class, Slot, Tagging, in_body, a_program, a_statement, a_function_body, an_arrow_body, an_expression, a_chain, a_binding, a_module_name, an_exported_name, an_import, a_string, a_parameter, a_pattern_rest, one, one_or_absent, many, many_or_holes, many_and_rest, many_or_holes_and_rest, quasis, these, each, each_or_last, slots_of, filling_by, is_quasi, are_quasis, max_big_int, fits, is_whole, has_names}
+use Rattle.mini_accept.specs.WellShaped.{untagged, tagged, is_same_flag, is_text_of_cooked, is_paired, is_paired_cooked, are_paired, a_string, Class, Slot, Tagging, in_body, a_program, a_statement, a_function_body, an_arrow_body, an_expression, a_chain, a_binding, a_module_name, an_exported_name, an_import, a_string, a_parameter, a_pattern_rest, one, one_or_absent, many, many_or_holes, many_and_rest, many_or_holes_and_rest, quasis, these, each, each_or_last, slots_of, filling_by, is_quasi, are_quasis, max_big_int, fits, is_whole, has_names}
 use Rattle.mini_print.specs.Text.{is_raw}
 use Rattle.mini_print.specs.Token.{Token}
 use Rattle.mini_print.specs.Grammar.{Leading, constructor_shape, first_shape}
 use Rattle.mini_print.specs.Unprintable.{are_raw, is_raw_piece, are_directives, is_directive}
-use Rattle.mini_print.specs.Printed.{Style, printers, lay_block, is_gap, is_link, is_optional, has_optional, linked, threaded, pieces, plain_kind, directives, with_directives, behind_default, import_parts, first_raw, seen, shown, all_shown, terminated}
+use Rattle.mini_print.specs.Printed.{part_at, spelling_of, Style, printers, lay_block, is_gap, is_link, is_optional, has_optional, linked, threaded, pieces, plain_kind, directives, with_directives, behind_default, import_parts, first_raw, seen, shown, all_shown, terminated}
 use Rattle.mini_printable.proofs.Clean.{and_l, and_r, both}
 use Rattle.mini_printable.proofs.Rows.{never}
 use Rattle.mini_printable.proofs.Templates.{quasi_case}
-use Rattle.mini_printable.proofs.Words.{name_is_word}
-use Rattle.mini_printable.proofs.Tokens.{are_lexical, HeadSays, Spoken, AllSpoken, terminated_says}
-use Rattle.mini_printable.proofs.Forms.{is_body, head_says}
+use Rattle.mini_printable.proofs.Pairs.{has_pairs, is_said_raw, name_is_spelled, paired_has_pairs}
+use Rattle.mini_printable.proofs.Tokens.{are_sayable, HeadSays, Spoken, AllSpoken, terminated_says}
+use Rattle.mini_printable.proofs.Forms.{needs, is_body, head_says}
 use Rattle.mini_printable.proofs.Slots.{is_chain_slots}
-use Rattle.mini_printable.proofs.Firsts.{names_in, is_bound_word}
+use Rattle.mini_printable.proofs.Firsts.{source_pairs, names_in, is_bound_word}
 
 -- ---- nodes that are made where a tree is shown
 
@@ -118,47 +119,86 @@ chain_seen inside xs n o ts d e p s = absurd (false≢true d)
 
 -- ---- templates
 
-piece_spoken : (b : Bool) (raw : List ℕ) (c : Option (List ℕ)) (n : ℕ) (us : Trees) → is_raw false raw ≡ true → AllSpoken us → Spoken (node (shape.TemplateElement b raw c) [] n us)
+abbrev pub is_said_piece : Tree → Bool
+is_said_piece (node (shape.TemplateElement b s c) xs n us) = is_said_raw s
+is_said_piece _ = true
+
+abbrev pub are_said : Trees → Bool
+are_said none = true
+are_said (t ▸ ts) = is_said_piece t && are_said ts
+
+paired_of : (a : Bool) (n : ℕ) (b : Bool) (s : List ℕ) (c : Option (List ℕ)) → (a && ((n == 0) && accept.has_plain_fields (shape.TemplateElement b s c))) ≡ true → is_paired s ≡ true
+paired_of a n b s c e = and_l (is_paired s) (is_text_of_cooked c (cooked s) && is_paired_cooked c) (and_r (n == 0) (accept.has_plain_fields (shape.TemplateElement b s c)) (and_r a ((n == 0) && accept.has_plain_fields (shape.TemplateElement b s c)) e))
+
+quasi_said : (g : Tagging) (last : Bool) (t : Tree) → is_quasi g last t ≡ true → is_raw_piece t ≡ true → is_said_piece t ≡ true
+quasi_said untagged last (node (shape.TemplateElement b s c) [] n none) e r = both (is_raw false s) (has_pairs false s) r (paired_has_pairs s (paired_of (is_same_flag b last && is_some c) n b s c e))
+quasi_said tagged last (node (shape.TemplateElement b s c) [] n none) e r = both (is_raw false s) (has_pairs false s) r (paired_has_pairs s (paired_of (is_same_flag b last) n b s c e))
+quasi_said g last (node (shape.TemplateElement b s c) [] n (t ▸ ts)) e r = absurd (false≢true e)
+quasi_said g last (node (shape.TemplateElement b s c) (x ∷ xs) n ts) e r = absurd (false≢true e)
+quasi_said g last (node h xs n ts) e r = refl
+
+are_said_quasis : (g : Tagging) (qs : Trees) → are_quasis g qs ≡ true → are_raw qs ≡ true → are_said qs ≡ true
+are_said_quasis g none e r = refl
+are_said_quasis g (q ▸ none) e r = both (is_said_piece q) true (quasi_said g true q e (and_l (is_raw_piece q) true r)) refl
+are_said_quasis g (q ▸ (p ▸ ps)) e r =
+    both (is_said_piece q) (are_said (p ▸ ps)) (quasi_said g false q (and_l (is_quasi g false q) (are_quasis g (p ▸ ps)) e) (and_l (is_raw_piece q) (are_raw (p ▸ ps)) r))
+    (are_said_quasis g (p ▸ ps) (and_r (is_quasi g false q) (are_quasis g (p ▸ ps)) e) (and_r (is_raw_piece q) (are_raw (p ▸ ps)) r))
+
+piece_spoken : (b : Bool) (raw : List ℕ) (c : Option (List ℕ)) (n : ℕ) (us : Trees) → is_said_raw raw ≡ true → AllSpoken us → Spoken (node (shape.TemplateElement b raw c) [] n us)
 piece_spoken b raw c n us r s = (head_says (shape.TemplateElement b raw c) [] us refl r refl, s)
 
-threads_spoken : (g : Tagging) (qs us : Trees) → are_quasis g qs ≡ true → are_raw qs ≡ true → AllSpoken us → Spoken (threaded (all_shown qs) us)
+threads_spoken : (g : Tagging) (qs us : Trees) → are_quasis g qs ≡ true → are_said qs ≡ true → AllSpoken us → Spoken (threaded (all_shown qs) us)
 threads_spoken g none us e r s = absurd (false≢true e)
-threads_spoken g (q ▸ none) none e r s = quasi_case (λ t. is_raw_piece t ≡ true → Spoken (threaded (shown t ▸ none) none)) g true q e (λ raw c n f d. piece_spoken true raw c n none d tt) (and_l (is_raw_piece q) true r)
-threads_spoken g (q ▸ none) (u ▸ us) e r s = quasi_case (λ t. is_raw_piece t ≡ true → Spoken (threaded (shown t ▸ none) (u ▸ us))) g true q e (λ raw c n f d. piece_spoken true raw c n (u ▸ (absent ▸ none)) d (s.0, (absent_spoken, tt))) (and_l (is_raw_piece q) true r)
-threads_spoken g (q ▸ (p ▸ ps)) none e r s = quasi_case (λ t. is_raw_piece t ≡ true → Spoken (threaded (shown t ▸ all_shown (p ▸ ps)) none)) g false q (and_l (is_quasi g false q) (are_quasis g (p ▸ ps)) e) (λ raw c n f d. absent_spoken) (and_l (is_raw_piece q) (are_raw (p ▸ ps)) r)
+threads_spoken g (q ▸ none) none e r s = quasi_case (λ t. is_said_piece t ≡ true → Spoken (threaded (shown t ▸ none) none)) g true q e (λ raw c n f d. piece_spoken true raw c n none d tt) (and_l (is_said_piece q) true r)
+threads_spoken g (q ▸ none) (u ▸ us) e r s = quasi_case (λ t. is_said_piece t ≡ true → Spoken (threaded (shown t ▸ none) (u ▸ us))) g true q e (λ raw c n f d. piece_spoken true raw c n (u ▸ (absent ▸ none)) d (s.0, (absent_spoken, tt))) (and_l (is_said_piece q) true r)
+threads_spoken g (q ▸ (p ▸ ps)) none e r s = quasi_case (λ t. is_said_piece t ≡ true → Spoken (threaded (shown t ▸ all_shown (p ▸ ps)) none)) g false q (and_l (is_quasi g false q) (are_quasis g (p ▸ ps)) e) (λ raw c n f d. absent_spoken) (and_l (is_said_piece q) (are_said (p ▸ ps)) r)
 threads_spoken g (q ▸ (p ▸ ps)) (u ▸ us) e r s =
-    let rest = threads_spoken g (p ▸ ps) us (and_r (is_quasi g false q) (are_quasis g (p ▸ ps)) e) (and_r (is_raw_piece q) (are_raw (p ▸ ps)) r) s.1 in
-    quasi_case (λ t. is_raw_piece t ≡ true → Spoken (threaded (shown t ▸ all_shown (p ▸ ps)) (u ▸ us))) g false q (and_l (is_quasi g false q) (are_quasis g (p ▸ ps)) e)
-    (λ raw c n f d. piece_spoken false raw c n (u ▸ (threaded (all_shown (p ▸ ps)) us ▸ none)) d (s.0, (rest, tt))) (and_l (is_raw_piece q) (are_raw (p ▸ ps)) r)
+    let rest = threads_spoken g (p ▸ ps) us (and_r (is_quasi g false q) (are_quasis g (p ▸ ps)) e) (and_r (is_said_piece q) (are_said (p ▸ ps)) r) s.1 in
+    quasi_case (λ t. is_said_piece t ≡ true → Spoken (threaded (shown t ▸ all_shown (p ▸ ps)) (u ▸ us))) g false q (and_l (is_quasi g false q) (are_quasis g (p ▸ ps)) e)
+    (λ raw c n f d. piece_spoken false raw c n (u ▸ (threaded (all_shown (p ▸ ps)) us ▸ none)) d (s.0, (rest, tt))) (and_l (is_said_piece q) (are_said (p ▸ ps)) r)
 
 abbrev pub Pieced : Trees → Type 0
-Pieced us = AllSpoken us × (is_raw false (first_raw us) ≡ true)
+Pieced us = AllSpoken us × (is_said_raw (first_raw us) ≡ true)
+
+pieces_said : (g : Tagging) (qs us : Trees) → are_quasis g qs ≡ true → are_said qs ≡ true → AllSpoken us → Pieced (pieces (all_shown qs) us)
+pieces_said g none us e r s = absurd (false≢true e)
+pieces_said g (q ▸ none) none e r s = quasi_case (λ t. is_said_piece t ≡ true → Pieced (pieces (shown t ▸ none) none)) g true q e (λ raw c n f d. ((piece_spoken true raw c n none d tt, tt), d)) (and_l (is_said_piece q) true r)
+pieces_said g (q ▸ none) (u ▸ us) e r s = quasi_case (λ t. is_said_piece t ≡ true → Pieced (pieces (shown t ▸ none) (u ▸ us))) g true q e (λ raw c n f d. ((piece_spoken true raw c n none d tt, (s.0, (absent_spoken, tt))), d)) (and_l (is_said_piece q) true r)
+pieces_said g (q ▸ (p ▸ ps)) none e r s = ((absent_spoken, tt), refl)
+pieces_said g (q ▸ (p ▸ ps)) (u ▸ us) e r s =
+    let rest = threads_spoken g (p ▸ ps) us (and_r (is_quasi g false q) (are_quasis g (p ▸ ps)) e) (and_r (is_said_piece q) (are_said (p ▸ ps)) r) s.1 in
+    quasi_case (λ t. is_said_piece t ≡ true → Pieced (pieces (shown t ▸ all_shown (p ▸ ps)) (u ▸ us))) g false q (and_l (is_quasi g false q) (are_quasis g (p ▸ ps)) e)
+    (λ raw c n f d. ((piece_spoken false raw c n none d tt, (s.0, (rest, tt))), d)) (and_l (is_said_piece q) (are_said (p ▸ ps)) r)
 
 pub pieces_spoken : (g : Tagging) (qs us : Trees) → are_quasis g qs ≡ true → are_raw qs ≡ true → AllSpoken us → Pieced (pieces (all_shown qs) us)
-pieces_spoken g none us e r s = absurd (false≢true e)
-pieces_spoken g (q ▸ none) none e r s = quasi_case (λ t. is_raw_piece t ≡ true → Pieced (pieces (shown t ▸ none) none)) g true q e (λ raw c n f d. ((piece_spoken true raw c n none d tt, tt), d)) (and_l (is_raw_piece q) true r)
-pieces_spoken g (q ▸ none) (u ▸ us) e r s = quasi_case (λ t. is_raw_piece t ≡ true → Pieced (pieces (shown t ▸ none) (u ▸ us))) g true q e (λ raw c n f d. ((piece_spoken true raw c n none d tt, (s.0, (absent_spoken, tt))), d)) (and_l (is_raw_piece q) true r)
-pieces_spoken g (q ▸ (p ▸ ps)) none e r s = ((absent_spoken, tt), refl)
-pieces_spoken g (q ▸ (p ▸ ps)) (u ▸ us) e r s =
-    let rest = threads_spoken g (p ▸ ps) us (and_r (is_quasi g false q) (are_quasis g (p ▸ ps)) e) (and_r (is_raw_piece q) (are_raw (p ▸ ps)) r) s.1 in
-    quasi_case (λ t. is_raw_piece t ≡ true → Pieced (pieces (shown t ▸ all_shown (p ▸ ps)) (u ▸ us))) g false q (and_l (is_quasi g false q) (are_quasis g (p ▸ ps)) e)
-    (λ raw c n f d. ((piece_spoken false raw c n none d tt, (s.0, (rest, tt))), d)) (and_l (is_raw_piece q) (are_raw (p ▸ ps)) r)
+pieces_spoken g qs us e r s = pieces_said g qs us e (are_said_quasis g qs e r) s
 
 -- ---- directives
 
-directives_spoken : (ds : List (List ℕ)) → AllSpoken (directives ds)
-directives_spoken [] = tt
-directives_spoken (s ∷ ss) = ((head_says (shape.StringLiteral s) [] none refl refl refl, tt), directives_spoken ss)
+abbrev pub is_said_directive : List ℕ → Bool
+is_said_directive s = is_directive s && has_pairs false s
 
-pub directives_say : (style : Style) (ds : List (List ℕ)) (r : List Token) → are_directives ds ≡ true → are_lexical r ≡ true → are_lexical (lay_block Leading (printers style (directives ds)) r) ≡ true
+abbrev pub are_said_directives : List (List ℕ) → Bool
+are_said_directives [] = true
+are_said_directives (s ∷ ss) = is_said_directive s && are_said_directives ss
+
+pub said_directives : (ds : List (List ℕ)) → are_directives ds ≡ true → are_paired ds ≡ true → are_said_directives ds ≡ true
+said_directives [] e p = refl
+said_directives (s ∷ ss) e p = both (is_said_directive s) (are_said_directives ss) (both (is_directive s) (has_pairs false s) (and_l (is_directive s) (are_directives ss) e) (paired_has_pairs s (and_l (is_paired s) (are_paired ss) p))) (said_directives ss (and_r (is_directive s) (are_directives ss) e) (and_r (is_paired s) (are_paired ss) p))
+
+directives_spoken : (ds : List (List ℕ)) → are_said_directives ds ≡ true → AllSpoken (directives ds)
+directives_spoken [] e = tt
+directives_spoken (s ∷ ss) e = ((head_says (shape.StringLiteral s) [] none refl (and_r (is_directive s) (has_pairs false s) (and_l (is_said_directive s) (are_said_directives ss) e)) refl, tt), directives_spoken ss (and_r (is_said_directive s) (are_said_directives ss) e))
+
+pub directives_say : (style : Style) (ds : List (List ℕ)) (r : List Token) → are_said_directives ds ≡ true → are_sayable r ≡ true → are_sayable (lay_block Leading (printers style (directives ds)) r) ≡ true
 directives_say style [] r e d = d
 directives_say style (s ∷ ss) r e d =
     let rest = lay_block Leading (printers style (directives ss)) r in
-    both (is_directive s) (are_lexical (terminated style rest)) (and_l (is_directive s) (are_directives ss) e)
-    (terminated_says style rest (directives_say style ss r (and_r (is_directive s) (are_directives ss) e) d))
+    both (is_said_directive s) (are_sayable (terminated style rest)) (and_l (is_said_directive s) (are_said_directives ss) e)
+    (terminated_says style rest (directives_say style ss r (and_r (is_said_directive s) (are_said_directives ss) e) d))
 
-pub body_seen : (ds : List (List ℕ)) (n : ℕ) (l : Tree) → are_directives ds ≡ true → Spoken l → Spoken (with_directives ds (node shape.FunctionBody [] n (l ▸ none)))
-body_seen ds n l e s = ((λ style r d. directives_say style ds r e d), (listed_spoken (directives ds) (directives_spoken ds), (s, tt)))
+pub body_seen : (ds : List (List ℕ)) (n : ℕ) (l : Tree) → are_said_directives ds ≡ true → Spoken l → Spoken (with_directives ds (node shape.FunctionBody [] n (l ▸ none)))
+body_seen ds n l e s = ((λ style r d. directives_say style ds r e d), (listed_spoken (directives ds) (directives_spoken ds e), (s, tt)))
 
 pub other_directives : (ds : List (List ℕ)) (u : Tree) → is_body (shape_of u) ≡ false → Spoken u → Spoken (with_directives ds u)
 other_directives ds (node shape.FunctionBody xs n ts) p s = absurd (false≢true (sym p))
@@ -178,7 +218,7 @@ import_parts_spoken us t s q = (absent_spoken, behind_spoken us t s q)
 default_word : (inside : Bool) (n : ℕ) (ts us : Trees) (t : Tree) → accept.fill inside (these (one a_binding ∷ [])) ts ≡ true → is_bound_word (import_parts (node shape.ImportDefaultSpecifier [] n (all_shown ts) ▸ us) t) ≡ true
 default_word inside n none us t e = absurd (false≢true e)
 default_word inside n (b ▸ (c ▸ ts)) us t e = absurd (never (fits inside (one a_binding) b) e)
-default_word inside n (node shape.BindingIdentifier (x ∷ []) m bs ▸ none) us t e = name_is_word x.spelling (names_in a_binding shape.BindingIdentifier (x ∷ []) m bs (accept.fill inside (these []) bs) (and_l (fits inside (one a_binding) (node shape.BindingIdentifier (x ∷ []) m bs)) true e))
+default_word inside n (node shape.BindingIdentifier (x ∷ []) m bs ▸ none) us t e = name_is_spelled x.spelling (names_in a_binding shape.BindingIdentifier (x ∷ []) m bs (accept.fill inside (these []) bs) (and_l (fits inside (one a_binding) (node shape.BindingIdentifier (x ∷ []) m bs)) true e))
 default_word inside n (node shape.BindingIdentifier [] m bs ▸ none) us t e = absurd (false≢true e)
 default_word inside n (node shape.BindingIdentifier (x ∷ (y ∷ xs)) m bs ▸ none) us t e = absurd (false≢true e)
 default_word inside n (node h xs m bs ▸ none) us t e = absurd (never (is_whole a_binding h xs m bs) (and_l (is_whole a_binding h xs m bs && false) true e))
@@ -190,3 +230,15 @@ import_word inside (node shape.ImportDefaultSpecifier (x ∷ xs) n ts ▸ ss) t 
 import_word inside (node shape.ImportSpecifier xs n ts ▸ ss) t e = refl
 import_word inside (node shape.ImportNamespaceSpecifier xs n ts ▸ ss) t e = refl
 import_word inside (node h xs n ts ▸ ss) t e = absurd (never (is_whole an_import h xs n ts) (and_l (is_whole an_import h xs n ts && false) (accept.fill inside (each (one an_import)) ss) e))
+
+-- the text of the module is the last part
+fourth_behind : (us : Trees) (t b : Tree) → part_at 3 (b ▸ behind_default us t) ≡ t
+fourth_behind (node shape.ImportNamespaceSpecifier [] n (node shape.BindingIdentifier xs k vs ▸ none) ▸ none) t b = refl
+fourth_behind us t b = refl
+
+fourth_part : (us : Trees) (t : Tree) → part_at 3 (import_parts us t) ≡ t
+fourth_part (node shape.ImportDefaultSpecifier [] n (node shape.BindingIdentifier xs k vs ▸ none) ▸ us) t = fourth_behind us t (node shape.BindingIdentifier xs k vs)
+fourth_part us t = fourth_behind us t absent
+
+pub import_needs : (inside : Bool) (ss : Trees) (u : Tree) → accept.fill inside (each (one an_import)) ss ≡ true → fits inside (one a_string) u ≡ true → needs shape.ImportDeclaration (import_parts (all_shown ss) (shown u)) ≡ true
+import_needs inside ss u e f = both (is_bound_word (import_parts (all_shown ss) (shown u))) (has_pairs false (spelling_of (part_at 3 (import_parts (all_shown ss) (shown u))))) (import_word inside ss (shown u) e) (ap (λ t. has_pairs false (spelling_of t)) (fourth_part (all_shown ss) (shown u)) ∙ source_pairs inside u f)

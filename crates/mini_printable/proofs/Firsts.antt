@@ -12,9 +12,9 @@ use Rattle.mini_accept.specs.WellShaped as accept
 use Rattle.mini_accept.specs.WellShaped.{Class, Slot, Depth, nested, in_body, in_module, a_statement, a_loop_left, a_label, a_private_name, a_binding, a_key, a_private_or_key, an_inner_key, a_module_name, an_exported_name, an_import, a_string, one, one_or_absent, many, these, slots_of, filling_by, none_if, in_depth, or_else, module_slots, is_sloppy_function, is_same_spelling, is_name, fits, is_whole, has_names}
 use Rattle.mini_print.specs.Text.{is_word}
 use Rattle.mini_print.specs.Printed.{shown, all_shown, first_spelling, first_is_absent, is_repeated, is_reference, is_text, spelling_of, part_at}
-use Rattle.mini_printable.proofs.Clean.{and_l, and_r}
+use Rattle.mini_printable.proofs.Clean.{and_l, and_r, both}
 use Rattle.mini_printable.proofs.Rows.{never, second_of_two}
-use Rattle.mini_printable.proofs.Words.{name_is_word}
+use Rattle.mini_printable.proofs.Pairs.{has_pairs, is_spelling, name_is_spelled, paired_has_pairs}
 
 -- ---- the first slot
 
@@ -107,10 +107,10 @@ fields_of c h xs n ts b e = and_l (accept.has_plain_fields h) (accept.has_its_pa
 pub names_in : (c : Class) (h : Shape) (xs : List Name) (n : ℕ) (ts : Trees) (b : Bool) → (is_whole c h xs n ts && b) ≡ true → has_names h xs ≡ true
 names_in c h xs n ts b e = and_l (has_names h xs) (accept.has_its_number c h n && (accept.has_plain_fields h && accept.has_its_parts c h ts)) (and_l (is_whole c h xs n ts) b e)
 
-pub name_spelled : (inside : Bool) (s : Slot) (t : Tree) (us : Trees) → is_name_slot s ≡ true → fits inside s t ≡ true → is_word (first_spelling (shown t ▸ us)) ≡ true
-name_spelled inside (one a_label) (node (shape.IdentifierName s) xs n ts) us d e = name_is_word s (fields_of a_label (shape.IdentifierName s) xs n ts (accept.fill inside (these []) ts) e)
+pub name_spelled : (inside : Bool) (s : Slot) (t : Tree) (us : Trees) → is_name_slot s ≡ true → fits inside s t ≡ true → is_spelling (first_spelling (shown t ▸ us)) ≡ true
+name_spelled inside (one a_label) (node (shape.IdentifierName s) xs n ts) us d e = name_is_spelled s (fields_of a_label (shape.IdentifierName s) xs n ts (accept.fill inside (these []) ts) e)
 name_spelled inside (one a_label) (node h xs n ts) us d e = absurd (never (is_whole a_label h xs n ts) e)
-name_spelled inside (one a_private_name) (node (shape.PrivateIdentifier s) xs n ts) us d e = name_is_word s (fields_of a_private_name (shape.PrivateIdentifier s) xs n ts (accept.fill inside (these []) ts) e)
+name_spelled inside (one a_private_name) (node (shape.PrivateIdentifier s) xs n ts) us d e = name_is_spelled s (fields_of a_private_name (shape.PrivateIdentifier s) xs n ts (accept.fill inside (these []) ts) e)
 name_spelled inside (one a_private_name) (node h xs n ts) us d e = absurd (never (is_whole a_private_name h xs n ts) e)
 name_spelled inside s t us d e = absurd (false≢true d)
 
@@ -118,19 +118,19 @@ same_some : (a b : Option (List ℕ)) → is_same_spelling a b ≡ true → is_s
 same_some None b e = absurd (false≢true e)
 same_some (Some s) b e = refl
 
-key_word : (inside : Bool) (t : Tree) (us : Trees) → fits inside (one (a_key false)) t ≡ true → is_some (accept.spelling t) ≡ true → is_word (first_spelling (shown t ▸ us)) ≡ true
-key_word inside (node (shape.IdentifierName s) xs n ts) us e q = name_is_word s (fields_of (a_key false) (shape.IdentifierName s) xs n ts (accept.fill inside (these []) ts) e)
+key_word : (inside : Bool) (t : Tree) (us : Trees) → fits inside (one (a_key false)) t ≡ true → is_some (accept.spelling t) ≡ true → is_spelling (first_spelling (shown t ▸ us)) ≡ true
+key_word inside (node (shape.IdentifierName s) xs n ts) us e q = name_is_spelled s (fields_of (a_key false) (shape.IdentifierName s) xs n ts (accept.fill inside (these []) ts) e)
 key_word inside (node (shape.StringLiteral s) xs n ts) us e q = absurd (false≢true q)
 key_word inside (node (shape.NumericLiteral (pos m)) xs n ts) us e q = absurd (false≢true q)
 key_word inside (node h xs n ts) us e q = absurd (never (is_whole (a_key false) h xs n ts) e)
 
-inner_key_word : (inside : Bool) (t : Tree) (us : Trees) → fits inside (one (an_inner_key false)) t ≡ true → is_some (accept.spelling t) ≡ true → is_word (first_spelling (shown t ▸ us)) ≡ true
-inner_key_word inside (node (shape.IdentifierName s) xs n ts) us e q = name_is_word s (fields_of (an_inner_key false) (shape.IdentifierName s) xs n ts (accept.fill inside (these []) ts) e)
+inner_key_word : (inside : Bool) (t : Tree) (us : Trees) → fits inside (one (an_inner_key false)) t ≡ true → is_some (accept.spelling t) ≡ true → is_spelling (first_spelling (shown t ▸ us)) ≡ true
+inner_key_word inside (node (shape.IdentifierName s) xs n ts) us e q = name_is_spelled s (fields_of (an_inner_key false) (shape.IdentifierName s) xs n ts (accept.fill inside (these []) ts) e)
 inner_key_word inside (node (shape.StringLiteral s) xs n ts) us e q = absurd (false≢true q)
 inner_key_word inside (node (shape.NumericLiteral (pos m)) xs n ts) us e q = absurd (false≢true q)
 inner_key_word inside (node h xs n ts) us e q = absurd (never (is_whole (an_inner_key false) h xs n ts) e)
 
-pub key_spelled : (inside : Bool) (s : Slot) (t : Tree) (us vs : Trees) → is_key_slot s ≡ true → fits inside s t ≡ true → accept.repeats_key (t ▸ vs) ≡ true → is_word (first_spelling (shown t ▸ us)) ≡ true
+pub key_spelled : (inside : Bool) (s : Slot) (t : Tree) (us vs : Trees) → is_key_slot s ≡ true → fits inside s t ≡ true → accept.repeats_key (t ▸ vs) ≡ true → is_spelling (first_spelling (shown t ▸ us)) ≡ true
 key_spelled inside (one (a_key false)) t us vs d e q = key_word inside t us e (same_some (accept.spelling t) (accept.spelling (accept.without_default (child_or_absent (t ▸ vs) 1))) q)
 key_spelled inside (one (an_inner_key false)) t us vs d e q = inner_key_word inside t us e (same_some (accept.spelling t) (accept.spelling (accept.without_default (child_or_absent (t ▸ vs) 1))) q)
 key_spelled inside s t us vs d e q = absurd (false≢true d)
@@ -138,10 +138,10 @@ key_spelled inside s t us vs d e q = absurd (false≢true d)
 -- ---- names that are bound, or absent
 
 abbrev pub is_bound_word : Trees → Bool
-is_bound_word us = first_is_absent us || is_word (first_spelling us)
+is_bound_word us = first_is_absent us || is_spelling (first_spelling us)
 
 bound_word : (inside : Bool) (t : Tree) (us : Trees) → fits inside (one a_binding) t ≡ true → is_bound_word (shown t ▸ us) ≡ true
-bound_word inside (node shape.BindingIdentifier (x ∷ []) n ts) us e = name_is_word x.spelling (names_in a_binding shape.BindingIdentifier (x ∷ []) n ts (accept.fill inside (these []) ts) e)
+bound_word inside (node shape.BindingIdentifier (x ∷ []) n ts) us e = name_is_spelled x.spelling (names_in a_binding shape.BindingIdentifier (x ∷ []) n ts (accept.fill inside (these []) ts) e)
 bound_word inside (node shape.BindingIdentifier [] n ts) us e = absurd (false≢true e)
 bound_word inside (node shape.BindingIdentifier (x ∷ (y ∷ xs)) n ts) us e = absurd (false≢true e)
 bound_word inside (node h xs n ts) us e = absurd (never (is_whole a_binding h xs n ts) e)
@@ -161,19 +161,28 @@ bound_text : (inside : Bool) (t : Tree) → fits inside (one a_binding) t ≡ tr
 bound_text inside (node shape.BindingIdentifier xs n ts) e = refl
 bound_text inside (node h xs n ts) e = absurd (never (is_whole a_binding h xs n ts) e)
 
-pub import_item : (inside : Bool) (t u : Tree) → fits inside (one a_module_name) t ≡ true → fits inside (one a_binding) u ≡ true → (not (is_repeated (shown t ▸ (shown u ▸ none))) || is_word (first_spelling (shown t ▸ (shown u ▸ none)))) ≡ true
-import_item inside (node (shape.IdentifierName s) xs n ts) u e f = second_of_two (not (is_repeated (node (shape.IdentifierName s) xs n (all_shown ts) ▸ (shown u ▸ none)))) (is_word s) (name_is_word s (fields_of a_module_name (shape.IdentifierName s) xs n ts (accept.fill inside (these []) ts) e))
+pub import_item : (inside : Bool) (t u : Tree) → fits inside (one a_module_name) t ≡ true → fits inside (one a_binding) u ≡ true → (not (is_repeated (shown t ▸ (shown u ▸ none))) || is_spelling (first_spelling (shown t ▸ (shown u ▸ none)))) ≡ true
+import_item inside (node (shape.IdentifierName s) xs n ts) u e f = second_of_two (not (is_repeated (node (shape.IdentifierName s) xs n (all_shown ts) ▸ (shown u ▸ none)))) (is_spelling s) (name_is_spelled s (fields_of a_module_name (shape.IdentifierName s) xs n ts (accept.fill inside (these []) ts) e))
 import_item inside (node (shape.StringLiteral s) xs n ts) u e f = text_item s xs n (all_shown ts) (shown u) (bound_text inside u f)
   where
-    text_item : (s : List ℕ) (xs : List Name) (n : ℕ) (us : Trees) (v : Tree) → is_text v ≡ false → (not (is_repeated (node (shape.StringLiteral s) xs n us ▸ (v ▸ none))) || is_word []) ≡ true
+    text_item : (s : List ℕ) (xs : List Name) (n : ℕ) (us : Trees) (v : Tree) → is_text v ≡ false → (not (is_repeated (node (shape.StringLiteral s) xs n us ▸ (v ▸ none))) || is_spelling []) ≡ true
     text_item s xs n us (node (shape.StringLiteral r) ys m vs) e = absurd (false≢true (sym e))
     text_item s xs n us (node h ys m vs) e = refl
 import_item inside (node h xs n ts) u e f = absurd (never (is_whole a_module_name h xs n ts) e)
 
-pub export_item : (inside : Bool) (t : Tree) (us : Trees) → fits inside (one an_exported_name) t ≡ true → ((not (is_reference (part_at 0 (shown t ▸ us))) && is_text (part_at 0 (shown t ▸ us))) || is_word (spelling_of (part_at 0 (shown t ▸ us)))) ≡ true
-export_item inside (node (shape.IdentifierName s) xs n ts) us e = name_is_word s (fields_of an_exported_name (shape.IdentifierName s) xs n ts (accept.fill inside (these []) ts) e)
-export_item inside (node (shape.StringLiteral s) xs n ts) us e = refl
-export_item inside (node shape.Identifier (x ∷ []) n ts) us e = name_is_word x.spelling (names_in an_exported_name shape.Identifier (x ∷ []) n ts (accept.fill inside (these []) ts) e)
+pub export_item : (inside : Bool) (t : Tree) (us : Trees) → fits inside (one an_exported_name) t ≡ true → (((not (is_reference (part_at 0 (shown t ▸ us))) && is_text (part_at 0 (shown t ▸ us))) || is_spelling (spelling_of (part_at 0 (shown t ▸ us)))) && has_pairs false (spelling_of (part_at 0 (shown t ▸ us)))) ≡ true
+export_item inside (node (shape.IdentifierName s) xs n ts) us e =
+    let w = name_is_spelled s (fields_of an_exported_name (shape.IdentifierName s) xs n ts (accept.fill inside (these []) ts) e) in
+    both (is_spelling s) (has_pairs false s) w (and_r (is_word s) (has_pairs false s) w)
+export_item inside (node (shape.StringLiteral s) xs n ts) us e = paired_has_pairs s (fields_of an_exported_name (shape.StringLiteral s) xs n ts (accept.fill inside (these []) ts) e)
+export_item inside (node shape.Identifier (x ∷ []) n ts) us e =
+    let w = name_is_spelled x.spelling (names_in an_exported_name shape.Identifier (x ∷ []) n ts (accept.fill inside (these []) ts) e) in
+    both (is_spelling x.spelling) (has_pairs false x.spelling) w (and_r (is_word x.spelling) (has_pairs false x.spelling) w)
 export_item inside (node shape.Identifier [] n ts) us e = absurd (false≢true e)
 export_item inside (node shape.Identifier (x ∷ (y ∷ xs)) n ts) us e = absurd (false≢true e)
 export_item inside (node h xs n ts) us e = absurd (never (is_whole an_exported_name h xs n ts) e)
+
+-- the text of a module
+pub source_pairs : (inside : Bool) (t : Tree) → fits inside (one a_string) t ≡ true → has_pairs false (spelling_of (shown t)) ≡ true
+source_pairs inside (node (shape.StringLiteral s) xs n ts) e = paired_has_pairs s (fields_of a_string (shape.StringLiteral s) xs n ts (accept.fill inside (these []) ts) e)
+source_pairs inside (node h xs n ts) e = absurd (never (is_whole a_string h xs n ts) e)

@@ -1,5 +1,5 @@
 -- The tokens of each production's form, by the node that it is of.
-use Rattle.std.proofs.Common.{◌≡◌, ℕ, suc, ◌^◌, Bool, true, false, ◌&&◌, ◌||◌, not, List, [], ◌∷◌, refl, sym, ◌∙◌}
+use Rattle.std.proofs.Common.{ap, ◌≡◌, ℕ, suc, ◌^◌, Bool, true, false, ◌&&◌, ◌||◌, not, List, [], ◌∷◌, refl, sym, ◌∙◌}
 use Rattle.std.specs.Prelude.{Option, Some, None, nat_lt, pos, negsuc}
 use Rattle.std.proofs.lemmas.Bool.{false≢true}
 use Rattle.mini_model.specs.declared.name.Name.{Name}
@@ -22,15 +22,15 @@ use Rattle.mini_model.specs.declared.shape.Shape.{Shape}
 use Rattle.mini_model.specs.declared.shape.Shape.TheVariants as shape
 use Rattle.mini_model.specs.Tree.{Trees}
 use Rattle.mini_accept.specs.WellShaped.{has_names}
-use Rattle.mini_print.specs.Text.{is_word, is_quotable, is_pattern, are_letters, is_raw, escaped}
-use Rattle.mini_print.specs.Token.{binary_token, logical_token, unary_token, update_token}
+use Rattle.mini_print.specs.Text.{escaped}
+use Rattle.mini_print.specs.Token.{Pattern, Quoted, binary_token, logical_token, unary_token, update_token}
 use Rattle.mini_print.specs.Grammar.{Goal, Leading, Element, BlockOnly, KeyName, MethodValue, GeneratorValue, HeadDeclaration, BoundProperty, TagTemplate, FirstLink, Link, DefaultOf, ClassKey, TargetProperty, SourceText, ModuleName, Exportable, DefaultDeclared, Rule, Spread, Block, PropertyName, TextLiteral, FunctionExpression, GeneratorExpression, Variables, Rest, WholeTemplate, OptionalMember, Member, Defaulted, ValueRest, FunctionDeclaration, kind_token, form, first_shape}
 use Rattle.mini_print.specs.Printed.{turned, turned_of, rule_at, arrow_of, case_of, catch_of, for_of, for_in_of, for_of_of, method_of, computed_method_of, bound_of, template_of, class_of, class_method_of, class_computed_of, Taker, ABinding, APattern, element_of, rest_of, assignment_of, target_of, yield_of, import_of, import_item_of, export_item_of, export_of, default_of, declared_class_of, first_spelling, first_raw, first_is_absent, is_repeated, is_reference, is_text, part_at, spelling_of, is_one, has_body, declares_first, assigns_first, second_generates, has_default, taker, has_items, declares_default}
 use Rattle.mini_model.specs.Tree.{is_absent}
-use Rattle.mini_print.proofs.Escapes.{escaped_quotable}
+use Rattle.mini_printable.proofs.Clean.{and_l, and_r}
 use Rattle.mini_printable.proofs.Rows.{and_one}
-use Rattle.mini_printable.proofs.Words.{name_is_word}
-use Rattle.mini_printable.proofs.Tokens.{leads, is_lexical, form_says, rule_says, HeadSays}
+use Rattle.mini_printable.proofs.Pairs.{has_pairs, is_spelling, is_said_raw, name_is_spelled, text_is_said}
+use Rattle.mini_printable.proofs.Tokens.{leads, is_sayable, form_says, rule_says, HeadSays}
 
 -- ---- goals: a production that is another one elsewhere has its tokens
 
@@ -61,23 +61,23 @@ turned_rule g (Some k) z e = turned_form g k z ∙ e
 
 -- ---- operators and kinds
 
-kind_says : (k : VariableDeclarationKind) → is_lexical (kind_token k) ≡ true
+kind_says : (k : VariableDeclarationKind) → is_sayable (kind_token k) ≡ true
 kind_says Var = refl
 kind_says k = refl
 
-unary_says : (o : UnaryOperator) → is_lexical (unary_token o) ≡ true
+unary_says : (o : UnaryOperator) → is_sayable (unary_token o) ≡ true
 unary_says unary.Typeof = refl
 unary_says o = refl
 
-update_says : (o : UpdateOperator) → is_lexical (update_token o) ≡ true
+update_says : (o : UpdateOperator) → is_sayable (update_token o) ≡ true
 update_says update.Increment = refl
 update_says o = refl
 
-binary_says : (o : BinaryOperator) → is_lexical (binary_token o) ≡ true
+binary_says : (o : BinaryOperator) → is_sayable (binary_token o) ≡ true
 binary_says binary.In = refl
 binary_says o = refl
 
-logical_says : (o : LogicalOperator) → is_lexical (logical_token o) ≡ true
+logical_says : (o : LogicalOperator) → is_sayable (logical_token o) ≡ true
 logical_says logical.Or = refl
 logical_says o = refl
 
@@ -109,32 +109,32 @@ assignment_says : (o : AssignmentOperator) (k : Taker) → form_says (form (assi
 assignment_says Assign APattern = refl
 assignment_says o k = refl
 
-class_says : (a : Bool) (s : List ℕ) → (a || is_word s) ≡ true → form_says (form (class_of a s)) ≡ true
+class_says : (a : Bool) (s : List ℕ) → (a || is_spelling s) ≡ true → form_says (form (class_of a s)) ≡ true
 class_says true s e = refl
-class_says false s e = and_one (is_word s) e
+class_says false s e = and_one (is_spelling s) e
 
-declared_class_says : (a : Bool) (s : List ℕ) → (a || is_word s) ≡ true → form_says (form (declared_class_of a s)) ≡ true
+declared_class_says : (a : Bool) (s : List ℕ) → (a || is_spelling s) ≡ true → form_says (form (declared_class_of a s)) ≡ true
 declared_class_says true s e = refl
-declared_class_says false s e = and_one (is_word s) e
+declared_class_says false s e = and_one (is_spelling s) e
 
-import_says : (a n l : Bool) (s m : List ℕ) → (a || is_word s) ≡ true → form_says (form (import_of a n l s m)) ≡ true
-import_says true true true s m e = and_one (is_quotable (escaped m)) (escaped_quotable m)
-import_says true true false s m e = refl
-import_says true false l s m e = refl
-import_says false true true s m e = and_one (is_word s) e
-import_says false true false s m e = and_one (is_word s) e
-import_says false false l s m e = and_one (is_word s) e
+import_says : (a n l : Bool) (s m : List ℕ) → (a || is_spelling s) ≡ true → has_pairs false m ≡ true → form_says (form (import_of a n l s m)) ≡ true
+import_says true true true s m e f = and_one (is_sayable (Quoted (escaped m))) (text_is_said m f)
+import_says true true false s m e f = refl
+import_says true false l s m e f = refl
+import_says false true true s m e f = and_one (is_spelling s) e
+import_says false true false s m e f = and_one (is_spelling s) e
+import_says false false l s m e f = and_one (is_spelling s) e
 
-import_item_says : (b : Bool) (s : List ℕ) → (not b || is_word s) ≡ true → form_says (form (import_item_of b s)) ≡ true
-import_item_says true s e = and_one (is_word s) e
+import_item_says : (b : Bool) (s : List ℕ) → (not b || is_spelling s) ≡ true → form_says (form (import_item_of b s)) ≡ true
+import_item_says true s e = and_one (is_spelling s) e
 import_item_says false s e = refl
 
-export_item_says : (r b t : Bool) (s : List ℕ) → ((not r && t) || is_word s) ≡ true → form_says (form (export_item_of r b t s)) ≡ true
-export_item_says true true t s e = and_one (is_word s) e
-export_item_says true false t s e = and_one (is_word s) e
-export_item_says false true true s e = and_one (is_quotable (escaped s)) (escaped_quotable s)
-export_item_says false true false s e = and_one (is_word s) e
-export_item_says false false t s e = refl
+export_item_says : (r b t : Bool) (s : List ℕ) → ((not r && t) || is_spelling s) ≡ true → has_pairs false s ≡ true → form_says (form (export_item_of r b t s)) ≡ true
+export_item_says true true t s e f = and_one (is_spelling s) e
+export_item_says true false t s e f = and_one (is_spelling s) e
+export_item_says false true true s e f = and_one (is_sayable (Quoted (escaped s))) (text_is_said s f)
+export_item_says false true false s e f = and_one (is_spelling s) e
+export_item_says false false t s e f = refl
 
 export_says : (a b : Bool) → form_says (form (export_of a b)) ≡ true
 export_says true true = refl
@@ -144,23 +144,24 @@ export_says false b = refl
 -- ---- nodes: what their own texts and numbers have to be
 
 abbrev pub needs : Shape → Trees → Bool
-needs (shape.IdentifierName s) us = is_word s
-needs (shape.PrivateIdentifier s) us = is_word s
+needs (shape.IdentifierName s) us = is_spelling s
+needs (shape.PrivateIdentifier s) us = is_spelling s
 needs (shape.NumericLiteral (pos n)) us = nat_lt n (2 ^ 64)
 needs (shape.NumericLiteral (negsuc n)) us = nat_lt (suc n) (2 ^ 64)
 needs (shape.BigIntLiteral n) us = nat_lt n (2 ^ 128)
-needs (shape.RegExpLiteral p f) us = is_pattern p && are_letters f
-needs (shape.TemplateElement b s c) us = is_raw false s
-needs shape.TemplateLiteral us = is_raw false (first_raw us)
-needs shape.LabeledStatement us = is_word (first_spelling us)
-needs shape.PrivateInExpression us = is_word (first_spelling us)
-needs (shape.BindingProperty true false) us = is_word (first_spelling us)
-needs (shape.ObjectProperty kind.Init false true false) us = is_word (first_spelling us)
-needs shape.AssignmentTargetPropertyIdentifier us = is_word (first_spelling us)
-needs (shape.Class b) us = first_is_absent us || is_word (first_spelling us)
-needs shape.ImportDeclaration us = first_is_absent us || is_word (first_spelling us)
-needs shape.ImportSpecifier us = not (is_repeated us) || is_word (first_spelling us)
-needs shape.ExportSpecifier us = (not (is_reference (part_at 0 us)) && is_text (part_at 0 us)) || is_word (spelling_of (part_at 0 us))
+needs (shape.StringLiteral s) us = has_pairs false s
+needs (shape.RegExpLiteral p f) us = is_sayable (Pattern p f)
+needs (shape.TemplateElement b s c) us = is_said_raw s
+needs shape.TemplateLiteral us = is_said_raw (first_raw us)
+needs shape.LabeledStatement us = is_spelling (first_spelling us)
+needs shape.PrivateInExpression us = is_spelling (first_spelling us)
+needs (shape.BindingProperty true false) us = is_spelling (first_spelling us)
+needs (shape.ObjectProperty kind.Init false true false) us = is_spelling (first_spelling us)
+needs shape.AssignmentTargetPropertyIdentifier us = is_spelling (first_spelling us)
+needs (shape.Class b) us = first_is_absent us || is_spelling (first_spelling us)
+needs shape.ImportDeclaration us = (first_is_absent us || is_spelling (first_spelling us)) && has_pairs false (spelling_of (part_at 3 us))
+needs shape.ImportSpecifier us = not (is_repeated us) || is_spelling (first_spelling us)
+needs shape.ExportSpecifier us = ((not (is_reference (part_at 0 us)) && is_text (part_at 0 us)) || is_spelling (spelling_of (part_at 0 us))) && has_pairs false (spelling_of (part_at 0 us))
 needs _ us = true
 
 -- all but the body of a function
@@ -169,22 +170,22 @@ is_body shape.FunctionBody = true
 is_body _ = false
 
 plain_head : (h : Shape) (us : Trees) → needs h us ≡ true → is_body h ≡ false → rule_says (rule_at h [] us) ≡ true
-plain_head (shape.IdentifierName s) us e d = and_one (is_word s) e
-plain_head (shape.PrivateIdentifier s) us e d = and_one (is_word s) e
-plain_head (shape.NumericLiteral (pos n)) us e d = and_one (nat_lt n (2 ^ 64)) e
+plain_head (shape.IdentifierName s) us e d = and_one (is_spelling s) e
+plain_head (shape.PrivateIdentifier s) us e d = and_one (is_spelling s) e
+plain_head (shape.NumericLiteral (pos n)) us e d = ap (λ b. (b && true) && true) e
 plain_head (shape.NumericLiteral (negsuc n)) us e d = refl
-plain_head (shape.BigIntLiteral n) us e d = and_one (nat_lt n (2 ^ 128)) e
-plain_head (shape.StringLiteral s) us e d = and_one (is_quotable (escaped s)) (escaped_quotable s)
-plain_head (shape.RegExpLiteral p f) us e d = and_one (is_pattern p && are_letters f) e
+plain_head (shape.BigIntLiteral n) us e d = ap (λ b. (b && true) && true) e
+plain_head (shape.StringLiteral s) us e d = and_one (is_sayable (Quoted (escaped s))) (text_is_said s e)
+plain_head (shape.RegExpLiteral p f) us e d = and_one (is_sayable (Pattern p f)) e
 plain_head (shape.BooleanLiteral true) us e d = refl
-plain_head (shape.UpdateExpression o true) us e d = and_one (is_lexical (update_token o)) (update_says o)
-plain_head (shape.UpdateExpression o false) us e d = and_one (is_lexical (update_token o)) (update_says o)
-plain_head (shape.UnaryExpression o) us e d = and_one (is_lexical (unary_token o)) (unary_says o)
-plain_head (shape.BinaryExpression o) us e d = and_one (is_lexical (binary_token o)) (binary_says o)
-plain_head (shape.LogicalExpression o) us e d = and_one (is_lexical (logical_token o)) (logical_says o)
+plain_head (shape.UpdateExpression o true) us e d = and_one (is_sayable (update_token o)) (update_says o)
+plain_head (shape.UpdateExpression o false) us e d = and_one (is_sayable (update_token o)) (update_says o)
+plain_head (shape.UnaryExpression o) us e d = and_one (is_sayable (unary_token o)) (unary_says o)
+plain_head (shape.BinaryExpression o) us e d = and_one (is_sayable (binary_token o)) (binary_says o)
+plain_head (shape.LogicalExpression o) us e d = and_one (is_sayable (logical_token o)) (logical_says o)
 plain_head (shape.AssignmentExpression o) us e d = assignment_says o (taker (first_shape us))
 plain_head (shape.ArrowFunctionExpression []) us e d = by_bool (λ b. form_says (form (arrow_of b)) ≡ true) refl refl (has_body us)
-plain_head (shape.VariableDeclaration k) us e d = and_one (is_lexical (kind_token k)) (kind_says k)
+plain_head (shape.VariableDeclaration k) us e d = and_one (is_sayable (kind_token k)) (kind_says k)
 plain_head shape.ForStatement us e d = by_bool (λ b. form_says (form (for_of b)) ≡ true) refl refl (declares_first us)
 plain_head shape.ForInStatement us e d = for_in_says (declares_first us) (assigns_first us)
 plain_head shape.ForOfStatement us e d = for_of_says (declares_first us) (assigns_first us)
@@ -198,22 +199,22 @@ plain_head (shape.StaticMemberExpression false) us e d = refl
 plain_head (shape.ComputedMemberExpression false) us e d = refl
 plain_head (shape.PrivateFieldExpression false) us e d = refl
 plain_head (shape.CallExpression false) us e d = refl
-plain_head shape.LabeledStatement us e d = and_one (is_word (first_spelling us)) e
-plain_head shape.PrivateInExpression us e d = and_one (is_word (first_spelling us)) e
+plain_head shape.LabeledStatement us e d = and_one (is_spelling (first_spelling us)) e
+plain_head shape.PrivateInExpression us e d = and_one (is_spelling (first_spelling us)) e
 plain_head shape.SwitchCase us e d = by_bool (λ b. form_says (form (case_of b)) ≡ true) refl refl (first_is_absent us)
 plain_head shape.CatchClause us e d = by_bool (λ b. form_says (form (catch_of b)) ≡ true) refl refl (first_is_absent us)
 plain_head (shape.ObjectProperty kind.Init true false false) us e d = by_bool (λ b. form_says (form (method_of b)) ≡ true) refl refl (second_generates us)
 plain_head (shape.ObjectProperty kind.Init true false true) us e d = by_bool (λ b. form_says (form (computed_method_of b)) ≡ true) refl refl (second_generates us)
-plain_head (shape.ObjectProperty kind.Init false true false) us e d = and_one (is_word (first_spelling us)) e
+plain_head (shape.ObjectProperty kind.Init false true false) us e d = and_one (is_spelling (first_spelling us)) e
 plain_head (shape.ObjectProperty kind.Init false false false) us e d = refl
 plain_head (shape.ObjectProperty kind.Get false false false) us e d = refl
 plain_head (shape.ObjectProperty kind.Set false false false) us e d = refl
 plain_head shape.RestElement us e d = rest_says (taker (first_shape us))
-plain_head (shape.BindingProperty true false) us e d = by_bool (λ b. form_says (form (bound_of b (first_spelling us))) ≡ true) (and_one (is_word (first_spelling us)) e) (and_one (is_word (first_spelling us)) e) (has_default us)
+plain_head (shape.BindingProperty true false) us e d = by_bool (λ b. form_says (form (bound_of b (first_spelling us))) ≡ true) (and_one (is_spelling (first_spelling us)) e) (and_one (is_spelling (first_spelling us)) e) (has_default us)
 plain_head (shape.BindingProperty false false) us e d = refl
-plain_head shape.TemplateLiteral us e d = by_bool (λ b. form_says (form (template_of b (first_raw us))) ≡ true) (and_one (is_raw false (first_raw us)) e) (and_one (is_raw false (first_raw us)) e) (is_one us)
-plain_head (shape.TemplateElement true s c) us e d = and_one (is_raw false s) e
-plain_head (shape.TemplateElement false s c) us e d = and_one (is_raw false s) e
+plain_head shape.TemplateLiteral us e d = by_bool (λ b. form_says (form (template_of b (first_raw us))) ≡ true) (and_one (is_said_raw (first_raw us)) e) (and_one (is_said_raw (first_raw us)) e) (is_one us)
+plain_head (shape.TemplateElement true s c) us e d = and_one (is_said_raw s) e
+plain_head (shape.TemplateElement false s c) us e d = and_one (is_said_raw s) e
 plain_head (shape.Class false) us e d = class_says (first_is_absent us) (first_spelling us) e
 plain_head (shape.Class true) us e d = declared_class_says (first_is_absent us) (first_spelling us) e
 plain_head (shape.MethodDefinition k c true) us e d = refl
@@ -227,19 +228,19 @@ plain_head (shape.MethodDefinition method.Set false false) us e d = refl
 plain_head (shape.PropertyDefinition c true) us e d = refl
 plain_head (shape.PropertyDefinition true false) us e d = refl
 plain_head shape.AssignmentPattern us e d = element_says (taker (first_shape us))
-plain_head shape.AssignmentTargetPropertyIdentifier us e d = by_bool (λ b. form_says (form (target_of b (first_spelling us))) ≡ true) (and_one (is_word (first_spelling us)) e) (and_one (is_word (first_spelling us)) e) (has_default us)
+plain_head shape.AssignmentTargetPropertyIdentifier us e d = by_bool (λ b. form_says (form (target_of b (first_spelling us))) ≡ true) (and_one (is_spelling (first_spelling us)) e) (and_one (is_spelling (first_spelling us)) e) (has_default us)
 plain_head (shape.AssignmentTargetPropertyProperty false) us e d = refl
-plain_head shape.ImportDeclaration us e d = import_says (first_is_absent us) (is_absent (part_at 1 us)) (not (has_items (part_at 2 us))) (first_spelling us) (spelling_of (part_at 3 us)) e
+plain_head shape.ImportDeclaration us e d = import_says (first_is_absent us) (is_absent (part_at 1 us)) (not (has_items (part_at 2 us))) (first_spelling us) (spelling_of (part_at 3 us)) (and_l (first_is_absent us || is_spelling (first_spelling us)) (has_pairs false (spelling_of (part_at 3 us))) e) (and_r (first_is_absent us || is_spelling (first_spelling us)) (has_pairs false (spelling_of (part_at 3 us))) e)
 plain_head shape.ImportSpecifier us e d = import_item_says (is_repeated us) (first_spelling us) e
 plain_head shape.ExportNamedDeclaration us e d = export_says (first_is_absent us) (is_absent (part_at 2 us))
-plain_head shape.ExportSpecifier us e d = export_item_says (is_reference (part_at 0 us)) (is_repeated us) (is_text (part_at 0 us)) (spelling_of (part_at 0 us)) e
+plain_head shape.ExportSpecifier us e d = let w = (not (is_reference (part_at 0 us)) && is_text (part_at 0 us)) || is_spelling (spelling_of (part_at 0 us)) in export_item_says (is_reference (part_at 0 us)) (is_repeated us) (is_text (part_at 0 us)) (spelling_of (part_at 0 us)) (and_l w (has_pairs false (spelling_of (part_at 0 us))) e) (and_r w (has_pairs false (spelling_of (part_at 0 us))) e)
 plain_head shape.ExportDefaultDeclaration us e d = by_bool (λ b. form_says (form (default_of b)) ≡ true) refl refl (declares_default (first_shape us))
 plain_head shape.FunctionBody us e d = absurd (false≢true (sym d))
 plain_head h us e d = refl
 
 named_head : (h : Shape) (x : Name) (xs : List Name) (us : Trees) → has_names h (x ∷ xs) ≡ true → rule_says (rule_at h (x ∷ xs) us) ≡ true
-named_head shape.Identifier x [] us e = and_one (is_word x.spelling) (name_is_word x.spelling e)
-named_head shape.BindingIdentifier x [] us e = and_one (is_word x.spelling) (name_is_word x.spelling e)
+named_head shape.Identifier x [] us e = and_one (is_spelling x.spelling) (name_is_spelled x.spelling e)
+named_head shape.BindingIdentifier x [] us e = and_one (is_spelling x.spelling) (name_is_spelled x.spelling e)
 named_head shape.VariableDeclarator x xs us e = refl
 named_head h x xs us e = absurd (false≢true e)
 

@@ -18,3 +18,4 @@ pub mod Slots
 pub mod Firsts
 pub mod Arranged
 pub mod Voiced
+pub mod Pairs

@@ -13,6 +13,7 @@ use Rattle.mini_print.specs.Grammar.{Goal, Leading, Anything, Statement, Place, 
 use Rattle.mini_print.specs.Groups.{goal_of, list_goal_of, has_gaps}
 use Rattle.mini_print.specs.Printed.{Style, Full, Short, Printer, plain, core, seat, value_seat, seated, has_core, takes_values, enclosed, undirected, terminated, lay, lay_block, lay_items, is_fit, parenthesized, third_is_absent, braced, by_production, number_printer, parts_of, printer, printers, rule_in, turned, styled, styled_of, only_name, arrow_over, arrow_block_over, has_no_items, new_over}
 use Rattle.mini_printable.proofs.Clean.{and_l, and_r, both}
+use Rattle.mini_printable.proofs.Pairs.{has_whole_text, have_whole_texts, is_spelling}
 
 -- ---- tests
 
@@ -29,9 +30,13 @@ is_lexical (TemplateHead s) = is_raw false s
 is_lexical (TemplateMiddle s) = is_raw false s
 is_lexical (TemplateTail s) = is_raw false s
 
-abbrev pub are_lexical : List Token → Bool
-are_lexical [] = true
-are_lexical (x ∷ ts) = is_lexical x && are_lexical ts
+-- and has each half of a surrogate pair with the other
+abbrev pub is_sayable : Token → Bool
+is_sayable x = is_lexical x && has_whole_text x
+
+abbrev pub are_sayable : List Token → Bool
+are_sayable [] = true
+are_sayable (x ∷ ts) = is_sayable x && are_sayable ts
 
 token_lexical : (x : Token) → is_lexical x ≡ true → IsLexical x
 token_lexical (Word s) e = e
@@ -46,9 +51,13 @@ token_lexical (TemplateHead s) e = e
 token_lexical (TemplateMiddle s) e = e
 token_lexical (TemplateTail s) e = e
 
-pub each_lexical : (ts : List Token) → are_lexical ts ≡ true → EachLexical ts
+pub each_lexical : (ts : List Token) → are_sayable ts ≡ true → EachLexical ts
 each_lexical [] e = tt
-each_lexical (x ∷ ts) e = (token_lexical x (and_l (is_lexical x) (are_lexical ts) e), each_lexical ts (and_r (is_lexical x) (are_lexical ts) e))
+each_lexical (x ∷ ts) e = (token_lexical x (and_l (is_lexical x) (has_whole_text x) (and_l (is_sayable x) (are_sayable ts) e)), each_lexical ts (and_r (is_sayable x) (are_sayable ts) e))
+
+pub each_whole : (ts : List Token) → are_sayable ts ≡ true → have_whole_texts ts ≡ true
+each_whole [] e = refl
+each_whole (x ∷ ts) e = both (has_whole_text x) (have_whole_texts ts) (and_r (is_lexical x) (has_whole_text x) (and_l (is_sayable x) (are_sayable ts) e)) (each_whole ts (and_r (is_sayable x) (are_sayable ts) e))
 
 -- ---- goals: all but that of directives, whose texts stand as they are
 
@@ -99,9 +108,9 @@ list_leads g (Some i) e f = not_leads i f
 -- ---- printers
 
 pub record Says (k : Printer) : Type 0 where
-  pub one : (p : Place) → leads p.goal ≡ false → (r : List Token) → are_lexical r ≡ true → are_lexical (k.one p r) ≡ true
-  pub items : (g : Goal) (b : Bool) → leads g ≡ false → (r : List Token) → are_lexical r ≡ true → are_lexical (k.items g b r) ≡ true
-  pub block : (g : Goal) → leads g ≡ false → (r : List Token) → are_lexical r ≡ true → are_lexical (k.block g r) ≡ true
+  pub one : (p : Place) → leads p.goal ≡ false → (r : List Token) → are_sayable r ≡ true → are_sayable (k.one p r) ≡ true
+  pub items : (g : Goal) (b : Bool) → leads g ≡ false → (r : List Token) → are_sayable r ≡ true → are_sayable (k.items g b r) ≡ true
+  pub block : (g : Goal) → leads g ≡ false → (r : List Token) → are_sayable r ≡ true → are_sayable (k.block g r) ≡ true
 
 abbrev pub AllSay : List Printer → Type 0
 AllSay [] = Unit {0}
@@ -109,7 +118,7 @@ AllSay (k ∷ ks) = Says k × AllSay ks
 
 -- a production's own tokens, and the goals of its parts
 abbrev pub part_says : Part → Bool
-part_says (token x) = is_lexical x
+part_says (token x) = is_sayable x
 part_says (left w n b) = true
 part_says (part o n b) = or_heir o
 part_says (commas o l) = or_heir o
@@ -128,28 +137,28 @@ rule_says (Some h) = form_says (form h)
 
 -- ---- what is laid
 
-enclosed_says : (b : Bool) (k : Printer) (p : Place) (r : List Token) → Says k → leads p.goal ≡ false → are_lexical r ≡ true → are_lexical (enclosed b k p r) ≡ true
+enclosed_says : (b : Bool) (k : Printer) (p : Place) (r : List Token) → Says k → leads p.goal ≡ false → are_sayable r ≡ true → are_sayable (enclosed b k p r) ≡ true
 enclosed_says false k p r s e d = s.one p e r d
 enclosed_says true k p r s e d = s.one (place Anything 0) refl (Punct RightParen ∷ r) d
 
-pub undirected_says : (ts : List Token) → are_lexical ts ≡ true → are_lexical (undirected ts) ≡ true
+pub undirected_says : (ts : List Token) → are_sayable ts ≡ true → are_sayable (undirected ts) ≡ true
 undirected_says [] d = refl
 undirected_says (Quoted s ∷ ts) d = by (ends_statement ts)
   where
-    by : (b : Bool) → are_lexical (if b then Punct LeftParen ∷ Quoted s ∷ Punct RightParen ∷ ts else Quoted s ∷ ts) ≡ true
+    by : (b : Bool) → are_sayable (if b then Punct LeftParen ∷ Quoted s ∷ Punct RightParen ∷ ts else Quoted s ∷ ts) ≡ true
     by true = d
     by false = d
 undirected_says (x ∷ ts) d = d
 
-pub terminated_says : (style : Style) (r : List Token) → are_lexical r ≡ true → are_lexical (terminated style r) ≡ true
+pub terminated_says : (style : Style) (r : List Token) → are_sayable r ≡ true → are_sayable (terminated style r) ≡ true
 terminated_says Full r d = d
 terminated_says Short r d = by (inserts r)
   where
-    by : (b : Bool) → are_lexical (if b then r else Punct Semicolon ∷ r) ≡ true
+    by : (b : Bool) → are_sayable (if b then r else Punct Semicolon ∷ r) ≡ true
     by true = d
     by false = d
 
-opener_says : (w : Opener) → is_lexical (opener w) ≡ true
+opener_says : (w : Opener) → is_sayable (opener w) ≡ true
 opener_says Equals = refl
 opener_says Else = refl
 opener_says Catch = refl
@@ -158,13 +167,13 @@ opener_says Extends = refl
 opener_says As = refl
 
 -- what stands there, or nothing
-where_present : (b : Bool) (xs ts : List Token) → are_lexical ts ≡ true → are_lexical xs ≡ true → are_lexical (if b then ts else xs) ≡ true
+where_present : (b : Bool) (xs ts : List Token) → are_sayable ts ≡ true → are_sayable xs ≡ true → are_sayable (if b then ts else xs) ≡ true
 where_present true xs ts d e = d
 where_present false xs ts d e = e
 
-pub lay_says : (style : Style) (g : Goal) (ps : List Part) (ks : List Printer) (r : List Token) → leads g ≡ false → form_says ps ≡ true → AllSay ks → are_lexical r ≡ true → are_lexical (lay style g ps ks r) ≡ true
+pub lay_says : (style : Style) (g : Goal) (ps : List Part) (ks : List Printer) (r : List Token) → leads g ≡ false → form_says ps ≡ true → AllSay ks → are_sayable r ≡ true → are_sayable (lay style g ps ks r) ≡ true
 lay_says style g [] ks r z f s d = d
-lay_says style g (token x ∷ ps) ks r z f s d = both (is_lexical x) (are_lexical (lay style g ps ks r)) (and_l (is_lexical x) (form_says ps) f) (lay_says style g ps ks r z (and_r (is_lexical x) (form_says ps) f) s d)
+lay_says style g (token x ∷ ps) ks r z f s d = both (is_sayable x) (are_sayable (lay style g ps ks r)) (and_l (is_sayable x) (form_says ps) f) (lay_says style g ps ks r z (and_r (is_sayable x) (form_says ps) f) s d)
 lay_says style g (lookahead c ∷ part o n b ∷ ps) (k ∷ ks) r z f s d =
     let p : Place = record { goal = goal_of g o; level = n; around = b } in
     let rest = lay_says style g ps ks r z (and_r (or_heir o) (form_says ps) f) s.1 d in
@@ -179,33 +188,33 @@ lay_says style g (perhaps i ∷ ps) (k ∷ ks) r z f s d =
     where_present k.absent (k.one (place i 0) (lay style g ps ks r)) (lay style g ps ks r) rest (s.0.one (place i 0) (not_leads i (and_l (not (leads i)) (form_says ps) f)) (lay style g ps ks r) rest)
 lay_says style g (option w o n ∷ ps) (k ∷ ks) r z f s d =
     let rest = lay_says style g ps ks r z (and_r (or_heir o) (form_says ps) f) s.1 d in
-    where_present k.absent (opener w ∷ k.one (place (goal_of g o) n) (lay style g ps ks r)) (lay style g ps ks r) rest (both (is_lexical (opener w)) (are_lexical (k.one (place (goal_of g o) n) (lay style g ps ks r))) (opener_says w) (s.0.one (place (goal_of g o) n) (goal_leads g o z (and_l (or_heir o) (form_says ps) f)) (lay style g ps ks r) rest))
+    where_present k.absent (opener w ∷ k.one (place (goal_of g o) n) (lay style g ps ks r)) (lay style g ps ks r) rest (both (is_sayable (opener w)) (are_sayable (k.one (place (goal_of g o) n) (lay style g ps ks r))) (opener_says w) (s.0.one (place (goal_of g o) n) (goal_leads g o z (and_l (or_heir o) (form_says ps) f)) (lay style g ps ks r) rest))
 lay_says style g (statements i ∷ ps) (k ∷ ks) r z f s d = s.0.block i (not_leads i (and_l (not (leads i)) (form_says ps) f)) (lay style g ps ks r) (lay_says style g ps ks r z (and_r (not (leads i)) (form_says ps) f) s.1 d)
 lay_says style g (unwritten v ∷ ps) (k ∷ ks) r z f s d = lay_says style g ps ks r z f s.1 d
 lay_says style g (fork ∷ ps) ks r z f s d = lay_says style g ps ks r z f s d
 lay_says style g (semicolon ∷ ps) ks r z f s d = terminated_says style (lay style g ps ks r) (lay_says style g ps ks r z f s d)
 lay_says style g (p ∷ ps) ks r z f s d = d
 
-pub block_says : (i : Goal) (ks : List Printer) (r : List Token) → leads i ≡ false → AllSay ks → are_lexical r ≡ true → are_lexical (lay_block i ks r) ≡ true
+pub block_says : (i : Goal) (ks : List Printer) (r : List Token) → leads i ≡ false → AllSay ks → are_sayable r ≡ true → are_sayable (lay_block i ks r) ≡ true
 block_says i [] r z s d = d
 block_says i (k ∷ ks) r z s d = s.0.one (place i 0) z (lay_block i ks r) (block_says i ks r z s.1 d)
 
-items_says : (g : Goal) (b : Bool) (ks : List Printer) (r : List Token) → leads g ≡ false → AllSay ks → are_lexical r ≡ true → are_lexical (lay_items g b ks r) ≡ true
+items_says : (g : Goal) (b : Bool) (ks : List Printer) (r : List Token) → leads g ≡ false → AllSay ks → are_sayable r ≡ true → are_sayable (lay_items g b ks r) ≡ true
 items_says g b [] r z s d = d
 items_says g b (k ∷ []) r z s d = where_present (b && k.absent) (k.one (place g assignment_level) r) (Punct Comma ∷ r) d (s.0.one (place g assignment_level) z r d)
 items_says g b (k ∷ l ∷ ks) r z s d =
     let rest = items_says g b (l ∷ ks) r z s.1 d in
     where_present (b && k.absent) (k.one (place g assignment_level) (Punct Comma ∷ lay_items g b (l ∷ ks) r)) (Punct Comma ∷ lay_items g b (l ∷ ks) r) rest (s.0.one (place g assignment_level) z (Punct Comma ∷ lay_items g b (l ∷ ks) r) rest)
 
-parenthesized_says : (b : Bool) (g : Goal) (body : Goal → List Token → List Token) (r : List Token) → leads g ≡ false → ((i : Goal) (m : List Token) → leads i ≡ false → are_lexical m ≡ true → are_lexical (body i m) ≡ true) → are_lexical r ≡ true → are_lexical (parenthesized b g body r) ≡ true
+parenthesized_says : (b : Bool) (g : Goal) (body : Goal → List Token → List Token) (r : List Token) → leads g ≡ false → ((i : Goal) (m : List Token) → leads i ≡ false → are_sayable m ≡ true → are_sayable (body i m) ≡ true) → are_sayable r ≡ true → are_sayable (parenthesized b g body r) ≡ true
 parenthesized_says true g body r z f d = f g r z d
 parenthesized_says false g body r z f d = f Anything (Punct RightParen ∷ r) refl d
 
-braced_says : (style : Style) (b : Bool) (ks : List Printer) (r : List Token) → AllSay ks → are_lexical r ≡ true → are_lexical (braced style b ks r) ≡ true
+braced_says : (style : Style) (b : Bool) (ks : List Printer) (r : List Token) → AllSay ks → are_sayable r ≡ true → are_sayable (braced style b ks r) ≡ true
 braced_says style true ks r s d = lay_says style Statement (form If) ks (Punct RightBrace ∷ r) refl refl s d
 braced_says style false ks r s d = lay_says style Statement (form If) ks r refl refl s d
 
-pub production_says : (style : Style) (o : Option Rule) (ks : List Printer) (p : Place) (r : List Token) → leads p.goal ≡ false → rule_says o ≡ true → AllSay ks → are_lexical r ≡ true → are_lexical (by_production style o ks p r) ≡ true
+pub production_says : (style : Style) (o : Option Rule) (ks : List Printer) (p : Place) (r : List Token) → leads p.goal ≡ false → rule_says o ≡ true → AllSay ks → are_sayable r ≡ true → are_sayable (by_production style o ks p r) ≡ true
 production_says style None ks p r z f s d = d
 production_says style (Some If) ks p r z f s d = braced_says style (third_is_absent ks && opens Else r) ks r s d
 production_says style (Some YieldBare) ks p r z f s d = parenthesized_says (is_fit p YieldBare && ends_yield r) p.goal (λ g m. Word (codes "yield") ∷ m) r z (λ i m y e. e) d
@@ -215,7 +224,7 @@ production_says style (Some h) ks p r z f s d = parenthesized_says (not (is_of V
 number_says : (style : Style) (n : ℕ) → nat_lt n (2 ^ 64) ≡ true → Says (number_printer style n)
 number_says style n e =
     record {
-      one = λ p z r d. production_says style (Some (NumberLiteral n)) [] p r z (ap (λ b. b && true) e) tt d;
+      one = λ p z r d. production_says style (Some (NumberLiteral n)) [] p r z (ap (λ b. (b && true) && true) e) tt d;
       items = λ g b z r d. d;
       block = λ g z r d. d;
     }
@@ -226,7 +235,7 @@ number_says style n e =
 -- directives first
 abbrev pub LeadsSay : Trees → Type 0
 LeadsSay none = Unit {0}
-LeadsSay (node h xs n ds ▸ us) = (style : Style) (r : List Token) → are_lexical r ≡ true → are_lexical (lay_block Leading (printers style ds) r) ≡ true
+LeadsSay (node h xs n ds ▸ us) = (style : Style) (r : List Token) → are_sayable r ≡ true → are_sayable (lay_block Leading (printers style ds) r) ≡ true
 
 abbrev pub HeadSays : Shape → List Name → Trees → Type 0
 HeadSays shape.FunctionBody xs us = LeadsSay us
@@ -244,19 +253,19 @@ abbrev mutual
 -- a production in a style: the one name of an arrow function is a word
 abbrev or_word : Option (List ℕ) → Bool
 or_word None = true
-or_word (Some s) = is_word s
+or_word (Some s) = is_spelling s
 
 only_word : (t : Tree) → Spoken t → or_word (only_name t) ≡ true
-only_word (node shape.Listed [] n (node shape.BindingIdentifier (x ∷ []) m none ▸ none)) s = and_l (is_word x.spelling) true (s.1.0.0 Anything refl)
+only_word (node shape.Listed [] n (node shape.BindingIdentifier (x ∷ []) m none ▸ none)) s = and_l (is_spelling x.spelling) true (s.1.0.0 Anything refl)
 only_word t s = refl
 
 arrow_says : (o : Option (List ℕ)) → or_word o ≡ true → form_says (form (arrow_over o)) ≡ true
 arrow_says None e = refl
-arrow_says (Some s) e = both (is_word s) true e refl
+arrow_says (Some s) e = both (is_spelling s) true e refl
 
 arrow_block_says : (o : Option (List ℕ)) → or_word o ≡ true → form_says (form (arrow_block_over o)) ≡ true
 arrow_block_says None e = refl
-arrow_block_says (Some s) e = both (is_word s) true e refl
+arrow_block_says (Some s) e = both (is_spelling s) true e refl
 
 new_says : (b : Bool) → form_says (form (new_over b)) ≡ true
 new_says true = refl
@@ -285,7 +294,7 @@ body_rule : (g : Goal) → turned g FunctionBody ≡ FunctionBody
 body_rule Element = refl
 body_rule g = refl
 
-body_laid : (style : Style) (g : Goal) (us : Trees) (r : List Token) → LeadsSay us → AllSay (printers style us) → are_lexical r ≡ true → are_lexical (lay style g (form FunctionBody) (printers style us) r) ≡ true
+body_laid : (style : Style) (g : Goal) (us : Trees) (r : List Token) → LeadsSay us → AllSay (printers style us) → are_sayable r ≡ true → are_sayable (lay style g (form FunctionBody) (printers style us) r) ≡ true
 body_laid style g none r f s d = d
 body_laid style g (node h xs n ds ▸ none) r f s d = f style r d
 body_laid style g (node h xs n ds ▸ (u ▸ us)) r f s d = f style (undirected ((printer style u).block Statement (Punct RightBrace ∷ r))) (undirected_says ((printer style u).block Statement (Punct RightBrace ∷ r)) (s.1.0.block Statement refl (Punct RightBrace ∷ r) d))
@@ -293,7 +302,7 @@ body_laid style g (node h xs n ds ▸ (u ▸ us)) r f s d = f style (undirected 
 body_says : (style : Style) (xs : List Name) (n : ℕ) (us : Trees) → LeadsSay us → AllSay (printers style us) → Says (printer style (node shape.FunctionBody xs n us))
 body_says style [] n us f s =
     record {
-      one = λ p z r d. subst (λ h. are_lexical (by_production style (Some (styled h style us)) (printers style us) (seated (Some h) p) r) ≡ true) (sym (body_rule (plain p.goal))) (body_laid style (seated (Some FunctionBody) p).goal us r f s d);
+      one = λ p z r d. subst (λ h. are_sayable (by_production style (Some (styled h style us)) (printers style us) (seated (Some h) p) r) ≡ true) (sym (body_rule (plain p.goal))) (body_laid style (seated (Some FunctionBody) p).goal us r f s d);
       items = λ g b z r d. items_says g b (printers style us) r z s d;
       block = λ g z r d. block_says g (printers style us) r z s d;
     }

@@ -2,6 +2,7 @@
 use Rattle.std.proofs.Common.{◌≡◌, ℕ, suc, ◌^◌, ◌≤◌, Bool, true, false, ◌&&◌, ◌||◌, List, [], ◌∷◌, refl, sym, arith}
 use Rattle.std.specs.Prelude.{Option, Some, None, nat_lt, nat_le, pos, negsuc, if◌then◌else◌}
 use Rattle.std.proofs.lemmas.Bool.{false≢true, leb-true, le-leb}
+use Rattle.std.specs.Char.Utf16.{has_unpaired_surrogate}
 use Rattle.mini_model.specs.declared.name.Name.{Name}
 use Rattle.mini_model.specs.declared.kind.PropertyKind.TheVariants as kind
 use Rattle.mini_model.specs.declared.shape.Shape.{Shape}
@@ -11,21 +12,22 @@ use Rattle.mini_model.specs.Paths.{standing, Node}
 use Rattle.mini_model.specs.Tree.{Tree, Trees, node, none, ◌▸◌, shape_of}
 use Rattle.mini_accept.specs.WellShaped as accept
 use Rattle.mini_accept.specs.WellShaped.{Class, Slot, in_body, in_module, a_program, a_statement, a_method, a_function_body, an_arrow_body, an_expression, a_module_name, an_exported_name, an_import, a_string, a_binding, a_parameter, a_pattern_rest, one, one_or_absent, many, many_or_holes, many_and_rest, many_or_holes_and_rest, quasis, these, each, each_or_last, pieces as pieces', slots_of, filling_by, max_big_int, fits, is_whole, has_names}
-use Rattle.mini_print.specs.Text.{EachLexical}
+use Rattle.mini_print.specs.Text.{EachLexical, is_pattern, are_letters, text_of}
+use Rattle.mini_print.specs.Compact.{compact_text_of}
 use Rattle.mini_print.specs.Grammar.{Leading}
 use Rattle.mini_print.specs.Groups.{items_goal}
-use Rattle.mini_print.specs.Unprintable.{first_fault, has_text, has_label, are_raw, are_directives}
+use Rattle.mini_print.specs.Unprintable.{first_fault, has_text, has_label, are_raw}
 use Rattle.mini_print.specs.Printed.{Style, printers, lay_block, undirected, pieces, import_parts, printed_items, styled_program, with_directives, directives, seen, shown, all_shown}
-use Rattle.mini_printable.proofs.Clean.{and_l, and_r, is_clean, are_clean, clean_node, program_clean}
+use Rattle.mini_printable.proofs.Clean.{both, and_l, and_r, is_clean, are_clean, clean_node, program_clean}
 use Rattle.mini_printable.proofs.Rows.{never, either, present, many_case, holes_case, rest_case, holes_rest_case}
 use Rattle.mini_printable.proofs.Seats.{by_either}
 use Rattle.mini_printable.proofs.Templates.{all_quasis}
-use Rattle.mini_printable.proofs.Words.{name_is_word}
-use Rattle.mini_printable.proofs.Tokens.{are_lexical, each_lexical, leads, Spoken, AllSpoken, trees_say, block_says, undirected_says}
+use Rattle.mini_printable.proofs.Pairs.{text_whole, compact_whole, has_pairs, name_is_spelled, paired_has_pairs}
+use Rattle.mini_printable.proofs.Tokens.{each_whole, are_sayable, each_lexical, leads, Spoken, AllSpoken, trees_say, block_says, undirected_says}
 use Rattle.mini_printable.proofs.Forms.{needs, is_body, head_says}
 use Rattle.mini_printable.proofs.Slots.{is_fair, holds, is_fair_slot, all_fair, are_fair, fair_holds, is_apart, slots_fair, fair_is_no_body, no_piece, no_absent, chain_slots, is_template_slots, template_slots, is_function_slots, function_slots_of, is_arrow_slots, arrow_slots, is_import_slots, import_slots, is_export_slots, export_slots, is_specifier_slots, specifier_slots, two_parts, three_parts}
 use Rattle.mini_printable.proofs.Firsts.{at_first, is_name_slot, is_key_slot, is_binding_slot, label_first, private_first, target_first, bound_first, property_first, class_first, fields_of, names_in, name_spelled, key_spelled, binding_spelled, import_item, export_item}
-use Rattle.mini_printable.proofs.Arranged.{gap_spoken, inner_seen, method_seen, field_seen, chain_seen, pieces_spoken, directives_say, body_seen, other_directives, import_parts_spoken, import_word}
+use Rattle.mini_printable.proofs.Arranged.{gap_spoken, inner_seen, method_seen, field_seen, chain_seen, pieces_spoken, directives_say, body_seen, other_directives, import_parts_spoken, import_needs, are_said_directives, said_directives}
 
 -- ---- what a node's own texts, numbers and first part have to be
 
@@ -62,12 +64,13 @@ bound_repeats a_method ts v = v
 bound_repeats c ts v = v
 
 needed : (strict inside : Bool) (c : Class) (h : Shape) (ts : Trees) → accept.has_plain_fields h ≡ true → has_text h ts ≡ true → accept.has_its_parts c h ts ≡ true → is_moved h ≡ false → accept.fill inside (filling_by (slots_of strict c h)) ts ≡ true → needs h (all_shown ts) ≡ true
-needed strict inside c (shape.IdentifierName s) ts f w v m e = name_is_word s f
-needed strict inside c (shape.PrivateIdentifier s) ts f w v m e = name_is_word s f
+needed strict inside c (shape.IdentifierName s) ts f w v m e = name_is_spelled s f
+needed strict inside c (shape.PrivateIdentifier s) ts f w v m e = name_is_spelled s f
 needed strict inside c (shape.NumericLiteral (pos n)) ts f w v m e = safe_number n f
 needed strict inside c (shape.NumericLiteral (negsuc n)) ts f w v m e = safe_number (suc n) f
 needed strict inside c (shape.BigIntLiteral n) ts f w v m e = big_number n f
-needed strict inside c (shape.RegExpLiteral p g) ts f w v m e = w
+needed strict inside c (shape.StringLiteral s) ts f w v m e = paired_has_pairs s f
+needed strict inside c (shape.RegExpLiteral p g) ts f w v m e = both (is_pattern p && are_letters g) (are_letters g && has_pairs false p) w (both (are_letters g) (has_pairs false p) (and_r (is_pattern p) (are_letters g) w) (paired_has_pairs p (and_l (accept.is_paired p) (accept.is_paired g) f)))
 needed strict inside c (shape.TemplateElement b s k) ts f w v m e = absurd (no_piece strict inside c b s k ts e)
 needed strict inside c shape.TemplateLiteral ts f w v m e = absurd (false≢true (sym m))
 needed strict inside c shape.ImportDeclaration ts f w v m e = absurd (false≢true (sym m))
@@ -91,7 +94,7 @@ is_body_class _ = false
 record Voiced (t : Tree) : Type 0 where
   pub plain : (strict l : Bool) (s : Slot) → is_fair_slot s ≡ true → fits strict s t ≡ true → is_clean l t ≡ true → Spoken (shown t)
   -- the body of a function, with the function's directives
-  pub body : (strict : Bool) (c : Class) (ds : List (List ℕ)) → are_directives ds ≡ true → is_body_class c ≡ true → fits strict (one c) t ≡ true → is_clean false t ≡ true → Spoken (with_directives ds (shown t))
+  pub body : (strict : Bool) (c : Class) (ds : List (List ℕ)) → are_said_directives ds ≡ true → is_body_class c ≡ true → fits strict (one c) t ≡ true → is_clean false t ≡ true → Spoken (with_directives ds (shown t))
 
 abbrev AllVoiced : Trees → Type 0
 AllVoiced none = Unit {0}
@@ -175,7 +178,7 @@ same_arrow_names : (ds : List (List ℕ)) (xs : List Name) → has_names (shape.
 same_arrow_names ds [] e = refl
 same_arrow_names ds (x ∷ xs) e = absurd (false≢true e)
 
-function_over : (inside : Bool) (d g : Bool) (ds : List (List ℕ)) (xs : List Name) (n : ℕ) (o : Option (List Slot)) (ts : Trees) → AllVoiced ts → is_function_slots o ≡ true → accept.fill inside (filling_by o) ts ≡ true → has_names (shape.Function d g ds) xs ≡ true → are_directives ds ≡ true → are_clean false ts ≡ true → Spoken (seen (shape.Function d g ds) xs n (all_shown ts))
+function_over : (inside : Bool) (d g : Bool) (ds : List (List ℕ)) (xs : List Name) (n : ℕ) (o : Option (List Slot)) (ts : Trees) → AllVoiced ts → is_function_slots o ≡ true → accept.fill inside (filling_by o) ts ≡ true → has_names (shape.Function d g ds) xs ≡ true → are_said_directives ds ≡ true → are_clean false ts ≡ true → Spoken (seen (shape.Function d g ds) xs n (all_shown ts))
 function_over inside d g ds xs n None ts b q e p w k = absurd (false≢true e)
 function_over inside d g ds xs n (Some (s ∷ many_and_rest a_parameter a_pattern_rest ∷ one a_function_body ∷ [])) ts b q e p w k =
     three_parts inside s (many_and_rest a_parameter a_pattern_rest) (one a_function_body) (λ us. AllVoiced us → are_clean false us ≡ true → Spoken (seen (shape.Function d g ds) xs n (all_shown us))) ts
@@ -190,7 +193,7 @@ function_over inside d g ds xs n (Some (s ∷ many_and_rest a_parameter a_patter
     e b k
 function_over inside d g ds xs n o ts b q e p w k = absurd (false≢true q)
 
-arrow_over : (inside : Bool) (ds : List (List ℕ)) (xs : List Name) (n : ℕ) (o : Option (List Slot)) (ts : Trees) → AllVoiced ts → is_arrow_slots o ≡ true → accept.fill inside (filling_by o) ts ≡ true → has_names (shape.ArrowFunctionExpression ds) xs ≡ true → are_directives ds ≡ true → are_clean false ts ≡ true → Spoken (seen (shape.ArrowFunctionExpression ds) xs n (all_shown ts))
+arrow_over : (inside : Bool) (ds : List (List ℕ)) (xs : List Name) (n : ℕ) (o : Option (List Slot)) (ts : Trees) → AllVoiced ts → is_arrow_slots o ≡ true → accept.fill inside (filling_by o) ts ≡ true → has_names (shape.ArrowFunctionExpression ds) xs ≡ true → are_said_directives ds ≡ true → are_clean false ts ≡ true → Spoken (seen (shape.ArrowFunctionExpression ds) xs n (all_shown ts))
 arrow_over inside ds xs n None ts b q e p w k = absurd (false≢true e)
 arrow_over inside ds xs n (Some (many_and_rest a_parameter a_pattern_rest ∷ one an_arrow_body ∷ [])) ts b q e p w k =
     two_parts inside (many_and_rest a_parameter a_pattern_rest) (one an_arrow_body) (λ us. AllVoiced us → are_clean false us ≡ true → Spoken (seen (shape.ArrowFunctionExpression ds) xs n (all_shown us))) ts
@@ -213,7 +216,7 @@ import_over inside l xs n (Some (many an_import ∷ one a_string ∷ [])) ts b q
     let cs = and_l (is_clean l (node shape.Listed [] m ss)) (is_clean l u && true) c in
     let cu = and_l (is_clean l u) true (and_r (is_clean l (node shape.Listed [] m ss)) (is_clean l u && true) c) in
     let each' = and_r (is_whole an_import shape.Listed [] m ss) (accept.fill inside (each (one an_import)) ss) es in (
-      head_says shape.ImportDeclaration xs (import_parts (all_shown ss) (shown u)) p (import_word inside ss (shown u) each') refl,
+      head_says shape.ImportDeclaration xs (import_parts (all_shown ss) (shown u)) p (import_needs inside ss u each' eu) refl,
       import_parts_spoken (all_shown ss) (shown u) (v.0.plain inside l (many an_import) refl es cs).1 (v.1.0.plain inside l (one a_string) refl eu cu),
     )) et)
     e b k
@@ -260,12 +263,12 @@ row c strict l (shape.Function q g ds) xs n ts b p d e k =
     let inside = accept.is_strict_in strict (shape.Function q g ds) in
     let w = accept.fill inside (filling_by (slots_of strict c (shape.Function q g ds))) ts in
     let clean = clean_node l (shape.Function q g ds) xs n ts refl k in
-    function_over inside q g ds xs n (slots_of strict c (shape.Function q g ds)) ts b (function_slots_of strict c q g ds) (and_r (is_whole c (shape.Function q g ds) xs n ts) w e) (names_in c (shape.Function q g ds) xs n ts w e) clean.1 clean.2
+    function_over inside q g ds xs n (slots_of strict c (shape.Function q g ds)) ts b (function_slots_of strict c q g ds) (and_r (is_whole c (shape.Function q g ds) xs n ts) w e) (names_in c (shape.Function q g ds) xs n ts w e) (said_directives ds clean.1 (fields_of c (shape.Function q g ds) xs n ts w e)) clean.2
 row c strict l (shape.ArrowFunctionExpression ds) xs n ts b p d e k =
     let inside = accept.is_strict_in strict (shape.ArrowFunctionExpression ds) in
     let w = accept.fill inside (filling_by (slots_of strict c (shape.ArrowFunctionExpression ds))) ts in
     let clean = clean_node l (shape.ArrowFunctionExpression ds) xs n ts refl k in
-    arrow_over inside ds xs n (slots_of strict c (shape.ArrowFunctionExpression ds)) ts b (arrow_slots strict c ds) (and_r (is_whole c (shape.ArrowFunctionExpression ds) xs n ts) w e) (names_in c (shape.ArrowFunctionExpression ds) xs n ts w e) clean.1 clean.2
+    arrow_over inside ds xs n (slots_of strict c (shape.ArrowFunctionExpression ds)) ts b (arrow_slots strict c ds) (and_r (is_whole c (shape.ArrowFunctionExpression ds) xs n ts) w e) (names_in c (shape.ArrowFunctionExpression ds) xs n ts w e) (said_directives ds clean.1 (fields_of c (shape.ArrowFunctionExpression ds) xs n ts w e)) clean.2
 row c strict l shape.ImportDeclaration xs n ts b p d e k =
     let w = accept.fill strict (filling_by (slots_of strict c shape.ImportDeclaration)) ts in
     import_over strict false xs n (slots_of strict c shape.ImportDeclaration) ts b (import_slots strict c) (and_r (is_whole c shape.ImportDeclaration xs n ts) w e) (names_in c shape.ImportDeclaration xs n ts w e) (clean_node l shape.ImportDeclaration xs n ts refl k).2
@@ -292,7 +295,7 @@ one_part inside s P none f e = absurd (false≢true e)
 one_part inside s P (t ▸ none) f e = f t (and_l (fits inside s t) true e)
 one_part inside s P (t ▸ (u ▸ ts)) f e = absurd (never (fits inside s t) e)
 
-body_by : (strict : Bool) (n : ℕ) (ts : Trees) (ds : List (List ℕ)) → AllVoiced ts → are_directives ds ≡ true → accept.fill strict (these (many (a_statement in_body) ∷ [])) ts ≡ true → are_clean false ts ≡ true → Spoken (with_directives ds (node shape.FunctionBody [] n (all_shown ts)))
+body_by : (strict : Bool) (n : ℕ) (ts : Trees) (ds : List (List ℕ)) → AllVoiced ts → are_said_directives ds ≡ true → accept.fill strict (these (many (a_statement in_body) ∷ [])) ts ≡ true → are_clean false ts ≡ true → Spoken (with_directives ds (node shape.FunctionBody [] n (all_shown ts)))
 body_by strict n ts ds b w e k = one_part strict (many (a_statement in_body)) (λ us. AllVoiced us → are_clean false us ≡ true → Spoken (with_directives ds (node shape.FunctionBody [] n (all_shown us)))) ts (λ t et v c. body_seen ds n (shown t) w (v.0.plain strict false (many (a_statement in_body)) refl et (and_l (is_clean false t) true c))) e b k
 
 -- what is shown of a node that is no body of a function is none
@@ -312,7 +315,7 @@ no_body_seen shape.InnerExpression xs n us d s = absurd (holder s)
     holder e = absurd (cc e)
 no_body_seen h xs n us d s = refl
 
-bodied : (h : Shape) (xs : List Name) (n : ℕ) (ts : Trees) → AllVoiced ts → (strict : Bool) (c : Class) (ds : List (List ℕ)) → are_directives ds ≡ true → is_body_class c ≡ true → fits strict (one c) (node h xs n ts) ≡ true → is_clean false (node h xs n ts) ≡ true → Spoken (with_directives ds (shown (node h xs n ts)))
+bodied : (h : Shape) (xs : List Name) (n : ℕ) (ts : Trees) → AllVoiced ts → (strict : Bool) (c : Class) (ds : List (List ℕ)) → are_said_directives ds ≡ true → is_body_class c ≡ true → fits strict (one c) (node h xs n ts) ≡ true → is_clean false (node h xs n ts) ≡ true → Spoken (with_directives ds (shown (node h xs n ts)))
 bodied shape.FunctionBody [] n ts b strict a_function_body ds w q e k = body_by strict n ts ds b w (and_r (is_whole a_function_body shape.FunctionBody [] n ts) (accept.fill strict (these (many (a_statement in_body) ∷ [])) ts) e) k
 bodied shape.FunctionBody [] n ts b strict an_arrow_body ds w q e k = body_by strict n ts ds b w (and_r (is_whole an_arrow_body shape.FunctionBody [] n ts) (accept.fill strict (these (many (a_statement in_body) ∷ [])) ts) e) k
 bodied shape.FunctionBody (x ∷ xs) n ts b strict c ds w q e k = absurd (false≢true e)
@@ -339,18 +342,24 @@ items_lead : (b : Bool) → leads (items_goal b) ≡ false
 items_lead true = refl
 items_lead false = refl
 
-program_says : (style : Style) (b : Bool) (ds : List (List ℕ)) (is : Trees) → are_directives ds ≡ true → AllSpoken (all_shown is) → are_lexical (lay_block Leading (printers style (directives ds)) (undirected (printed_items style b is))) ≡ true
+program_says : (style : Style) (b : Bool) (ds : List (List ℕ)) (is : Trees) → are_said_directives ds ≡ true → AllSpoken (all_shown is) → are_sayable (lay_block Leading (printers style (directives ds)) (undirected (printed_items style b is))) ≡ true
 program_says style b ds is d s = directives_say style ds (undirected (printed_items style b is)) d (undirected_says (printed_items style b is) (block_says (items_goal b) (printers style (all_shown is)) [] (items_lead b) (trees_say style (all_shown is) s) refl))
 
+program_by : (style : Style) (t : Tree) → fits false (one a_program) t ≡ true → first_fault t ≡ None → are_sayable (styled_program style t) ≡ true
+program_by style (node (shape.Program m ds) [] n ts) e f =
+    let inside = accept.is_strict_in false (shape.Program m ds) in
+    let c = clean_node false (shape.Program m ds) [] n ts refl (program_clean (shape.Program m ds) [] n ts refl f) in
+    one_part inside (many (a_statement (if m then in_module else in_body))) (λ us. are_clean false us ≡ true → are_sayable (styled_program style (node (shape.Program m ds) [] n us)) ≡ true) ts
+    (λ t et k. many_listed inside (a_statement (if m then in_module else in_body)) t (λ z. Spoken (shown z) → are_sayable (styled_program style (node (shape.Program m ds) [] n (z ▸ none))) ≡ true) et (λ k' is s. program_says style m ds is (said_directives ds c.1 (fields_of a_program (shape.Program m ds) [] n ts (accept.fill inside (these (many (a_statement (if m then in_module else in_body)) ∷ [])) ts) e)) s.1) ((voiced t).plain inside false (many (a_statement (if m then in_module else in_body))) refl et (and_l (is_clean false t) true k)))
+    (and_r (is_whole a_program (shape.Program m ds) [] n ts) (accept.fill inside (these (many (a_statement (if m then in_module else in_body)) ∷ [])) ts) e) c.2
+program_by style (node (shape.Program m ds) (x ∷ xs) n ts) e f = absurd (false≢true e)
+program_by style (node h xs n ts) e f = absurd (never (is_whole a_program h xs n ts) e)
+
 pub faultless_says : (style : Style) (t : Tree) → fits false (one a_program) t ≡ true → first_fault t ≡ None → EachLexical (styled_program style t)
-faultless_says style t e f = each_lexical (styled_program style t) (program_by t e f)
-  where
-    program_by : (t : Tree) → fits false (one a_program) t ≡ true → first_fault t ≡ None → are_lexical (styled_program style t) ≡ true
-    program_by (node (shape.Program m ds) [] n ts) e f =
-        let inside = accept.is_strict_in false (shape.Program m ds) in
-        let c = clean_node false (shape.Program m ds) [] n ts refl (program_clean (shape.Program m ds) [] n ts refl f) in
-        one_part inside (many (a_statement (if m then in_module else in_body))) (λ us. are_clean false us ≡ true → are_lexical (styled_program style (node (shape.Program m ds) [] n us)) ≡ true) ts
-        (λ t et k. many_listed inside (a_statement (if m then in_module else in_body)) t (λ z. Spoken (shown z) → are_lexical (styled_program style (node (shape.Program m ds) [] n (z ▸ none))) ≡ true) et (λ k' is s. program_says style m ds is c.1 s.1) ((voiced t).plain inside false (many (a_statement (if m then in_module else in_body))) refl et (and_l (is_clean false t) true k)))
-        (and_r (is_whole a_program (shape.Program m ds) [] n ts) (accept.fill inside (these (many (a_statement (if m then in_module else in_body)) ∷ [])) ts) e) c.2
-    program_by (node (shape.Program m ds) (x ∷ xs) n ts) e f = absurd (false≢true e)
-    program_by (node h xs n ts) e f = absurd (never (is_whole a_program h xs n ts) e)
+faultless_says style t e f = each_lexical (styled_program style t) (program_by style t e f)
+
+pub faultless_text : (style : Style) (t : Tree) → fits false (one a_program) t ≡ true → first_fault t ≡ None → has_unpaired_surrogate (text_of (styled_program style t)) ≡ false
+faultless_text style t e f = text_whole (styled_program style t) (each_whole (styled_program style t) (program_by style t e f))
+
+pub faultless_compact : (style : Style) (t : Tree) → fits false (one a_program) t ≡ true → first_fault t ≡ None → has_unpaired_surrogate (compact_text_of (styled_program style t)) ≡ false
+faultless_compact style t e f = compact_whole (styled_program style t) (each_whole (styled_program style t) (program_by style t e f))
