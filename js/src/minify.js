@@ -76,6 +76,8 @@ function checkCall(code, options) {
  *   it as others that it reads (docs/ADAPTER.md)
  * @param {number} [options.passes] how many passes are made at most
  * @param {number} [options.maxDepth=1000] how deep nodes may nest
+ * @param {number} [options.edition=2022] the edition of ECMAScript, as a year from 2015 on, of
+ *   which no newer form is written that `code` lacks
  * @param {boolean} [options.sequences=true] whether statements are joined by commas
  * @param {boolean} [options.joinVars=true] whether declarations are joined
  * @param {boolean} [options.keepFunctionNames=false]

@@ -117,6 +117,8 @@ test("the words of the program are handed on", () => {
   assert.equal(run(["-q", "--keep-function-names"], "f(function g() {});").out, "f(function g(){})\n");
   assert.equal(run(["-q", "--keep-class-names"], "f(class G {});").out, "f(class G{})\n");
   assert.equal(run(["-q", "--passes=1"], "if (a) { if (b) c(); }").status, 0);
+  assert.equal(run(["-q", "--edition=2020"], "a || (a = b);").out, "a||(a=b)\n");
+  assert.equal(run(["-q", "--edition=2021"], "a || (a = b);").out, "a||=b\n");
 });
 
 test("a module is told by --module, by its name, or because it is no script", () => {

@@ -43,6 +43,7 @@ goes to standard output; of several files, OUT is a folder. A file that is refus
 
   --passes=N              at most N passes
   --max-depth=N           how deep the code may nest, 1 to 1000
+  --edition=N             no form newer than ECMAScript N is written, 2015 to 2022
   --no-sequences          statements aren't joined by commas
   --no-join-vars          declarations aren't joined
   --keep-function-names   names of function expressions stay
