@@ -404,12 +404,12 @@ module _ (T : Tallies) (o : Tree) (ts : Trees) (i j : ℕ) (h : i < count ts) (d
 
   -- where a statement reads the name at its head
   pub rare_around_head : suc i < count ts → reads_head x head ≡ true → 1 ≤ tally (bucket false r) (bucket false r x) head → IsRare T x 2 → (names x o ≡ false) × (names x init ≡ false) × (any_names x (first_children j ds) ≡ false) × (any_names x (first_children i ts) ≡ false) × (any_names x after ≡ false)
-  rare_around_head next reads = rare_around next (λ m. head_counted m x head reads)
+  rare_around_head next read = rare_around next (λ m. head_counted m x head read)
 
   pub rare_read : suc i < count ts → reads_next x init ts i ≡ true → 1 ≤ tally (bucket false r) (bucket false r x) head → IsRare T x 2 → is_read_once (x ∷ []) o init ds j ts i ≡ true
-  rare_read next reads spelled rare =
-      let (p, (q, (u, (v, w)))) = rare_around next (λ m. taken_counted m x init head reads) spelled rare in
-      λ k. not (p k) && (reads k && (not (q k || u k) && not (w k || v k)))
+  rare_read next read spelled rare =
+      let (p, q, u, v, w) = rare_around next (λ m. taken_counted m x init head read) spelled rare in
+      λ k. not (p k) && (read k && (not (q k || u k) && not (w k || v k)))
 
   -- ---- or the next declarator does
 
