@@ -54,7 +54,7 @@ module _ (R : Relation) where
 -- where each step of one relation is steps of another
 module _ (Q R : Relation) (f : (p : Position) (n w : Tree) → Q p n w → R p n w) where
   mutual
-    step_more : {p : Position} {t u : Tree} → rewriting.Step Q p t u → rewriting.Step R p t u
+    pub step_more : {p : Position} {t u : Tree} → rewriting.Step Q p t u → rewriting.Step R p t u
     step_more (rewriting.here p n w r) = rewriting.here p n w (f p n w r)
     step_more (rewriting.inside p h xs n ts us s) = rewriting.inside p h xs n ts us (step_in_more s)
 

@@ -7,6 +7,8 @@ use mini_model::{Numbers, OwnedList};
 pub enum RuleName {
     /// `minimize_unary`: 23.
     MinimizeUnary,
+    /// `minimize_expression_in_boolean_context`: 24 to 26, 47 and 48.
+    MinimizeExpressionInBooleanContext,
     /// `minimize_binary`: 27 to 29.
     MinimizeBinary,
     /// `minimize_loose_boolean`: 30.
@@ -39,6 +41,8 @@ pub enum RuleName {
     FoldChainExpr,
     /// `fold_binary_expr`: 3 to 8.
     FoldBinaryExpr,
+    /// `fold_sequence_expression`: 20 and 21.
+    FoldSequenceExpression,
     /// `fold_binary_typeof_comparison`: 16 and 17.
     FoldBinaryTypeofComparison,
     /// `substitute_template_literal`: 19.
@@ -57,6 +61,10 @@ pub enum RuleName {
     SubstituteBoolean,
     /// `substitute_swap_binary_expressions`: 54.
     SubstituteSwapBinaryExpressions,
+    /// `substitute_arrow_expression`: 59.
+    SubstituteArrowExpression,
+    /// `substitute_object_property`: 51, and 52 of the properties of an object literal.
+    SubstituteObjectProperty,
     /// `substitute_yield_expression`: 60 of `yield`.
     SubstituteYieldExpression,
     /// `substitute_assignment_target_property_property`: 52 of a pattern that is assigned to.
@@ -71,6 +79,12 @@ pub enum RuleName {
     SubstituteMethodDefinition,
     /// `substitute_property_definition`: 52 of a field.
     SubstitutePropertyDefinition,
+    /// `substitute_catch_clause`: 63.
+    SubstituteCatchClause,
+    /// `de_morgan_for_void_expr`: 50 of a statement.
+    DeMorganForVoidExpr,
+    /// `substitute_return_statement`: 60 of `return`.
+    SubstituteReturnStatement,
     /// `try_minimize_if`: 82 and 83.
     TryMinimizeIf,
     /// `drop_unreachable_switch_cases`: 81.

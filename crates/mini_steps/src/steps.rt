@@ -2,20 +2,19 @@
 
 ghost use Rattle.std.specs.Prelude.{◌≡◌, ◌+◌, ◌<◌, ◌≤◌, ◌^◌, length, IfOk, OnOk};
 ghost use Rattle.mini_accept.specs.WellShaped.{IsWellShaped};
-ghost use Rattle.mini_choices.specs.MinimizeNormalAssignmentToCombinedLogicalAssignment.{marked};
 ghost use Rattle.mini_context.specs.Known.{Knows};
 ghost use Rattle.mini_kept.specs.Loosely.{ProgramIsKeptLoosely};
 ghost use Rattle.mini_laws.specs.References.{counts_of, reads as is_read, writes as is_write};
 ghost use Rattle.mini_laws.specs.Writable.{writable_in};
-ghost use Rattle.mini_rows.specs.Switches.{Switches, let_go};
+ghost use Rattle.mini_rows.specs.Switches.{let_go};
 ghost use Rattle.mini_stmt.specs.MinimizeStatements.{switches_of};
-ghost use Rattle.mini_steps.specs.Rows.{CallRows};
+ghost use Rattle.mini_steps.specs.Rows.{CallRows, rows_in};
 ghost use Rattle.mini_steps.specs.Steps.{Followed};
 ghost use Rattle.mini_steps.specs.Taken.{Taken};
 
 use crate::names::{Step, StepList};
 use crate::walking::step_at;
-use mini_context::{Scopes, TraverseCtx};
+use mini_context::TraverseCtx;
 use mini_model::{OutOfMemory, Position};
 use mini_node::Node;
 use mini_tree::Context;
@@ -25,15 +24,15 @@ use std::alloc::Global;
 fn take_step(
     alloc: Global,
     program: &mut Node,
-    scopes: &Scopes,
+    context: &TraverseCtx,
     step: &Step,
     changed: u64,
 ) -> Result<u64, OutOfMemory>
     requires { changed + 1 < 2 ^ 64 }
-    ensures { (o : Switches) → IfOk result (Taken (CallRows o (marked scopes.now)) step.now program.old program.new changed) }
+    ensures { IfOk result (Taken (rows_in context.now) step.now program.old program.new changed) }
 {
     let path = step.at.as_slice();
-    if step_at(alloc, step.rule, program, Position::Elsewhere, path, scopes)? {
+    if step_at(alloc, step.rule, program, Position::Elsewhere, path, context)? {
         Ok(changed + 1)
     } else {
         Ok(changed)
@@ -44,15 +43,15 @@ fn take_step(
 fn take_steps(
     alloc: Global,
     program: &mut Node,
-    scopes: &Scopes,
+    context: &TraverseCtx,
     steps: &[Step],
 ) -> Result<u64, OutOfMemory>
-    ensures followed { (o : Switches) → IfOk result (Followed (CallRows o (marked scopes.now)) steps.now program.old program.new) }
+    ensures followed { IfOk result (Followed (rows_in context.now) steps.now program.old program.new) }
     ensures bounded { IfOk result (λ changed. changed ≤ length steps.now) }
 {
     let mut changed = 0;
     for at in 0..steps.len() {
-        changed = take_step(alloc, program, scopes, &steps[at], changed)?;
+        changed = take_step(alloc, program, context, &steps[at], changed)?;
     }
     Ok(changed)
 }
@@ -73,14 +72,14 @@ pub fn apply_steps(
     steps: &StepList,
 ) -> Result<u64, OutOfMemory>
     requires known { Knows context.old context.old.options program.old }
-    ensures followed { IfOk result (Followed (CallRows (switches_of context.old.options) (writable_in program.old)) steps.now program.old program.new) }
+    ensures followed { IfOk result (Followed (CallRows (writable_in program.old)) steps.now program.old program.new) }
     ensures bounded { IfOk result (λ changed. changed ≤ length steps.now) }
     ensures kept { IsWellShaped program.old → OnOk result (ProgramIsKeptLoosely (let_go (switches_of context.old.options)) (writable_in program.old) program.old program.new) }
     ensures known { OnOk result (Knows context.new context.old.options program.new) }
     ensures reads { OnOk result (context.new.scopes.reads ≡ counts_of is_read (length context.new.scopes.reads) program.new) }
     ensures writes { OnOk result (context.new.scopes.writes ≡ counts_of is_write (length context.new.scopes.reads) program.new) }
 {
-    let changed = take_steps(alloc, program, &context.scopes, steps.as_slice())?;
+    let changed = take_steps(alloc, program, context, steps.as_slice())?;
     context.refresh(alloc, program)?;
     Ok(changed)
 }

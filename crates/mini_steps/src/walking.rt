@@ -1,16 +1,14 @@
 //! One call at the node to which a path leads.
 
 ghost use Rattle.std.specs.Prelude.{◌≡◌, ◌∷◌, IfOk};
-ghost use Rattle.mini_choices.specs.MinimizeNormalAssignmentToCombinedLogicalAssignment.{marked};
 ghost use Rattle.mini_model.specs.Paths.{is_node as is_it_a_node};
-ghost use Rattle.mini_rows.specs.Switches.{Switches};
-ghost use Rattle.mini_steps.specs.Rows.{CallRows};
+ghost use Rattle.mini_steps.specs.Rows.{rows_in};
 ghost use Rattle.mini_steps.specs.Steps.{AtPath};
 
 use crate::calling::call;
 use crate::names::RuleName;
 use mini_checker::find;
-use mini_context::Scopes;
+use mini_context::TraverseCtx;
 use mini_model::{OutOfMemory, Position, Shape};
 use mini_node::Node;
 use mini_tree::child_place;
@@ -35,13 +33,13 @@ pub fn step_at(
     node: &mut Node,
     place: Position,
     path: &[u32],
-    scopes: &Scopes,
+    context: &TraverseCtx,
 ) -> Result<bool, OutOfMemory>
-    ensures { (o : Switches) → IfOk result (AtPath (CallRows o (marked scopes.now) rule) path.now place node.old node.new) }
+    ensures { IfOk result (AtPath (rows_in context.now rule) path.now place node.old node.new) }
 {
     match path.split_first() {
-        Some((index, rest)) => step_below(alloc, rule, node, place, *index, rest, scopes),
-        None => call(alloc, rule, node, place, scopes),
+        Some((index, rest)) => step_below(alloc, rule, node, place, *index, rest, context),
+        None => call(alloc, rule, node, place, context),
     }
 }
 
@@ -54,9 +52,9 @@ fn step_below(
     place: Position,
     index: u32,
     rest: &[u32],
-    scopes: &Scopes,
+    context: &TraverseCtx,
 ) -> Result<bool, OutOfMemory>
-    ensures { (o : Switches) → IfOk result (AtPath (CallRows o (marked scopes.now) rule) (index ∷ rest.now) place node.old node.new) }
+    ensures { IfOk result (AtPath (rows_in context.now rule) (index ∷ rest.now) place node.old node.new) }
 {
     let count = node.children().len();
     let (at, left) = find(node.children(), index);
@@ -66,8 +64,8 @@ fn step_below(
     let stands = child_place(node.shape(), place, count, at);
     let child = node.children_mut().child_mut(at);
     if is_node(child) {
-        step_at(alloc, rule, child, stands, rest, scopes)
+        step_at(alloc, rule, child, stands, rest, context)
     } else {
-        step_below(alloc, rule, child, stands, left, rest, scopes)
+        step_below(alloc, rule, child, stands, left, rest, context)
     }
 }

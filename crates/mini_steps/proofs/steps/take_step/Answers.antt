@@ -1,14 +1,13 @@
 use Rattle.std.proofs.Common.{◌+◌, ◌≡◌, ◌∙◌, subst, refl, true, false, arith}
 use Rattle.std.specs.Prelude.{suc, IfOk}
-use Rattle.mini_choices.specs.MinimizeNormalAssignmentToCombinedLogicalAssignment.{marked}
 use Rattle.mini_model.specs.declared.place.Position.TheVariants.{Elsewhere}
-use Rattle.mini_steps.specs.Rows.{CallRows}
+use Rattle.mini_steps.specs.Rows.{rows_in}
 use Rattle.mini_steps.specs.Steps.{AtPath}
 use Rattle.mini_steps.proofs.Ways.{was_taken, was_passed}
 use Rattle.mini_steps.proofs.steps.take_step.Goals as goal
 
 pub returns-then-branch : goal.returns-then-branch
-returns-then-branch c o = was_taken (CallRows o (marked c.args.scopes.now)) c.args.step.now c.as_slice-path.result.now c.args.program.now c.step_at.new.node c.args.changed c.in_ok-step_at.field-0 c.as_slice-path.ensures c.if-branch.true (c.in_ok-step_at.ensures o)
+returns-then-branch c = was_taken (rows_in c.args.context.now) c.args.step.now c.as_slice-path.result.now c.args.program.now c.step_at.new.node c.args.changed c.in_ok-step_at.field-0 c.as_slice-path.ensures c.if-branch.true c.in_ok-step_at.ensures
 
 pub returns-else-branch : goal.returns-else-branch
-returns-else-branch c o = was_passed (CallRows o (marked c.args.scopes.now)) c.args.step.now c.as_slice-path.result.now c.args.program.now c.step_at.new.node c.args.changed c.in_ok-step_at.field-0 c.as_slice-path.ensures c.if-branch.false (c.in_ok-step_at.ensures o)
+returns-else-branch c = was_passed (rows_in c.args.context.now) c.args.step.now c.as_slice-path.result.now c.args.program.now c.step_at.new.node c.args.changed c.in_ok-step_at.field-0 c.as_slice-path.ensures c.if-branch.false c.in_ok-step_at.ensures
