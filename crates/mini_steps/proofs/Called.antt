@@ -33,7 +33,7 @@ use Rattle.mini_syntax.proofs.Keys as object_law
 use Rattle.mini_syntax.specs.SubstituteReturnStatement as returns
 use Rattle.mini_syntax.proofs.Returns as return_law
 use Rattle.mini_unused.specs.SubstituteCatchClause as catches
-use Rattle.mini_calls.specs.OwnRows.{Own, OwnIn, Weighed, Fitting, Changing, negated}
+use Rattle.mini_calls.specs.OwnRows.{Own, Weighed, Fitting, Changing, negated}
 use Rattle.mini_steps.specs.declared.names.RuleName.{RuleName}
 use Rattle.mini_steps.specs.declared.names.RuleName.TheVariants as name
 use Rattle.mini_steps.specs.Called.{Relation, Called, Unread}

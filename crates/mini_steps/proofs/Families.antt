@@ -1,5 +1,5 @@
 -- The rows of each call are rows of the families, and so rewrites.
-use Rattle.std.specs.Prelude.{◌<◌, ◌⊎◌, true}
+use Rattle.std.specs.Prelude.{◌<◌, true}
 use Rattle.std.proofs.Common.{inl, inr}
 use Rattle.mini_model.specs.declared.place.Position.{Position}
 use Rattle.mini_model.specs.declared.place.Position.TheVariants.{Expr, Stmt, Elsewhere}
@@ -16,12 +16,12 @@ use Rattle.mini_rows.specs.Catches.{CatchRow}
 use Rattle.mini_rows.specs.Choices as choice
 use Rattle.mini_rows.specs.DeadCases.{DeadCaseRow}
 use Rattle.mini_rows.specs.DeMorgan.{Row50}
-use Rattle.mini_rows.specs.Folding.{FoldingRow, Row9, Row49Idle}
+use Rattle.mini_rows.specs.Folding.{FoldingRow, Row9}
 use Rattle.mini_rows.specs.KeyHolders.{HeldKeyRow, Row52Declared, Row53}
 use Rattle.mini_rows.specs.Loops.{Row84}
 use Rattle.mini_rows.specs.Operands as operand
 use Rattle.mini_rows.specs.Operators as operator
-use Rattle.mini_rows.specs.Redex.{Row, Contracts, Rewrites, AsTest, AsSpelling, AsBranch, AsKey, AsChoice, AsFolding, AsTurn, AsArrow, AsConstant, AsHeldKey, AsBoolean, AsDeMorgan, AsSequence, AsOperand, AsTemplate}
+use Rattle.mini_rows.specs.Redex.{Row, Rewrites, AsTest, AsSpelling, AsBranch, AsKey, AsChoice, AsFolding, AsTurn, AsArrow, AsConstant, AsHeldKey, AsBoolean, AsDeMorgan, AsSequence, AsOperand, AsTemplate}
 use Rattle.mini_rows.specs.Sequences.{SequenceRow}
 use Rattle.mini_rows.specs.SpellKeys.{KeyRow}
 use Rattle.mini_rows.specs.Spellings as spelling
@@ -40,7 +40,7 @@ use Rattle.mini_rows.proofs.SpellWeights as spell_weights
 use Rattle.mini_rows.proofs.WriteWeights.{writes_lighter}
 use Rattle.mini_choices.specs.OwnRows.{SharedRow, FoldedRow}
 use Rattle.mini_logic.specs.MinimizeIfStatement as if_statement
-use Rattle.mini_calls.specs.OwnRows.{AndOrRow, BinaryRow, BitwiseRow, CoalesceRow, CoalescedRow, CombinedRow, ComparisonRow, ConditionalRow, DecisionRow, DottedRow, HeldKey, JoinedRow, LogicalRow, LooseRow, ObjectRow, OperatorRow, PlusRow, SideRow, TargetKey, TypeofRow, UnaryRow, UndefinedRow, ZeroRow}
+use Rattle.mini_calls.specs.OwnRows.{AndOrRow, BinaryRow, BitwiseRow, CoalesceRow, CoalescedRow, CombinedRow, ComparisonRow, ConditionalRow, DecisionRow, DottedRow, HeldKey, LogicalRow, LooseRow, ObjectRow, OperatorRow, PlusRow, SideRow, TargetKey, TypeofRow, UnaryRow, UndefinedRow, ZeroRow}
 use Rattle.mini_steps.specs.declared.names.RuleName.{RuleName}
 use Rattle.mini_steps.specs.declared.names.RuleName.TheVariants as name
 use Rattle.mini_steps.specs.Rows.{SeatRow, StatementRow, PartRow, CallRows}

@@ -1,5 +1,5 @@
 -- What the context knows of a program, as the calls read it.
-use Rattle.std.proofs.Common.{◌≡◌, refl, sym, subst, ap}
+use Rattle.std.proofs.Common.{◌≡◌, refl, sym, subst}
 use Rattle.std.specs.Prelude.{ℕ, length, List}
 use Rattle.mini_model.specs.Tree.{Tree}
 use Rattle.mini_laws.specs.References.{reads, writes, counts_of}

@@ -1,18 +1,17 @@
 -- What a step at a path comes to, in terms of the nodes of ESTree.
-use Rattle.std.specs.Prelude.{ℕ, zero, suc, ◌+◌, ◌-◌, ◌≡◌, ◌<◌, ◌≤◌, ◌⊎◌, refl, nat_lt, if◌then◌else◌, Bool, true, false, List, [], ◌∷◌, Option, Some, None, option_map, option_and_then}
+use Rattle.std.specs.Prelude.{ℕ, zero, suc, ◌-◌, ◌≡◌, ◌<◌, ◌≤◌, ◌⊎◌, refl, nat_lt, if◌then◌else◌, Bool, true, false, List, ◌∷◌, Option, Some, None, option_map, option_and_then}
 use Rattle.std.proofs.Common.{sym, ap, ◌∙◌, subst, arith, inl, inr, ltb-true, ltb-false}
 use Rattle.mini_model.specs.declared.name.Name.{Name}
-use Rattle.mini_model.specs.declared.place.Position.{Position}
 use Rattle.mini_model.specs.declared.shape.Shape.{Shape}
-use Rattle.mini_model.specs.Paths.{Path, Standing, Node, Holder, Missing, standing, by_standing, append, stands_for, spread, width, children_of, child_at, put, put_inside, with_child as with_esnode, node_at, replace_at}
-use Rattle.mini_model.specs.Tree.{Tree, Trees, node, none, ◌▸◌, count, children, child_or_absent, shape_of}
+use Rattle.mini_model.specs.Paths.{Path, Standing, Node, Holder, Missing, standing, by_standing, append, stands_for, spread, width, child_at, put, put_inside, node_at, replace_at}
+use Rattle.mini_model.specs.Tree.{Tree, Trees, node, none, ◌▸◌, count, children, child_or_absent}
 use Rattle.mini_laws.proofs.Children.{child_at-append_first, child_at-append_later}
 use Rattle.mini_node.specs.Children.{part, with_part, with_child}
 use Rattle.mini_node.specs.Walks.{with_same}
 use Rattle.mini_log.specs.Walk.{spot}
 use Rattle.mini_checker.specs.Made.{index_in}
-use Rattle.mini_steps.specs.Called.{Relation, Called}
-use Rattle.mini_steps.specs.Steps.{place_in, rest_in, AtPath, here, below, nowhere}
+use Rattle.mini_steps.specs.Called.{Relation}
+use Rattle.mini_steps.specs.Steps.{place_in, rest_in, here, below, nowhere}
 use Rattle.mini_steps.specs.Laws.{CalledAt, StepsTold}
 
 -- ---- the child at the spot of an index

@@ -15,7 +15,7 @@ use Rattle.mini_checker.specs.Made.{index_in}
 use Rattle.mini_steps.specs.declared.names.RuleName.{RuleName}
 use Rattle.mini_steps.specs.declared.names.Step.{Step}
 use Rattle.mini_steps.specs.Called.{Relation}
-use Rattle.mini_steps.specs.Steps.{place_in, rest_in, AtPath, below, nowhere, Followed, no_step, changed, stayed}
+use Rattle.mini_steps.specs.Steps.{place_in, rest_in, AtPath, below, nowhere, Followed, changed, stayed}
 use Rattle.mini_steps.specs.Taken.{Taken}
 
 edited : (t : Tree) (k : ℕ) (u : Tree) → with_children t (with_child (children t) k u) ≡ with_part t k u

@@ -1,11 +1,10 @@
 -- What lists of steps come to, and what they keep.
-use Rattle.std.specs.Prelude.{ℕ, ◌≡◌, ◌⊎◌, ◌+◌, ◌≤◌, Bool, false, List, Some, None}
+use Rattle.std.specs.Prelude.{ℕ, ◌≡◌, ◌⊎◌, Bool, false, List, Some, None}
 use Rattle.mini_model.specs.declared.place.Position.{Position}
 use Rattle.mini_model.specs.declared.place.Position.TheVariants.{Elsewhere}
 use Rattle.mini_model.specs.Paths.{Path, node_at, replace_at}
 use Rattle.mini_model.specs.Rewriting.{Reaches}
 use Rattle.mini_model.specs.Tree.{Tree}
-use Rattle.mini_model.specs.Weight.{weight}
 use Rattle.mini_accept.specs.WellShaped.{IsWellShaped}
 use Rattle.mini_laws.specs.Value.{VariableSet}
 use Rattle.mini_kept.specs.Loosely.{ProgramIsKeptLoosely}

@@ -32,17 +32,31 @@ fn call_on_expression(
             CALLS.minimize_expression_in_boolean_context(alloc, node, seat),
         RuleName::MinimizeBinary => CALLS.minimize_binary(alloc, node, seat),
         RuleName::MinimizeLooseBoolean => CALLS.minimize_loose_boolean(alloc, node),
-        RuleName::MinimizeBitwiseBinaryExpr => CALLS.minimize_bitwise_binary_expr(alloc, node, seat),
+        RuleName::MinimizeBitwiseBinaryExpr => CALLS.minimize_bitwise_binary_expr(
+            alloc, node, seat,
+        ),
         RuleName::MinimizeNormalAssignmentToCombinedLogicalAssignment =>
-            CALLS.minimize_normal_assignment_to_combined_logical_assignment(alloc, node, &context.scopes),
+            CALLS.minimize_normal_assignment_to_combined_logical_assignment(
+                alloc,
+                node,
+                &context.scopes,
+            ),
         RuleName::MinimizeNormalAssignmentToCombinedAssignment =>
             CALLS.minimize_normal_assignment_to_combined_assignment(alloc, node),
         RuleName::MinimizeAssignmentToUpdateExpression =>
             CALLS.minimize_assignment_to_update_expression(alloc, node),
-        RuleName::MinimizeLogicalExpression =>
-            CALLS.minimize_logical_expression(alloc, node, seat, &context.scopes),
-        RuleName::MinimizeConditionalExpression =>
-            CALLS.minimize_conditional_expression(alloc, node, seat, &context.scopes),
+        RuleName::MinimizeLogicalExpression => CALLS.minimize_logical_expression(
+            alloc,
+            node,
+            seat,
+            &context.scopes,
+        ),
+        RuleName::MinimizeConditionalExpression => CALLS.minimize_conditional_expression(
+            alloc,
+            node,
+            seat,
+            &context.scopes,
+        ),
         RuleName::ConvertToDottedProperties => CALLS.convert_to_dotted_properties(alloc, node),
         RuleName::FoldUnaryExpr => CALLS.fold_unary_expr(alloc, node, seat),
         RuleName::FoldStaticMemberExpr => Ok(CALLS.fold_static_member_expr(alloc, node, seat)),
@@ -56,15 +70,19 @@ fn call_on_expression(
         RuleName::SubstituteTemplateLiteral => CALLS.substitute_template_literal(alloc, node),
         RuleName::SubstituteTypeofUndefined => CALLS.substitute_typeof_undefined(alloc, node),
         RuleName::SubstituteUnaryPlus => CALLS.substitute_unary_plus(alloc, node),
-        RuleName::SubstituteRotateLogicalExpression =>
-            CALLS.substitute_rotate_logical_expression(alloc, node),
-        RuleName::SubstituteIsObjectAndNotNull =>
-            CALLS.substitute_is_object_and_not_null(alloc, node),
-        RuleName::SubstituteLooseEqualsUndefined =>
-            CALLS.substitute_loose_equals_undefined(alloc, node),
+        RuleName::SubstituteRotateLogicalExpression => CALLS.substitute_rotate_logical_expression(
+            alloc, node,
+        ),
+        RuleName::SubstituteIsObjectAndNotNull => CALLS.substitute_is_object_and_not_null(
+            alloc, node,
+        ),
+        RuleName::SubstituteLooseEqualsUndefined => CALLS.substitute_loose_equals_undefined(
+            alloc, node,
+        ),
         RuleName::SubstituteBoolean => CALLS.substitute_boolean(alloc, node),
-        RuleName::SubstituteSwapBinaryExpressions =>
-            CALLS.substitute_swap_binary_expressions(alloc, node),
+        RuleName::SubstituteSwapBinaryExpressions => CALLS.substitute_swap_binary_expressions(
+            alloc, node,
+        ),
         RuleName::SubstituteArrowExpression => CALLS.substitute_arrow_expression(alloc, node),
         RuleName::SubstituteObjectProperty => CALLS.substitute_object_property(alloc, node),
         RuleName::SubstituteYieldExpression => CALLS.substitute_yield_expression(alloc, node),
@@ -85,11 +103,7 @@ fn call_on_expression(
 }
 
 // Does a rewrite of a statement.
-fn call_on_statement(
-    alloc: Global,
-    rule: RuleName,
-    node: &mut Node,
-) -> Result<bool, OutOfMemory>
+fn call_on_statement(alloc: Global, rule: RuleName, node: &mut Node) -> Result<bool, OutOfMemory>
     ensures { (W : VariableSet) (q : StmtSeat) → IfOk result (Called (CallRows W rule) (Stmt q) node.old node.new) }
 {
     match rule {
@@ -110,8 +124,9 @@ fn call_on_part(alloc: Global, rule: RuleName, node: &mut Node) -> Result<bool, 
     match rule {
         RuleName::SubstituteAssignmentTargetPropertyProperty =>
             CALLS.substitute_assignment_target_property_property(alloc, node),
-        RuleName::SubstituteAssignmentTargetProperty =>
-            CALLS.substitute_assignment_target_property(alloc, node),
+        RuleName::SubstituteAssignmentTargetProperty => CALLS.substitute_assignment_target_property(
+            alloc, node,
+        ),
         RuleName::TryCompressAssignmentTargetProperty =>
             CALLS.try_compress_assignment_target_property(alloc, node),
         RuleName::SubstituteBindingProperty => CALLS.substitute_binding_property(alloc, node),

@@ -32,7 +32,14 @@ fn take_step(
     ensures { IfOk result (Taken (rows_in context.now) step.now program.old program.new changed) }
 {
     let path = step.at.as_slice();
-    if step_at(alloc, step.rule, program, Position::Elsewhere, path, context)? {
+    if step_at(
+        alloc,
+        step.rule,
+        program,
+        Position::Elsewhere,
+        path,
+        context,
+    )? {
         Ok(changed + 1)
     } else {
         Ok(changed)

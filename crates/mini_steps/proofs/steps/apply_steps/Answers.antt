@@ -1,11 +1,7 @@
-use Rattle.std.proofs.Common.{◌≡◌, ◌∙◌, subst, sym}
-use Rattle.mini_choices.specs.MinimizeNormalAssignmentToCombinedLogicalAssignment.{marked}
 use Rattle.mini_laws.specs.Writable.{writable_in}
 use Rattle.mini_stmt.specs.MinimizeStatements.{switches_of}
-use Rattle.mini_steps.specs.Rows.{CallRows}
-use Rattle.mini_steps.specs.Steps.{Followed}
 use Rattle.mini_steps.proofs.Keeping.{keep}
-use Rattle.mini_steps.proofs.Knowing.{told, reads_told, writes_told, followed_so}
+use Rattle.mini_steps.proofs.Knowing.{reads_told, writes_told, followed_so}
 use Rattle.mini_steps.proofs.steps.apply_steps.Goals as goal
 
 pub returns-clause-followed : goal.returns-clause-followed

@@ -1,8 +1,4 @@
-use Rattle.std.proofs.Common.{◌+◌, ◌≡◌, ◌∙◌, subst, refl, true, false, arith}
-use Rattle.std.specs.Prelude.{suc, IfOk}
-use Rattle.mini_model.specs.declared.place.Position.TheVariants.{Elsewhere}
 use Rattle.mini_steps.specs.Rows.{rows_in}
-use Rattle.mini_steps.specs.Steps.{AtPath}
 use Rattle.mini_steps.proofs.Ways.{was_taken, was_passed}
 use Rattle.mini_steps.proofs.steps.take_step.Goals as goal
 
