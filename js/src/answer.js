@@ -48,6 +48,12 @@ function rewritten(ast, json, options) {
   throw new Refusal(ended.name, message, { status: ended.status });
 }
 
+/** Ways to have an answer printed: where it is no JSON that is read, it is made once more. */
+const callsOf = (json, bytes, options) => [
+  { json: bytes, words: ["--max-depth=1000"] },
+  { json, words: ["--minify", ...wordsOf(options)] },
+];
+
 /**
  * The lighter program for a parser's tree: what the program doesn't read is adapted before and put
  * back after, and what is too long goes in halves.
@@ -71,7 +77,9 @@ function answerFor(ast, code, options, warnings) {
   warnings.push(...adapted.warnings);
   const { answer, bytes } = rewritten(adapted.ast, json, options);
   const program = adapted.restore(answer);
-  return { ...answer, program, ...printed(answer.program, adapted.respell, options, bytes) };
+  const isModule = ast.sourceType === "module";
+  const calls = callsOf(json, bytes, options);
+  return { ...answer, program, ...printed(isModule, calls, adapted.respell, options) };
 }
 
 module.exports = { answerFor };

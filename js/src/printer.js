@@ -1,8 +1,7 @@
 "use strict";
 const { Refusal } = require("./errors.js");
-const { toJson } = require("./json.js");
 const { parse } = require("./parser.js");
-const { MOST, runPrinter } = require("./program.js");
+const { runPrinter } = require("./program.js");
 
 const MESSAGES = {
   NotJson: "what is to be printed nests too deep for JSON",
@@ -10,15 +9,17 @@ const MESSAGES = {
   TooLong: "what is to be printed is too long: its JSON has more than 16 MiB",
 };
 
-/** The printer's text of a tree, or why there is none. */
-function textOf(program, bytes, options) {
-  const answered = bytes && bytes.length <= MOST ? runPrinter(bytes, options) : null;
-  // Without what isn't needed the JSON of a tree is shorter, and it nests less without an answer.
-  const isOdd = answered === null || /^(NotJson|TooLong)$/.test(answered.name);
-  const { name, status, text, note } = isOdd ? runPrinter(toJson(program), options) : answered;
+/**
+ * What the proved program prints at the first of some calls at which its input is neither too long
+ * nor too deep.
+ */
+function textOf([call, ...others], options) {
+  const { name, status, text, note } = runPrinter(call.json, call.words, options);
   if (text !== null) return text;
-  const message = MESSAGES[name] ?? "the program that prints ended";
-  throw new Refusal(name === "NoProgram" ? name : "Printer", `${message}: ${note}`, { status });
+  if (/^(NotJson|TooLong)$/.test(name) && others.length > 0) return textOf(others, options);
+  if (name === "NoProgram") throw new Refusal(name, note, { status });
+  const message = MESSAGES[name] ?? "the program that prints had no memory, or could not write";
+  throw new Refusal("Printer", note === "" ? message : `${message} (${note})`, { status });
 }
 
 /** What the parser makes of a printed text. */
@@ -32,18 +33,18 @@ function read(text, module) {
 }
 
 /**
- * The text of a tree that has marks of the adapter, with what they stand for. The proved program
- * prints the tree, the parser finds the marks.
- * @param {object} program a Program of ESTree
+ * The text of a tree that has marks of the adapter, with what they stand for: the proved program
+ * prints the tree, and the parser finds the marks.
+ * @param {boolean} module whether the tree is that of a module
+ * @param {{json: string | Buffer, words: string[]}[]} calls of the program, which all print the
+ *   tree; where the input of one is too long or too deep, the next is tried
  * @param {(text: string, tree: object) => string} respell
  * @param {object} [options] those of `minify`
- * @param {Buffer} [bytes] JSON of which the program is, or is the part `program`
- * @returns {{text: string, tree: object}} and what the parser makes of it
+ * @returns {{text: string, tree: object}} the text, and what the parser makes of it
  * @throws {Refusal}
  */
-function printed(program, respell, options, bytes) {
-  const module = program.sourceType === "module";
-  const marked = textOf(program, bytes, options);
+function printed(module, calls, respell, options) {
+  const marked = textOf(calls, options);
   const tree = read(marked, module);
   const text = respell(marked, tree);
   return { text, tree: text === marked ? tree : read(text, module) };

@@ -65,14 +65,16 @@ function runProgram(json, words, { program } = {}) {
 }
 
 /**
- * Runs the proved program that prints, on the JSON of a tree or of an answer.
- * @param {string | Buffer} json
+ * Runs the proved program that prints.
+ * @param {string | Buffer} json of a tree or of an answer; with the word `--minify`, of a tree that
+ *   is minified before
+ * @param {string[]} words its command line
  * @param {{printer?: string}} [options] where the program is
  * @returns {{name: string, status: number | null, text: string | null, note: string}} as of
  *   `runProgram`; the text is JavaScript, without the newline behind it
  */
-function runPrinter(json, { printer } = {}) {
-  const { output, ...ended } = ran(printerPath(printer), ["--max-depth=1000"], json);
+function runPrinter(json, words, { printer } = {}) {
+  const { output, ...ended } = ran(printerPath(printer), words, json);
   return { ...ended, text: output && output.toString("utf8", 0, output.length - 1) };
 }
 

@@ -54,16 +54,17 @@ class Splices {
    * goes, parentheses round them as well; the nodes stay as they are.
    * @param {number} start
    * @param {number} end
-   * @param {Array<string | {start: number, end: number}>} parts nodes in the order of the text
+   * @param {Array<string | {start: number, end: number}>} parts words, of whole tokens each, and
+   *   nodes in the order of the text
    */
   replace(start, end, parts) {
     let at = start;
-    let words = "";
+    let words = [];
     for (const part of parts) {
-      if (typeof part === "string") words += part;
+      if (typeof part === "string") words.push(part);
       else {
         this.edits.push({ start: at, end: part.start, words });
-        [at, words] = [part.end, ""];
+        [at, words] = [part.end, []];
       }
     }
     this.edits.push({ start: at, end, words });
@@ -75,9 +76,10 @@ class Splices {
     const pieces = new Pieces();
     let at = 0;
     // What is put in at a place stands before what is put in place of something there.
-    for (const { start, end, words } of this.edits.sort((a, b) => a.start - b.start || a.end - b.end)) {
+    const inOrder = this.edits.sort((one, other) => one.start - other.start || one.end - other.end);
+    for (const { start, end, words } of inOrder) {
       pieces.add(source.slice(at, start));
-      pieces.add(words);
+      for (const word of words) pieces.add(word);
       at = end;
     }
     pieces.add(source.slice(at));

@@ -88,7 +88,7 @@ function respellForOf(node, parent, context) {
   const { right } = node;
   const last = isSequence(right) ? right.expressions.at(-1) : right;
   const behindFor = node.start + "for".length;
-  if (markOf(last, context)) context.splices.replace(behindFor, behindFor, ["await"]);
+  if (markOf(last, context) === "iterate") context.splices.replace(behindFor, behindFor, ["await"]);
   respellChildren(node, context);
 }
 
@@ -113,7 +113,7 @@ const endOf = (parts) => (String(parts.at(-1)).endsWith("}") ? "" : ";");
 
 /** The statement that a `return` becomes where some of its results aren't awaited. */
 function resultParts(node, context) {
-  if (isAwaited(node, context)) return ["return ", node];
+  if (isAwaited(node, context)) return ["return", node];
   if (isSequence(node)) {
     const before = node.expressions.slice(0, -1).flatMap((part) => statement(part, context));
     return ["{", ...before, ...resultParts(node.expressions.at(-1), context), "}"];
@@ -121,7 +121,7 @@ function resultParts(node, context) {
   if (node.type === "ConditionalExpression") {
     const consequent = resultParts(node.consequent, context);
     const alternate = resultParts(node.alternate, context);
-    return ["if(", node.test, ")", ...consequent, endOf(consequent), "else ", ...alternate];
+    return ["if(", node.test, ")", ...consequent, endOf(consequent), "else", ...alternate];
   }
   // `void` of something: nothing is returned.
   if (node.argument.type === "Literal") return ["return"];
