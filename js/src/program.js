@@ -2,7 +2,9 @@
 const { spawnSync } = require("node:child_process");
 const path = require("node:path");
 
-const built = (name) => path.join(__dirname, "..", "..", "crates", name, "out", name);
+/** The programs that are proved: which crate builds one, and which variable may name it. */
+const MINIFIER = { crate: "mini_app", variable: "MINI_APP" };
+const PRINTER = { crate: "mini_text", variable: "MINI_TEXT" };
 
 // The names of the statuses with which the programs end.
 const STATUSES = [
@@ -19,31 +21,33 @@ const STATUSES = [
 /** The programs read no more bytes. */
 const MOST = 16_777_216;
 
-/**
- * Where the program that minifies is: as asked, as the environment says (`MINI_APP`), or where a
- * build of this repository leaves it.
- * @param {string} [asked]
- */
-const programPath = (asked) => asked ?? process.env.MINI_APP ?? built("mini_app");
+/** Where a program is: as asked, as the environment says, or where a build leaves it. */
+function pathOf({ crate, variable }, asked) {
+  const built = path.join(__dirname, "..", "..", "crates", crate, "out", crate);
+  return asked ?? process.env[variable] ?? built;
+}
 
-/** Where the program that prints is, likewise (`MINI_TEXT`). */
-const printerPath = (asked) => asked ?? process.env.MINI_TEXT ?? built("mini_text");
+/** Where the program that minifies is. */
+const programPath = (asked) => pathOf(MINIFIER, asked);
+
+/** Where the program that prints is. */
+const printerPath = (asked) => pathOf(PRINTER, asked);
 
 /** The ending of a run that never began or was cut off. */
-function noProgram(where, { error, signal }) {
+function noProgram({ crate, variable }, where, { error, signal }) {
   if (error?.code === "ENOENT") {
-    const name = path.basename(where) === "mini_text" ? "mini_text" : "mini_app";
-    const advice = `build it by \`rt run\` in crates/${name}, or name it in ${name.toUpperCase()}`;
+    const advice = `build it by \`rt run\` in crates/${crate}, or name it in ${variable}`;
     return `there is no program ${where}: ${advice}`;
   }
   return `the program ${where} was ended by ${signal ?? error?.message}`;
 }
 
 /** Runs a program, and gives the name of its status, and what it wrote. */
-function ran(where, words, input) {
+function ran(program, where, words, input) {
   const ended = spawnSync(where, words, { input, maxBuffer: Infinity });
   if (ended.status === null) {
-    return { name: "NoProgram", status: null, output: null, note: noProgram(where, ended) };
+    const note = noProgram(program, where, ended);
+    return { name: "NoProgram", status: null, output: null, note };
   }
   const name = STATUSES[ended.status] ?? "NoProgram";
   const note = ended.stderr.toString().trim();
@@ -60,7 +64,7 @@ function ran(where, words, input) {
  *   as bytes and read, where it is `Done`, and what was written on standard error
  */
 function runProgram(json, words, { program } = {}) {
-  const ended = ran(programPath(program), words, json);
+  const ended = ran(MINIFIER, programPath(program), words, json);
   return { ...ended, answer: ended.output && JSON.parse(ended.output.toString()) };
 }
 
@@ -74,7 +78,7 @@ function runProgram(json, words, { program } = {}) {
  *   `runProgram`; the text is JavaScript, without the newline behind it
  */
 function runPrinter(json, words, { printer } = {}) {
-  const { output, ...ended } = ran(printerPath(printer), words, json);
+  const { output, ...ended } = ran(PRINTER, printerPath(printer), words, json);
   return { ...ended, text: output && output.toString("utf8", 0, output.length - 1) };
 }
 
