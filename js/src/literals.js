@@ -1,5 +1,5 @@
 "use strict";
-/** The shortest text of literals. */
+/** The text of the literals that the proved program doesn't read: the shortest there is. */
 
 const ESCAPES = {
   "\\": "\\\\",
@@ -38,12 +38,6 @@ function quoted(text) {
   return quote + body + quote;
 }
 
-/** A directive, whose text is as it stands in the source. */
-function directive(text) {
-  const quote = /^(?:[^"\\]|\\[^])*"/.test(text) ? "'" : '"';
-  return quote + text + quote;
-}
-
 function shortest(texts) {
   return texts.reduce((best, text) => (text.length < best.length ? text : best));
 }
@@ -76,18 +70,13 @@ function number(value) {
 /** The digits of a BigInt. */
 const bigInt = (value) => shortest([value.toString(), `0x${value.toString(16)}`]);
 
-/** Any literal. */
+/**
+ * A number, a BigInt or a text, as a literal.
+ * @param {{value: unknown, bigint?: string}} node a node of ESTree
+ */
 function literal(node) {
-  if (node.regex) return `/${node.regex.pattern}/${node.regex.flags}`;
   if (node.bigint != null) return `${bigInt(BigInt(node.bigint))}n`;
-  switch (typeof node.value) {
-    case "string":
-      return quoted(node.value);
-    case "number":
-      return number(node.value);
-    default:
-      return String(node.value);
-  }
+  return typeof node.value === "number" ? number(node.value) : quoted(node.value);
 }
 
-module.exports = { directive, literal };
+module.exports = { literal, quoted };
