@@ -10,8 +10,6 @@ mod running;
 pub use laws::{known_stays, lawful_passes_are_faithful};
 pub use mini_estree::{MinifyError, Pointer};
 pub use mini_tree::{CompressOptions, KeepNames, Numbers, OutOfMemory};
-pub use minify::{
-    Minified, Rewritten, minify_estree, minify_tree, minify_value, minify_with, rewrite_once,
-};
+pub use minify::{Minified, minify_estree, minify_value, minify_with, rewrite_once};
 pub use named::{numbers_of, symbols_of};
 pub use running::{Minifier, Rewriting, Status, run, run_read};

@@ -9,7 +9,6 @@ ghost use Rattle.mini_model.specs.declared.place.Position.TheVariants.{Elsewhere
 ghost use Rattle.mini_tree.specs.Context.{KnowsSome, ByKnown, KnowsAsBefore};
 ghost use Rattle.mini_tree.specs.Walk.{Walked};
 ghost use Rattle.mini_writer.specs.Fits.{Fits};
-ghost use Rattle.mini_writer.specs.Written.{program_data};
 ghost use Rattle.mini_laws.specs.References.{references};
 ghost use Rattle.mini_laws.specs.Resolved.{symbols};
 ghost use Rattle.mini_laws.specs.declared.names.Use.TheVariants as variant;
@@ -65,15 +64,6 @@ pub struct Minified {
     pub passes: u32,
     /// Whether the last pass found nothing to rewrite.
     pub settled: bool,
-}
-
-/// An answer, and the tree of its program.
-pub struct Rewritten {
-    /// The answer.
-    pub minified: Minified,
-    /// The tree that the answer's program is written of. Its numbers and symbols are those of the
-    /// input.
-    pub tree: Program,
 }
 
 /// An answer, and what its program weighs before and after.
@@ -392,7 +382,6 @@ fn rewritten<R: Rule<TraverseCtx>>(
     requires { Knows context.old options.now tree.old }
     ensures ok { IfOk result (λ m. IsWritten (R.gives options.now) (R.rests options.now) tree.old options.now.passes m) }
     ensures made { IfOk result (λ m. (r : IsWritten (R.gives options.now) (R.rests options.now) tree.old options.now.passes m) × (r.output ≡ tree.new)) }
-    ensures written { IfOk result (λ m. view m.program ≡ program_data tree.new) }
     ensures plain { IfOk result (λ m. has_float (view m.program) ≡ false) }
 {
     let Passes { passes, settled } = run_passes(rule, alloc, tree, options.passes, context)?;
@@ -418,7 +407,6 @@ fn answer<R: Rule<TraverseCtx>>(
     requires symbols { symbols variant.Read tree.old < 2 ^ 32 }
     requires references { length (references variant.Read tree.old) + 1 < 2 ^ 32 }
     ensures ok { IfOk result (λ m. IsAnswerOf R.gives R.rests tree.old options.now m) }
-    ensures written { IfOk result (λ m. view m.program ≡ program_data tree.new) }
     ensures plain { IfOk result (λ m. has_float (view m.program) ≡ false) }
     ensures refused { IfErr result (λ e. IfSome (fault_of e) (λ f. early_fault tree.old ≡ Some f)) }
 {
@@ -427,38 +415,23 @@ fn answer<R: Rule<TraverseCtx>>(
     Ok(rewritten(rule, alloc, tree, options, &mut context)?)
 }
 
-// The answer for a program as it was read, and its tree.
-fn rewrite_read<R: Rule<TraverseCtx>>(
+// The answer for a program as it was read, which is let go.
+fn minify_read<R: Rule<TraverseCtx>>(
     rule: &R,
     alloc: Global,
     read: Numbered,
     options: &CompressOptions,
-) -> Result<Rewritten, MinifyError>
+) -> Result<Minified, MinifyError>
     requires symbols { symbols variant.Read read.root < 2 ^ 32 }
     requires references { length (references variant.Read read.root) + 1 < 2 ^ 32 }
-    ensures ok { IfOk result (λ r. IsAnswerOf R.gives R.rests read.root options.now r.minified) }
-    ensures written { IfOk result (λ r. view r.minified.program ≡ program_data r.tree) }
-    ensures plain { IfOk result (λ r. has_float (view r.minified.program) ≡ false) }
+    ensures ok { IfOk result (λ m. IsAnswerOf R.gives R.rests read.root options.now m) }
+    ensures plain { IfOk result (λ m. has_float (view m.program) ≡ false) }
     ensures refused { IfErr result (λ e. IfSome (fault_of e) (λ f. early_fault read.root ≡ Some f)) }
 {
-    let Numbered { root, .. } = read;
-    let mut tree = root;
-    match answer(rule, alloc, &mut tree, options) {
-        Ok(minified) => Ok(Rewritten { minified, tree }),
-        Err(error) => {
-            discard(tree);
-            Err(error)
-        }
-    }
-}
-
-// The answer, whose tree is let go.
-fn without_tree(rewritten: Rewritten) -> Minified
-    ensures { result ≡ rewritten.minified }
-{
-    let Rewritten { minified, tree } = rewritten;
-    discard(tree);
-    minified
+    let Numbered { mut root, .. } = read;
+    let made = answer(rule, alloc, &mut root, options);
+    discard(root);
+    made
 }
 
 /// Reads a program from its ESTree value, gives each name in it its symbol, makes passes of a rule
@@ -481,7 +454,7 @@ pub fn minify_with<R: Rule<TraverseCtx>>(
     ensures refused { IfErr result (λ e. IsRefusal (view program.now) options.now e) }
 {
     let read = read_program(alloc, program, options.max_depth)?;
-    Ok(without_tree(rewrite_read(rule, alloc, read, options)?))
+    minify_read(rule, alloc, read, options)
 }
 
 /// Reads a program from its ESTree value, gives each name in it its symbol, rewrites it until
@@ -509,31 +482,9 @@ pub fn minify_estree(
     minify_with(&RULES, alloc, program, options)
 }
 
-/// Minifies a value that is given away, and hands the tree of the answer's program on. The value is
+/// Minifies a value that is given away, as `minify_estree` minifies one that is borrowed. It is
 /// dropped as soon as it is read, so that all that comes after has its memory.
 #[tactic(auto, using(crate::proofs::Refused::refused_by_table))]
-pub fn minify_tree(
-    alloc: Global,
-    program: Value,
-    options: &CompressOptions,
-) -> Result<Rewritten, MinifyError>
-    requires { Fits (view program) }
-    ensures faithful { IfOk result (λ r. Faithful (view program) options.now r.minified) }
-    ensures passes { IfOk result (λ r. PassesBounded (view program) options.now r.minified) }
-    ensures rewritten { IfOk result (λ r. IsMinified (view program) options.now r.minified) }
-    ensures again { IfOk result (λ r. ComesBack options.now r.minified) }
-    ensures written { IfOk result (λ r. view r.minified.program ≡ program_data r.tree) }
-    ensures plain { IfOk result (λ r. has_float (view r.minified.program) ≡ false) }
-    ensures refused { IfErr result (λ e. IsRefusal (view program) options.now e) }
-{
-    let made = read_program(alloc, &program, options.max_depth);
-    drop(program);
-    let read = made?;
-    rewrite_read(&RULES, alloc, read, options)
-}
-
-/// Minifies a value that is given away, as `minify_estree` minifies one that is borrowed. It is
-/// dropped as soon as it is read.
 pub fn minify_value(
     alloc: Global,
     program: Value,
@@ -547,7 +498,10 @@ pub fn minify_value(
     ensures plain { IfOk result (λ m. has_float (view m.program) ≡ false) }
     ensures refused { IfErr result (λ e. IsRefusal (view program) options.now e) }
 {
-    Ok(without_tree(minify_tree(alloc, program, options)?))
+    let made = read_program(alloc, &program, options.max_depth);
+    drop(program);
+    let read = made?;
+    minify_read(&RULES, alloc, read, options)
 }
 
 // The answer for a tree as it was read, with what it weighs before and after.

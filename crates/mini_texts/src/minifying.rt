@@ -1,11 +1,16 @@
 // From a value to the text of its program, minified.
 
+ghost use Rattle.std.specs.Prelude.{◌≡◌, ℕ, Ok, string_bytes, IfOk, IfErr};
 ghost use Rattle.serde_json.specs.View.{view};
-ghost use Rattle.mini_texts.specs.Minified.{minified_task};
+ghost use Rattle.mini_accept.specs.Accept.{program_at};
+ghost use Rattle.mini_cli.specs.Run.{IfTold};
+ghost use Rattle.mini_texts.specs.Minified.{minified_task, IsUnreadAnswer, IsPrintedAnswer, IsUnprintedAnswer};
 
 use crate::printing::print_line;
 use mini_cli::{Answering, Refusal, refuse_unread};
-use mini_peephole::{Rewritten, minify_tree};
+use mini_estree::{Numbered, read_program};
+use mini_node::Node;
+use mini_peephole::{Minified, minify_value};
 use mini_tree::CompressOptions;
 use serde_json::Value;
 use std::alloc::Global;
@@ -19,11 +24,27 @@ pub struct Minifying {
     pub options: CompressOptions,
 }
 
-// The text of an answer's program, with a newline behind it. The answer is let go first.
-fn print_rewritten(alloc: Global, rewritten: Rewritten, spaced: bool) -> Result<String, Refusal>
+// The tree of an answer's program, however deep it nests. The value is let go.
+fn tree_of(alloc: Global, program: Value) -> Result<Node, Refusal>
+    ensures tree { IfOk result (λ tree. (numbers : ℕ) × (program_at 4294967295 (view program) ≡ Ok (tree, numbers))) }
+    ensures refused { IfErr result (λ e. IfTold e (IsUnreadAnswer (view program))) }
 {
-    let Rewritten { minified, tree } = rewritten;
-    drop(minified);
+    match read_program(alloc, &program, 4_294_967_295) {
+        Ok(numbered) => {
+            let Numbered { root, .. } = numbered;
+            Ok(root)
+        }
+        Err(error) => Err(refuse_unread(alloc, &error)),
+    }
+}
+
+// The text of an answer's program, with a newline behind it.
+fn print_answer(alloc: Global, minified: Minified, spaced: bool) -> Result<String, Refusal>
+    ensures printed { IfOk result (λ line. IsPrintedAnswer spaced minified (string_bytes line)) }
+    ensures refused { IfErr result (λ e. IfTold e (IsUnprintedAnswer spaced minified)) }
+{
+    let Minified { program, .. } = minified;
+    let tree = tree_of(alloc, program)?;
     print_line(alloc, tree, spaced)
 }
 
@@ -31,8 +52,8 @@ impl Answering for Minifying {
     ghost task = { λ m. minified_task m.spaced m.options };
 
     fn answer(&self, alloc: Global, value: Value) -> Result<String, Refusal> {
-        match minify_tree(alloc, value, &self.options) {
-            Ok(rewritten) => print_rewritten(alloc, rewritten, self.spaced),
+        match minify_value(alloc, value, &self.options) {
+            Ok(minified) => print_answer(alloc, minified, self.spaced),
             Err(error) => Err(refuse_unread(alloc, &error)),
         }
     }
