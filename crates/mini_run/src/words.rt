@@ -1,9 +1,15 @@
-ghost use Rattle.std.specs.Prelude.{◌≡◌, ◌≢◌, ◌<◌, ◌+◌, ◌∷◌, ◌++◌, ℕ, [], length, map, get_or, string_bytes, MatchOption, OnOk, OnErr};
+ghost use Rattle.std.specs.Prelude.{◌≡◌, ◌≢◌, ◌↔◌, ◌<◌, ◌+◌, ◌∷◌, ◌++◌, ℕ, [], length, map, get_or, string_bytes, IsTrue, MatchOption, OnOk, OnErr};
 ghost use Rattle.mini_run.specs.Words.{Taken};
 
 use mini_model::OutOfMemory;
 use std::alloc::Global;
 use std::marker::Model;
+
+fn is_same(one: &str, other: &str) -> bool
+    ensures { IsTrue result ↔ (one.now ≡ other.now) }
+{
+    one == other
+}
 
 // The first place of a word.
 fn place_of(words: &[String], word: &str) -> Option<usize>
@@ -12,7 +18,7 @@ fn place_of(words: &[String], word: &str) -> Option<usize>
         (λ i. (i < length words.now) × (get_or (map string_bytes words.now) i [] ≡ word.now) × ((k : ℕ) → k < i → get_or (map string_bytes words.now) k [] ≢ word.now)) }
 {
     'words: for (at, each) in words.iter().enumerate() {
-        if each.as_str() == word {
+        if is_same(each.as_str(), word) {
             return Some(at);
         }
     }
