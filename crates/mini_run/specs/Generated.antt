@@ -1,5 +1,5 @@
 -- The script of some statements that is minified where none is read.
-use Rattle.std.specs.Prelude.{ℕ, zero, suc, pos, ◌%◌, ◌++◌, List, [], ◌∷◌, true, false, codes, decimal}
+use Rattle.std.specs.Prelude.{ℕ, zero, suc, pos, ◌+◌, ◌%◌, ◌++◌, List, [], ◌∷◌, true, false, codes, decimal}
 use Rattle.serde_json.specs.Data.{Data}
 use Rattle.mini_model.specs.Texts.{units_of}
 use Rattle.mini_model.specs.declared.operator.BinaryOperator.TheVariants.{Addition, Equality}
