@@ -1,5 +1,5 @@
 -- The text of a program that was minified, and why there is none.
-use Rattle.std.specs.Prelude.{◌≡◌, ◌⊎◌, ℕ, Bool, List, Ok, Err, if◌then◌else◌}
+use Rattle.std.specs.Prelude.{◌≡◌, ◌⊎◌, ℕ, Bool, true, false, List, Ok, Err}
 use Rattle.serde_json.specs.Data.{Data}
 use Rattle.serde_json.specs.View.{view}
 use Rattle.mini_model.specs.Faults.{Fault}
@@ -65,5 +65,9 @@ minified_task spaced o = record { answers = HasMinifiedText spaced o; refuses = 
 -- ---- what is ordered
 
 -- the program is minified, or printed as it is
+abbrev pub task_of : Bool → Bool → CompressOptions → Task
+task_of true spaced o = minified_task spaced o
+task_of false spaced o = text_task (record { spaced = spaced; max_depth = o.max_depth })
+
 abbrev pub ordered_task : TextOrders → Task
-ordered_task o = if o.minify then minified_task o.spaced o.options else text_task (record { spaced = o.spaced; max_depth = o.options.max_depth })
+ordered_task o = task_of o.minify o.spaced o.options

@@ -1,11 +1,10 @@
 // The words of the command line.
 
-ghost use Rattle.std.specs.Prelude.{◌≡◌, ◌↔◌, IsTrue, MatchOption};
-ghost use Rattle.std.specs.List.{AllByRecursion};
+ghost use Rattle.std.specs.Prelude.{◌≡◌, ◌||◌, codes, map, string_bytes, MatchOption};
 ghost use Rattle.mini_run.specs.Words.{NameOrders};
 ghost use Rattle.mini_peephole.specs.Answer.{to_read};
 ghost use Rattle.mini_tree.specs.declared.options.CompressOptions.{CompressOptions};
-ghost use Rattle.mini_texts.specs.Options.{NameTextOrders, IsDepthWord};
+ghost use Rattle.mini_texts.specs.Options.{NameTextOrders, names_depth, all_name_depths};
 ghost use Rattle.mini_texts.specs.declared.options.TextOrders.{TextOrders};
 
 use mini_run::{Words, read_orders};
@@ -43,16 +42,28 @@ fn read_minifying(words: &Words) -> Option<CompressOptions>
     }
 }
 
-// Whether no word is another than one that names a depth.
-fn are_depths(words: &Words) -> bool
-    ensures { IsTrue result ↔ AllByRecursion IsDepthWord words.now }
+// Whether a word begins as one that names a depth.
+#[tactic(auto, using(std::proofs::lemmas::Str::Pattern::starts_text))]
+fn names_depth(word: &str) -> bool
+    ensures { result ≡ names_depth word.now }
 {
-    for word in words.as_slice() {
-        if !word.starts_with("--max-depth=") {
-            return false;
-        }
+    word.starts_with("--max-depth=")
+}
+
+fn all_name_depths(words: &[String]) -> bool
+    ensures { result ≡ all_name_depths (map string_bytes words.now) }
+{
+    match words {
+        [] => true,
+        [word, rest @ ..] => names_depth(word.as_str()) && all_name_depths(rest),
     }
-    true
+}
+
+// Without `--minify` no word of the minifier may stand but a depth.
+fn may_stand(minify: bool, words: &Words) -> bool
+    ensures { result ≡ (minify || all_name_depths words.now) }
+{
+    minify || all_name_depths(words.as_slice())
 }
 
 /// What the words ask for, without memory: `--spaced`, `--minify`, and the words of the minifier but
@@ -63,7 +74,7 @@ pub fn read_text_orders(words: &mut Words) -> Option<TextOrders>
 {
     let spaced = words.take("--spaced");
     let minify = words.take("--minify");
-    if !minify && !are_depths(words) {
+    if !may_stand(minify, words) {
         return None;
     }
     let options = read_minifying(words)?;
