@@ -1,13 +1,14 @@
 -- What the parts of a node tell of its production, by the first and the second.
-use Rattle.std.proofs.Common.{◌≡◌, true, false, refl, sym, [], ◌∷◌}
+use Rattle.std.proofs.Common.{◌≡◌, true, false, refl, sym, ap, [], ◌∷◌, Some}
+use Rattle.std.proofs.lemmas.Option.{none-some, same_Some}
 use Rattle.std.proofs.lemmas.Bool.{false≢true}
 use Rattle.mini_model.specs.declared.operator.AssignmentOperator.TheVariants as assignment
 use Rattle.mini_model.specs.declared.shape.Shape.TheVariants as shape
 use Rattle.mini_model.specs.Tree.{Tree, Trees, node, none, ◌▸◌, shape_of, children, is_absent}
 use Rattle.mini_node.specs.Children.{names_of}
-use Rattle.mini_print.specs.Grammar.{Assignment, PatternAssignment, first_shape, Arrow, ArrowBlock}
-use Rattle.mini_print.specs.Printed.{has_body, second_generates, generates, has_default, has_default_shape, declares_first, is_declaration, first_is_absent, is_absent_shape, first_spelling, first_raw, assigns_first, is_target_shape, part_at, has_items, spelling_of, is_text, is_reference, declares_default, assignment_of, taker, Short, arrow_over, arrow_block_over, only_name, styled}
-use Rattle.mini_grammar.specs.Firsts.{first_tree, second_tree, third_tree, fourth_tree, tree_or_absent, holds_of, is_body, spelling_in, spelling_by, raw_by, text_if, word_by, is_text_shape, is_reference_shape, is_list_of_some, name_of_first, name_of_list}
+use Rattle.mini_print.specs.Grammar.{Assignment, PatternAssignment, first_shape, Arrow, ArrowBlock, New}
+use Rattle.mini_print.specs.Printed.{has_body, second_generates, generates, has_default, has_default_shape, declares_first, is_declaration, first_is_absent, is_absent_shape, first_spelling, first_raw, assigns_first, is_target_shape, part_at, has_items, spelling_of, is_text, is_reference, declares_default, assignment_of, taker, Short, arrow_over, arrow_block_over, only_name, has_no_items, new_over, styled}
+use Rattle.mini_grammar.specs.Firsts.{first_tree, second_tree, third_tree, fourth_tree, tree_or_absent, holds_of, is_body, spelling_in, spelling_by, raw_by, text_if, word_by, is_text_shape, is_reference_shape, is_list_of_some, name_of_first, name_of_list, is_bare_list, has_none_in}
 
 pub generates_by : (ts : Trees) → second_generates ts ≡ holds_of generates (second_tree ts)
 generates_by none = refl
@@ -56,6 +57,10 @@ spelling_is (node h xs n us) = refl
 -- the shape of the first part
 pub shape_first : (t : Tree) (ts : Trees) → first_shape (t ▸ ts) ≡ shape_of t
 shape_first (node h xs n us) ts = refl
+
+pub shape_by : (t : Tree) (ts : Trees) → first_tree ts ≡ Some t → first_shape ts ≡ shape_of t
+shape_by t none e = absurd (none-some t e)
+shape_by t (node h xs n us ▸ ts) e = ap shape_of (same_Some (node h xs n us) t e)
 
 pub assigns_by : (ts : Trees) → assigns_first ts ≡ holds_of is_target_shape (first_tree ts)
 assigns_by none = refl
@@ -148,3 +153,15 @@ arrow_styled (t ▸ ts) = refl
 pub block_styled : (ts : Trees) → styled ArrowBlock Short ts ≡ arrow_block_over (name_of_first (first_tree ts))
 block_styled none = refl
 block_styled (t ▸ ts) = refl
+
+-- a list of nothing
+pub bare_list_by : (t : Tree) → has_no_items t ≡ is_bare_list (shape_of t) (names_of t) (children t)
+bare_list_by (node shape.Listed [] n none) = refl
+bare_list_by (node shape.Listed [] n (t ▸ ts)) = refl
+bare_list_by (node shape.Listed (x ∷ xs) n ts) = refl
+bare_list_by (node h xs n ts) = refl
+
+pub new_styled : (ts : Trees) → styled New Short ts ≡ new_over (has_none_in (second_tree ts))
+new_styled none = refl
+new_styled (t ▸ none) = refl
+new_styled (t ▸ u ▸ ts) = refl

@@ -24,6 +24,7 @@ same_form grammar.SpreadItem = refl
 same_form grammar.Member = refl
 same_form grammar.Index = refl
 same_form grammar.New = refl
+same_form grammar.NewBare = refl
 same_form grammar.Import = refl
 same_form grammar.Call = refl
 same_form (grammar.PropertyName s) = refl

@@ -1,15 +1,15 @@
 -- What tokens, and the parts of a node, begin with.
-use Rattle.std.specs.Prelude.{ℕ, zero, suc, nat_eq, List, [], ◌∷◌, Option, Some, None, pos, negsuc, ℤ, not, codes, Bool, true, false, ◌&&◌, if◌then◌else◌}
+use Rattle.std.specs.Prelude.{ℕ, zero, suc, List, [], ◌∷◌, Option, Some, None, pos, negsuc, ℤ, not, codes, Bool, true, false, ◌&&◌, if◌then◌else◌}
 use Rattle.mini_model.specs.declared.name.Name.{Name}
 use Rattle.mini_model.specs.declared.shape.Shape.{Shape}
 use Rattle.mini_model.specs.declared.shape.Shape.TheVariants as shape
 use Rattle.mini_model.specs.declared.operator.UnaryOperator.TheVariants.{UnaryNegation}
 use Rattle.mini_model.specs.Tree.{Tree, Trees, node, none, ◌▸◌, shape_of, absent, children}
 use Rattle.mini_model.specs.Weight.{same_text}
-use Rattle.mini_print.specs.Token.{Token, Word, Punct, Colon, Quoted, Semicolon, Dot, OptionalDot, Comma}
+use Rattle.mini_print.specs.Token.{Token, Word, Punct, Colon, Quoted, Semicolon, Comma}
 use Rattle.mini_print.specs.Grammar.{Goal, Rule, NumberLiteral, Unary, is_reserved, place}
 use Rattle.mini_node.specs.Children.{names_of}
-use Rattle.mini_print.specs.Printed.{Printer, opens_inside, closes_inside, one_less, is_in, only_name}
+use Rattle.mini_print.specs.Printed.{Printer, only_name, has_no_items}
 use Rattle.mini_model.specs.Position.{assignment_level}
 
 abbrev pub first_of : List Token → Option Token
@@ -103,6 +103,15 @@ abbrev pub name_of_first : Option Tree → Option (List ℕ)
 name_of_first None = None
 name_of_first (Some t) = only_name t
 
+-- a list of nothing, and whether an item is one
+abbrev pub is_bare_list : Shape → List Name → Trees → Bool
+is_bare_list shape.Listed [] none = true
+is_bare_list _ xs ts = false
+
+abbrev pub has_none_in : Option Tree → Bool
+has_none_in None = false
+has_none_in (Some t) = has_no_items t
+
 abbrev pub text_if : (Tree → List ℕ) → Option Tree → List ℕ
 text_if f None = []
 text_if f (Some t) = f t
@@ -143,23 +152,7 @@ abbrev pub is_it_directive : Token → Option Token → Bool
 is_it_directive (Quoted s) (Some (Punct Semicolon)) = true
 is_it_directive x y = false
 
-abbrev pub is_it_dot : Token → Bool
-is_it_dot (Punct Dot) = true
-is_it_dot (Punct OptionalDot) = true
-is_it_dot x = false
-
-abbrev pub is_it_word : Option Token → Bool
-is_it_word (Some (Word s)) = true
-is_it_word x = false
-
 -- an item of a list, and the comma behind it
 abbrev pub laid_item : Goal → Bool → Bool → Printer → List Token → List Token
 laid_item g gaps true k r = if gaps && k.absent then Punct Comma ∷ r else k.one (place g assignment_level) r
 laid_item g gaps false k r = if gaps && k.absent then Punct Comma ∷ r else k.one (place g assignment_level) (Punct Comma ∷ r)
-
--- how deep inside what stands behind a token is, and whether the token is an `in` inside nothing
-abbrev pub depth_behind : ℕ → Token → ℕ
-depth_behind d x = if opens_inside x then suc d else (if closes_inside x then one_less d else d)
-
-abbrev pub is_found : ℕ → Token → Bool
-is_found d x = if opens_inside x then false else (if closes_inside x then false else nat_eq d 0 && is_in x)

@@ -205,6 +205,7 @@ fixed_of fixed.SpreadItem = grammar.SpreadItem
 fixed_of fixed.Member = grammar.Member
 fixed_of fixed.Index = grammar.Index
 fixed_of fixed.New = grammar.New
+fixed_of fixed.NewBare = grammar.NewBare
 fixed_of fixed.Call = grammar.Call
 fixed_of fixed.Import = grammar.Import
 fixed_of fixed.Conditional = grammar.Conditional

@@ -56,12 +56,20 @@ pub const INDEX: [Piece; 4] = [
     Piece::Mark(Punct::RightBracket),
 ];
 
-pub const NEW: [Piece; 5] = [
+pub const NEW: [Piece; 6] = [
     Piece::Word(Keyword::New),
     Piece::Part(Some(Goal::Callee), 16),
+    Piece::Fork,
     Piece::Mark(Punct::LeftParen),
     Piece::Commas(Some(Goal::Element), Least::Zero),
     Piece::Mark(Punct::RightParen),
+];
+
+pub const NEW_BARE: [Piece; 4] = [
+    Piece::Word(Keyword::New),
+    Piece::Part(Some(Goal::Callee), 16),
+    Piece::Fork,
+    Piece::Silent(Silent::NoItems),
 ];
 
 pub const IMPORT: [Piece; 4] = [

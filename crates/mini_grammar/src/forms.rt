@@ -398,6 +398,7 @@ pub fn pieces_of<'a>(rule: Rule<'a>) -> &'static [Piece]
         Rule::Fixed(Fixed::Member) => &expressions::MEMBER,
         Rule::Fixed(Fixed::Index) => &expressions::INDEX,
         Rule::Fixed(Fixed::New) => &expressions::NEW,
+        Rule::Fixed(Fixed::NewBare) => &expressions::NEW_BARE,
         Rule::Fixed(Fixed::Import) => &expressions::IMPORT,
         Rule::Fixed(Fixed::Call) => &expressions::CALL,
         Rule::Postfix(_) => &expressions::POSTFIX,

@@ -140,6 +140,7 @@ pub enum Fixed {
     Member,
     Index,
     New,
+    NewBare,
     Call,
     Import,
     Conditional,

@@ -10,7 +10,7 @@ ghost use Rattle.mini_node.specs.Children.{trees_of, names, names_of};
 ghost use Rattle.mini_print.specs.Grammar as grammar;
 ghost use Rattle.mini_print.specs.Printed as printed;
 ghost use Rattle.mini_print.specs.Grammar.{first_shape, same_flag};
-ghost use Rattle.mini_grammar.specs.Firsts.{first_tree, second_tree, third_tree, fourth_tree, is_body, is_list_of_some, name_text, spelling_by, spelling_in, raw_by, name_of_first, name_of_leaf, name_of_one};
+ghost use Rattle.mini_grammar.specs.Firsts.{first_tree, second_tree, third_tree, fourth_tree, is_body, is_list_of_some, name_text, spelling_by, spelling_in, raw_by, name_of_first, name_of_leaf, name_of_one, is_bare_list, has_none_in};
 ghost use Rattle.mini_grammar.specs.Views.{rule_of};
 
 use crate::grammar::{Fixed, Rule};
@@ -546,14 +546,59 @@ fn short_arrow_block<'a>(parts: &'a [Node]) -> Rule<'a>
     }
 }
 
+fn is_bare(list: &Node) -> bool
+    ensures { result ≡ is_bare_list shape.Listed (names_of list.now) (children list.now) }
+{
+    match list.name() {
+        Some(_) => false,
+        None => match list.parts().split_first() {
+            Some(_) => false,
+            None => true,
+        },
+    }
+}
+
+// Whether a list has nothing.
+#[tactic(auto, using(crate::proofs::Leads::bare_list_by))]
+fn has_no_items(list: &Node) -> bool
+    ensures { result ≡ printed.has_no_items list.now }
+{
+    match list.shape() {
+        Shape::Listed => is_bare(list),
+        _ => false,
+    }
+}
+
+fn has_none_in(parts: &[Node]) -> bool
+    ensures { result ≡ has_none_in (second_tree (trees_of parts.now)) }
+{
+    match second_part(parts) {
+        Some(part) => has_no_items(part),
+        None => false,
+    }
+}
+
+#[tactic(auto, using(crate::proofs::Leads::new_styled))]
+fn short_new<'a>(parts: &[Node]) -> Rule<'a>
+    ensures { rule_of result ≡ printed.styled grammar.New printed.Short (trees_of parts.now) }
+{
+    if has_none_in(parts) {
+        Rule::Fixed(Fixed::NewBare)
+    } else {
+        Rule::Fixed(Fixed::New)
+    }
+}
+
 /// The production in short text of a node whose production elsewhere is this, over these parts: an
-/// arrow function of one name has no parentheses around that.
+/// arrow function of one name has no parentheses around that (ECMA-262, 15.3), and a `new` without
+/// arguments none behind it (13.3.5).
 pub fn short_rule<'a>(rule: Rule<'a>, parts: &'a [Node]) -> Rule<'a>
     ensures { rule_of result ≡ printed.styled (rule_of rule.entry) printed.Short (trees_of parts.now) }
 {
     match rule {
         Rule::Fixed(Fixed::Arrow) => short_arrow(parts),
         Rule::Fixed(Fixed::ArrowBlock) => short_arrow_block(parts),
+        Rule::Fixed(Fixed::New) => short_new(parts),
         _ => rule,
     }
 }

@@ -8,7 +8,7 @@ ghost use Rattle.mini_node.specs.Children.{trees_of, names_of};
 ghost use Rattle.mini_print.specs.Printed as printed;
 ghost use Rattle.mini_print.specs.Grammar as grammar;
 ghost use Rattle.mini_grammar.specs.Firsts.{number_rule};
-ghost use Rattle.mini_grammar.specs.Views.{rule_of, aim_of, goal_of};
+ghost use Rattle.mini_grammar.specs.Views.{rule_of, fixed_of, aim_of, goal_of};
 
 use crate::grammar::{Aim, Fixed, Goal, Rule};
 use crate::parts::{
@@ -33,12 +33,6 @@ fn number_rule<'a>(value: i64) -> Rule<'a>
     }
 }
 
-fn if_rule<'a>(condition: bool, first: Rule<'a>, second: Rule<'a>) -> Rule<'a>
-    ensures { rule_of result ≡ (if condition then rule_of first.entry else rule_of second.entry) }
-{
-    if condition { first } else { second }
-}
-
 // The production of a node with a name.
 fn named_rule<'a>(shape: &Shape, name: &'a Name) -> Option<Rule<'a>>
     ensures { (ts : Trees) → option_map rule_of result ≡ printed.rule_at shape.now (name.now ∷ []) ts }
@@ -50,8 +44,10 @@ fn named_rule<'a>(shape: &Shape, name: &'a Name) -> Option<Rule<'a>>
     }
 }
 
+// ---- the production by the shape alone, as if each part were absent
+
 fn function_rule<'a>(declaration: bool, generator: bool, directives: &TextList) -> Option<Rule<'a>>
-    ensures { (ts : Trees) → option_map rule_of result ≡ printed.rule_at (shape.Function declaration generator directives.now) [] ts }
+    ensures { option_map rule_of result ≡ printed.rule_of (shape.Function declaration generator directives.now) [] }
 {
     if !directives.as_slice().is_empty() {
         return None;
@@ -64,63 +60,39 @@ fn function_rule<'a>(declaration: bool, generator: bool, directives: &TextList) 
     }
 }
 
-fn arrow_rule<'a>(directives: &TextList, parts: &'a [Node]) -> Option<Rule<'a>>
-    ensures { option_map rule_of result ≡ printed.rule_at (shape.ArrowFunctionExpression directives.now) [] (trees_of parts.now) }
+fn arrow_rule<'a>(directives: &TextList) -> Option<Rule<'a>>
+    ensures { option_map rule_of result ≡ printed.rule_of (shape.ArrowFunctionExpression directives.now) [] }
 {
-    if !directives.as_slice().is_empty() {
-        return None;
+    if directives.as_slice().is_empty() {
+        Some(Rule::Fixed(Fixed::Arrow))
+    } else {
+        None
     }
-    Some(if_rule(
-        has_body(parts),
-        Rule::Fixed(Fixed::ArrowBlock),
-        Rule::Fixed(Fixed::Arrow),
-    ))
 }
 
-fn method_rule<'a>(kind: MethodDefinitionKind, computed: bool, parts: &[Node]) -> Option<Rule<'a>>
-    ensures { option_map rule_of result ≡ printed.rule_at (shape.MethodDefinition kind computed false) [] (trees_of parts.now) }
+fn method_rule<'a>(kind: MethodDefinitionKind, computed: bool) -> Option<Rule<'a>>
+    ensures { option_map rule_of result ≡ printed.rule_of (shape.MethodDefinition kind computed false) [] }
 {
     match (kind, computed) {
         (MethodDefinitionKind::Get, false) => Some(Rule::Fixed(Fixed::ClassGetter)),
         (MethodDefinitionKind::Get, true) => Some(Rule::Fixed(Fixed::ClassComputedGetter)),
         (MethodDefinitionKind::Set, false) => Some(Rule::Fixed(Fixed::ClassSetter)),
         (MethodDefinitionKind::Set, true) => Some(Rule::Fixed(Fixed::ClassComputedSetter)),
-        (MethodDefinitionKind::Method, true) => Some(if_rule(
-            second_generates(parts),
-            Rule::Fixed(Fixed::ClassComputedGenerator),
-            Rule::Fixed(Fixed::ClassComputedMethod),
-        )),
-        (MethodDefinitionKind::Method, false) | (MethodDefinitionKind::Constructor, false) => Some(
-            if_rule(
-                second_generates(parts),
-                Rule::Fixed(Fixed::ClassGenerator),
-                Rule::Fixed(Fixed::ClassMethod),
-            ),
+        (MethodDefinitionKind::Method, true) => Some(Rule::Fixed(Fixed::ClassComputedMethod)),
+        (MethodDefinitionKind::Method | MethodDefinitionKind::Constructor, false) => Some(
+            Rule::Fixed(Fixed::ClassMethod),
         ),
         (MethodDefinitionKind::Constructor, true) => None,
     }
 }
 
-fn init_rule<'a>(
-    method: bool,
-    shorthand: bool,
-    computed: bool,
-    parts: &'a [Node],
-) -> Option<Rule<'a>>
-    ensures { option_map rule_of result ≡ printed.rule_at (shape.ObjectProperty kinds.Init method shorthand computed) [] (trees_of parts.now) }
+fn init_rule<'a>(method: bool, shorthand: bool, computed: bool) -> Option<Rule<'a>>
+    ensures { option_map rule_of result ≡ printed.rule_of (shape.ObjectProperty kinds.Init method shorthand computed) [] }
 {
     match (method, shorthand, computed) {
-        (true, false, false) => Some(if_rule(
-            second_generates(parts),
-            Rule::Fixed(Fixed::GeneratorProperty),
-            Rule::Fixed(Fixed::MethodProperty),
-        )),
-        (true, false, true) => Some(if_rule(
-            second_generates(parts),
-            Rule::Fixed(Fixed::ComputedGenerator),
-            Rule::Fixed(Fixed::ComputedMethod),
-        )),
-        (false, true, false) => Some(Rule::Shorthand(first_spelling(parts))),
+        (true, false, false) => Some(Rule::Fixed(Fixed::MethodProperty)),
+        (true, false, true) => Some(Rule::Fixed(Fixed::ComputedMethod)),
+        (false, true, false) => Some(Rule::Shorthand(&[])),
         (false, false, false) => Some(Rule::Fixed(Fixed::KeyValue)),
         (false, false, true) => Some(Rule::Fixed(Fixed::Computed)),
         (true, true, _) | (false, true, true) => None,
@@ -133,7 +105,7 @@ fn accessor_rule<'a>(
     shorthand: bool,
     computed: bool,
 ) -> Option<Rule<'a>>
-    ensures { (ts : Trees) → option_map rule_of result ≡ printed.rule_at (shape.ObjectProperty (if getter then kinds.Get else kinds.Set) method shorthand computed) [] ts }
+    ensures { option_map rule_of result ≡ printed.rule_of (shape.ObjectProperty (if getter then kinds.Get else kinds.Set) method shorthand computed) [] }
 {
     if method || shorthand {
         return None;
@@ -151,29 +123,213 @@ fn property_rule<'a>(
     method: bool,
     shorthand: bool,
     computed: bool,
-    parts: &'a [Node],
 ) -> Option<Rule<'a>>
-    ensures { option_map rule_of result ≡ printed.rule_at (shape.ObjectProperty kind method shorthand computed) [] (trees_of parts.now) }
+    ensures { option_map rule_of result ≡ printed.rule_of (shape.ObjectProperty kind method shorthand computed) [] }
 {
     match kind {
-        PropertyKind::Init => init_rule(method, shorthand, computed, parts),
+        PropertyKind::Init => init_rule(method, shorthand, computed),
         PropertyKind::Get => accessor_rule(true, method, shorthand, computed),
         PropertyKind::Set => accessor_rule(false, method, shorthand, computed),
     }
 }
 
-fn bound_rule<'a>(shorthand: bool, computed: bool, parts: &'a [Node]) -> Option<Rule<'a>>
-    ensures { option_map rule_of result ≡ printed.rule_at (shape.BindingProperty shorthand computed) [] (trees_of parts.now) }
+// The production of a node without a name, by its shape: each name that the production takes from
+// the node's parts is empty, and of two that its parts decide between it is the one.
+fn shape_rule<'a>(shape: &'a Shape) -> Option<Rule<'a>>
+    ensures { option_map rule_of result ≡ printed.rule_of shape.now [] }
 {
-    match (shorthand, computed) {
-        (false, false) => Some(Rule::Fixed(Fixed::BoundKeyValue)),
-        (false, true) => Some(Rule::Fixed(Fixed::BoundComputed)),
-        (true, false) => Some(if_rule(
-            has_default(parts),
-            Rule::BoundDefault(first_spelling(parts)),
-            Rule::BoundShorthand(first_spelling(parts)),
+    match shape {
+        Shape::IdentifierName(text) => Some(Rule::PropertyName(text.as_slice())),
+        Shape::NumericLiteral(value) => Some(number_rule(*value)),
+        Shape::BigIntLiteral(value) => Some(Rule::BigIntLiteral(*value)),
+        Shape::StringLiteral(text) => Some(Rule::TextLiteral(text.as_slice())),
+        Shape::RegExpLiteral(pattern, flags) => Some(Rule::RegExpLiteral(
+            pattern.text().as_slice(),
+            flags.text().as_slice(),
         )),
-        (true, true) => None,
+        Shape::BooleanLiteral(true) => Some(Rule::Fixed(Fixed::True)),
+        Shape::BooleanLiteral(false) => Some(Rule::Fixed(Fixed::False)),
+        Shape::NullLiteral => Some(Rule::Fixed(Fixed::Null)),
+        Shape::ThisExpression => Some(Rule::Fixed(Fixed::This)),
+        Shape::ArrayExpression => Some(Rule::Fixed(Fixed::Array)),
+        Shape::StaticMemberExpression(false) | Shape::PrivateFieldExpression(false) => Some(
+            Rule::Fixed(Fixed::Member),
+        ),
+        Shape::StaticMemberExpression(true) | Shape::PrivateFieldExpression(true) => Some(
+            Rule::Fixed(Fixed::OptionalMember),
+        ),
+        Shape::ComputedMemberExpression(false) => Some(Rule::Fixed(Fixed::Index)),
+        Shape::ComputedMemberExpression(true) => Some(Rule::Fixed(Fixed::OptionalIndex)),
+        Shape::CallExpression(false) => Some(Rule::Fixed(Fixed::Call)),
+        Shape::CallExpression(true) => Some(Rule::Fixed(Fixed::OptionalCall)),
+        Shape::NewExpression => Some(Rule::Fixed(Fixed::New)),
+        Shape::ImportExpression => Some(Rule::Fixed(Fixed::Import)),
+        Shape::UpdateExpression(operator, true) => Some(Rule::Prefix(*operator)),
+        Shape::UpdateExpression(operator, false) => Some(Rule::Postfix(*operator)),
+        Shape::UnaryExpression(operator) => Some(Rule::Unary(*operator)),
+        Shape::BinaryExpression(operator) => Some(Rule::Binary(*operator)),
+        Shape::LogicalExpression(operator) => Some(Rule::Logical(*operator)),
+        Shape::ConditionalExpression => Some(Rule::Fixed(Fixed::Conditional)),
+        Shape::AssignmentExpression(operator) => Some(Rule::Assignment(*operator)),
+        Shape::SequenceExpression => Some(Rule::Fixed(Fixed::Sequence)),
+        Shape::ArrowFunctionExpression(directives) => arrow_rule(directives),
+        Shape::VariableDeclarator => Some(Rule::Fixed(Fixed::Declarator)),
+        Shape::BlockStatement => Some(Rule::Fixed(Fixed::Block)),
+        Shape::VariableDeclaration(kind) => Some(Rule::Variables(*kind)),
+        Shape::EmptyStatement => Some(Rule::Fixed(Fixed::Empty)),
+        Shape::ExpressionStatement => Some(Rule::Fixed(Fixed::ExpressionStatement)),
+        Shape::IfStatement => Some(Rule::Fixed(Fixed::If)),
+        Shape::DoWhileStatement => Some(Rule::Fixed(Fixed::DoWhile)),
+        Shape::WhileStatement => Some(Rule::Fixed(Fixed::While)),
+        Shape::ForStatement => Some(Rule::Fixed(Fixed::For)),
+        Shape::ReturnStatement => Some(Rule::Fixed(Fixed::Return)),
+        Shape::ThrowStatement => Some(Rule::Fixed(Fixed::Throw)),
+        Shape::DebuggerStatement => Some(Rule::Fixed(Fixed::Debugger)),
+        Shape::BreakStatement => Some(Rule::Fixed(Fixed::Break)),
+        Shape::ContinueStatement => Some(Rule::Fixed(Fixed::Continue)),
+        Shape::Function(declaration, generator, directives) => {
+            function_rule(*declaration, *generator, directives)
+        },
+        Shape::FunctionBody => Some(Rule::Fixed(Fixed::FunctionBody)),
+        Shape::YieldExpression(false) => Some(Rule::Fixed(Fixed::Yield)),
+        Shape::YieldExpression(true) => Some(Rule::Fixed(Fixed::YieldFrom)),
+        Shape::SuperStaticMemberExpression => Some(Rule::Fixed(Fixed::SuperMember)),
+        Shape::SuperComputedMemberExpression => Some(Rule::Fixed(Fixed::SuperIndex)),
+        Shape::SuperCallExpression => Some(Rule::Fixed(Fixed::SuperCall)),
+        Shape::MetaProperty(MetaPropertyKind::NewTarget) => Some(Rule::Fixed(Fixed::NewTarget)),
+        Shape::MetaProperty(MetaPropertyKind::ImportMeta) => Some(Rule::Fixed(Fixed::ImportMeta)),
+        Shape::PrivateIdentifier(text) => Some(Rule::PrivateName(text.as_slice())),
+        Shape::PrivateInExpression => Some(Rule::PrivateIn(&[])),
+        Shape::LabeledStatement => Some(Rule::Label(&[])),
+        Shape::SwitchStatement => Some(Rule::Fixed(Fixed::Switch)),
+        Shape::SwitchCase => Some(Rule::Fixed(Fixed::Case)),
+        Shape::TryStatement => Some(Rule::Fixed(Fixed::Try)),
+        Shape::CatchClause => Some(Rule::Fixed(Fixed::CatchParam)),
+        Shape::ObjectProperty(kind, method, shorthand, computed) => {
+            property_rule(*kind, *method, *shorthand, *computed)
+        },
+        Shape::ForInStatement => Some(Rule::Fixed(Fixed::ForIn)),
+        Shape::ForOfStatement => Some(Rule::Fixed(Fixed::ForOf)),
+        Shape::ObjectPattern => Some(Rule::Fixed(Fixed::ObjectPattern)),
+        Shape::ArrayPattern => Some(Rule::Fixed(Fixed::ArrayPattern)),
+        Shape::RestElement => Some(Rule::Fixed(Fixed::Rest)),
+        Shape::BindingProperty(false, false) => Some(Rule::Fixed(Fixed::BoundKeyValue)),
+        Shape::BindingProperty(false, true) => Some(Rule::Fixed(Fixed::BoundComputed)),
+        Shape::BindingProperty(true, false) => Some(Rule::BoundShorthand(&[])),
+        Shape::ObjectExpression => Some(Rule::Fixed(Fixed::Object)),
+        Shape::SpreadElement => Some(Rule::Fixed(Fixed::Spread)),
+        Shape::TemplateLiteral => Some(Rule::Template(&[])),
+        Shape::TemplateElement(false, raw, _) => Some(Rule::MiddlePiece(raw.text().as_slice())),
+        Shape::TemplateElement(true, raw, _) => Some(Rule::TailPiece(raw.text().as_slice())),
+        Shape::TaggedTemplateExpression => Some(Rule::Fixed(Fixed::TaggedTemplate)),
+        Shape::ChainExpression => Some(Rule::Fixed(Fixed::Chain)),
+        Shape::Class(false) => Some(Rule::Fixed(Fixed::ClassPlain)),
+        Shape::Class(true) => Some(Rule::ClassDeclared(&[])),
+        Shape::ClassBody => Some(Rule::Fixed(Fixed::ClassBody)),
+        Shape::MethodDefinition(_, _, true) | Shape::PropertyDefinition(_, true) => Some(
+            Rule::Fixed(Fixed::StaticElement),
+        ),
+        Shape::MethodDefinition(kind, computed, false) => method_rule(*kind, *computed),
+        Shape::PropertyDefinition(false, false) => Some(Rule::Fixed(Fixed::Field)),
+        Shape::PropertyDefinition(true, false) => Some(Rule::Fixed(Fixed::ComputedField)),
+        Shape::StaticBlock => Some(Rule::Fixed(Fixed::StaticInit)),
+        Shape::AssignmentPattern => Some(Rule::Fixed(Fixed::Defaulted)),
+        Shape::ArrayAssignmentTarget => Some(Rule::Fixed(Fixed::ArrayTarget)),
+        Shape::ObjectAssignmentTarget => Some(Rule::Fixed(Fixed::ObjectTarget)),
+        Shape::AssignmentTargetPropertyIdentifier => Some(Rule::TargetShorthand(&[])),
+        Shape::AssignmentTargetPropertyProperty(false) => Some(Rule::Fixed(Fixed::TargetKeyValue)),
+        Shape::AssignmentTargetPropertyProperty(true) => Some(Rule::Fixed(Fixed::TargetComputed)),
+        Shape::ImportDeclaration => Some(Rule::ImportBare(&[])),
+        Shape::ImportSpecifier => Some(Rule::Fixed(Fixed::ImportAs)),
+        Shape::ExportNamedDeclaration => Some(Rule::Fixed(Fixed::ExportDeclared)),
+        Shape::ExportSpecifier => Some(Rule::Fixed(Fixed::ForwardAs)),
+        Shape::ExportDefaultDeclaration => Some(Rule::Fixed(Fixed::ExportValue)),
+        Shape::ExportAllDeclaration => Some(Rule::Fixed(Fixed::ExportAll)),
+        Shape::Program(_, _)
+        | Shape::Absent
+        | Shape::Listed
+        | Shape::InnerExpression
+        | Shape::Super
+        | Shape::Identifier
+        | Shape::BindingIdentifier
+        | Shape::BindingProperty(true, true)
+        | Shape::ImportDefaultSpecifier
+        | Shape::ImportNamespaceSpecifier => None,
+    }
+}
+
+// ---- the productions that parts decide between
+
+fn either<'a>(condition: bool, first: Fixed, second: Fixed) -> Rule<'a>
+    ensures { rule_of result ≡ (if condition then fixed_of first else fixed_of second) }
+{
+    if condition {
+        Rule::Fixed(first)
+    } else {
+        Rule::Fixed(second)
+    }
+}
+
+fn class_rule<'a>(parts: &'a [Node]) -> Rule<'a>
+    ensures { rule_of result ≡ printed.class_of (printed.first_is_absent (trees_of parts.now)) (printed.first_spelling (trees_of parts.now)) }
+{
+    if first_is_absent(parts) {
+        Rule::Fixed(Fixed::ClassPlain)
+    } else {
+        Rule::ClassNamed(first_spelling(parts))
+    }
+}
+
+fn declared_class_rule<'a>(parts: &'a [Node]) -> Rule<'a>
+    ensures { rule_of result ≡ printed.declared_class_of (printed.first_is_absent (trees_of parts.now)) (printed.first_spelling (trees_of parts.now)) }
+{
+    if first_is_absent(parts) {
+        Rule::Fixed(Fixed::DefaultClass)
+    } else {
+        Rule::ClassDeclared(first_spelling(parts))
+    }
+}
+
+fn bound_rule<'a>(parts: &'a [Node]) -> Rule<'a>
+    ensures { rule_of result ≡ printed.bound_of (printed.has_default (trees_of parts.now)) (printed.first_spelling (trees_of parts.now)) }
+{
+    let name = first_spelling(parts);
+    if has_default(parts) {
+        Rule::BoundDefault(name)
+    } else {
+        Rule::BoundShorthand(name)
+    }
+}
+
+fn target_rule<'a>(parts: &'a [Node]) -> Rule<'a>
+    ensures { rule_of result ≡ printed.target_of (printed.has_default (trees_of parts.now)) (printed.first_spelling (trees_of parts.now)) }
+{
+    let name = first_spelling(parts);
+    if has_default(parts) {
+        Rule::TargetDefault(name)
+    } else {
+        Rule::TargetShorthand(name)
+    }
+}
+
+fn template_rule<'a>(parts: &'a [Node]) -> Rule<'a>
+    ensures { rule_of result ≡ printed.template_of (printed.is_one (trees_of parts.now)) (printed.first_raw (trees_of parts.now)) }
+{
+    let raw = first_raw(parts);
+    if is_one(parts) {
+        Rule::WholeTemplate(raw)
+    } else {
+        Rule::Template(raw)
+    }
+}
+
+fn import_item_rule<'a>(parts: &'a [Node]) -> Rule<'a>
+    ensures { rule_of result ≡ printed.import_item_of (printed.is_repeated (trees_of parts.now)) (printed.first_spelling (trees_of parts.now)) }
+{
+    if is_repeated(parts) {
+        Rule::ImportShort(first_spelling(parts))
+    } else {
+        Rule::Fixed(Fixed::ImportAs)
     }
 }
 
@@ -243,187 +399,80 @@ fn export_item_rule<'a>(parts: &'a [Node]) -> Rule<'a>
     }
 }
 
+// ---- the production over its parts
+
+// The same of a production that is always of the same text.
+fn fixed_over<'a>(rule: Fixed, parts: &'a [Node]) -> Rule<'a>
+    ensures { rule_of result ≡ printed.chosen (trees_of parts.now) (fixed_of rule) }
+{
+    match rule {
+        Fixed::Arrow => either(has_body(parts), Fixed::ArrowBlock, Fixed::Arrow),
+        Fixed::ClassPlain => class_rule(parts),
+        Fixed::ClassMethod => either(
+            second_generates(parts),
+            Fixed::ClassGenerator,
+            Fixed::ClassMethod,
+        ),
+        Fixed::ClassComputedMethod => either(
+            second_generates(parts),
+            Fixed::ClassComputedGenerator,
+            Fixed::ClassComputedMethod,
+        ),
+        Fixed::Defaulted => element_rule(parts),
+        Fixed::Rest => rest_rule(parts),
+        Fixed::Yield => either(first_is_absent(parts), Fixed::YieldBare, Fixed::Yield),
+        Fixed::For => either(declares_first(parts), Fixed::ForDeclared, Fixed::For),
+        Fixed::ForIn => for_in_rule(parts),
+        Fixed::ForOf => for_of_rule(parts),
+        Fixed::MethodProperty => either(
+            second_generates(parts),
+            Fixed::GeneratorProperty,
+            Fixed::MethodProperty,
+        ),
+        Fixed::ComputedMethod => either(
+            second_generates(parts),
+            Fixed::ComputedGenerator,
+            Fixed::ComputedMethod,
+        ),
+        Fixed::Case => either(first_is_absent(parts), Fixed::DefaultCase, Fixed::Case),
+        Fixed::CatchParam => either(first_is_absent(parts), Fixed::CatchBare, Fixed::CatchParam),
+        Fixed::ImportAs => import_item_rule(parts),
+        Fixed::ForwardAs => export_item_rule(parts),
+        Fixed::ExportDeclared => export_rule(parts),
+        Fixed::ExportValue => either(
+            declares_default(parts),
+            Fixed::ExportDefault,
+            Fixed::ExportValue,
+        ),
+        _ => Rule::Fixed(rule),
+    }
+}
+
+// The production over these parts of a node whose shape has this one.
+fn over_parts<'a>(rule: Rule<'a>, parts: &'a [Node]) -> Rule<'a>
+    ensures { rule_of result ≡ printed.chosen (trees_of parts.now) (rule_of rule.entry) }
+{
+    match rule {
+        Rule::Fixed(rule) => fixed_over(rule, parts),
+        Rule::Label(_) => Rule::Label(first_spelling(parts)),
+        Rule::PrivateIn(_) => Rule::PrivateIn(first_spelling(parts)),
+        Rule::BoundShorthand(_) => bound_rule(parts),
+        Rule::Shorthand(_) => Rule::Shorthand(first_spelling(parts)),
+        Rule::Template(_) => template_rule(parts),
+        Rule::ClassDeclared(_) => declared_class_rule(parts),
+        Rule::Assignment(operator) => assignment_rule(operator, parts),
+        Rule::TargetShorthand(_) => target_rule(parts),
+        Rule::ImportBare(_) => import_rule(parts),
+        _ => rule,
+    }
+}
+
 // The production of a node without a name.
 fn nameless_rule<'a>(shape: &'a Shape, parts: &'a [Node]) -> Option<Rule<'a>>
     ensures { option_map rule_of result ≡ printed.rule_at shape.now [] (trees_of parts.now) }
 {
-    match shape {
-        Shape::IdentifierName(text) => Some(Rule::PropertyName(text.as_slice())),
-        Shape::NumericLiteral(value) => Some(number_rule(*value)),
-        Shape::BigIntLiteral(value) => Some(Rule::BigIntLiteral(*value)),
-        Shape::StringLiteral(text) => Some(Rule::TextLiteral(text.as_slice())),
-        Shape::RegExpLiteral(pattern, flags) => Some(Rule::RegExpLiteral(
-            pattern.text().as_slice(),
-            flags.text().as_slice(),
-        )),
-        Shape::BooleanLiteral(value) => Some(if_rule(
-            *value,
-            Rule::Fixed(Fixed::True),
-            Rule::Fixed(Fixed::False),
-        )),
-        Shape::NullLiteral => Some(Rule::Fixed(Fixed::Null)),
-        Shape::ThisExpression => Some(Rule::Fixed(Fixed::This)),
-        Shape::ArrayExpression => Some(Rule::Fixed(Fixed::Array)),
-        Shape::StaticMemberExpression(optional) | Shape::PrivateFieldExpression(optional) => Some(
-            if_rule(
-                *optional,
-                Rule::Fixed(Fixed::OptionalMember),
-                Rule::Fixed(Fixed::Member),
-            ),
-        ),
-        Shape::ComputedMemberExpression(optional) => Some(if_rule(
-            *optional,
-            Rule::Fixed(Fixed::OptionalIndex),
-            Rule::Fixed(Fixed::Index),
-        )),
-        Shape::CallExpression(optional) => Some(if_rule(
-            *optional,
-            Rule::Fixed(Fixed::OptionalCall),
-            Rule::Fixed(Fixed::Call),
-        )),
-        Shape::NewExpression => Some(Rule::Fixed(Fixed::New)),
-        Shape::ImportExpression => Some(Rule::Fixed(Fixed::Import)),
-        Shape::UpdateExpression(operator, prefix) => Some(if_rule(
-            *prefix,
-            Rule::Prefix(*operator),
-            Rule::Postfix(*operator),
-        )),
-        Shape::UnaryExpression(operator) => Some(Rule::Unary(*operator)),
-        Shape::BinaryExpression(operator) => Some(Rule::Binary(*operator)),
-        Shape::LogicalExpression(operator) => Some(Rule::Logical(*operator)),
-        Shape::ConditionalExpression => Some(Rule::Fixed(Fixed::Conditional)),
-        Shape::AssignmentExpression(operator) => Some(assignment_rule(*operator, parts)),
-        Shape::SequenceExpression => Some(Rule::Fixed(Fixed::Sequence)),
-        Shape::ArrowFunctionExpression(directives) => arrow_rule(directives, parts),
-        Shape::VariableDeclarator => Some(Rule::Fixed(Fixed::Declarator)),
-        Shape::BlockStatement => Some(Rule::Fixed(Fixed::Block)),
-        Shape::VariableDeclaration(kind) => Some(Rule::Variables(*kind)),
-        Shape::EmptyStatement => Some(Rule::Fixed(Fixed::Empty)),
-        Shape::ExpressionStatement => Some(Rule::Fixed(Fixed::ExpressionStatement)),
-        Shape::IfStatement => Some(Rule::Fixed(Fixed::If)),
-        Shape::DoWhileStatement => Some(Rule::Fixed(Fixed::DoWhile)),
-        Shape::WhileStatement => Some(Rule::Fixed(Fixed::While)),
-        Shape::ForStatement => Some(if_rule(
-            declares_first(parts),
-            Rule::Fixed(Fixed::ForDeclared),
-            Rule::Fixed(Fixed::For),
-        )),
-        Shape::ReturnStatement => Some(Rule::Fixed(Fixed::Return)),
-        Shape::ThrowStatement => Some(Rule::Fixed(Fixed::Throw)),
-        Shape::DebuggerStatement => Some(Rule::Fixed(Fixed::Debugger)),
-        Shape::BreakStatement => Some(Rule::Fixed(Fixed::Break)),
-        Shape::ContinueStatement => Some(Rule::Fixed(Fixed::Continue)),
-        Shape::Function(declaration, generator, directives) => {
-            function_rule(*declaration, *generator, directives)
-        }
-        Shape::FunctionBody => Some(Rule::Fixed(Fixed::FunctionBody)),
-        Shape::YieldExpression(false) => Some(if_rule(
-            first_is_absent(parts),
-            Rule::Fixed(Fixed::YieldBare),
-            Rule::Fixed(Fixed::Yield),
-        )),
-        Shape::YieldExpression(true) => Some(Rule::Fixed(Fixed::YieldFrom)),
-        Shape::SuperStaticMemberExpression => Some(Rule::Fixed(Fixed::SuperMember)),
-        Shape::SuperComputedMemberExpression => Some(Rule::Fixed(Fixed::SuperIndex)),
-        Shape::SuperCallExpression => Some(Rule::Fixed(Fixed::SuperCall)),
-        Shape::MetaProperty(MetaPropertyKind::NewTarget) => Some(Rule::Fixed(Fixed::NewTarget)),
-        Shape::MetaProperty(MetaPropertyKind::ImportMeta) => Some(Rule::Fixed(Fixed::ImportMeta)),
-        Shape::PrivateIdentifier(text) => Some(Rule::PrivateName(text.as_slice())),
-        Shape::PrivateInExpression => Some(Rule::PrivateIn(first_spelling(parts))),
-        Shape::LabeledStatement => Some(Rule::Label(first_spelling(parts))),
-        Shape::SwitchStatement => Some(Rule::Fixed(Fixed::Switch)),
-        Shape::SwitchCase => Some(if_rule(
-            first_is_absent(parts),
-            Rule::Fixed(Fixed::DefaultCase),
-            Rule::Fixed(Fixed::Case),
-        )),
-        Shape::TryStatement => Some(Rule::Fixed(Fixed::Try)),
-        Shape::CatchClause => Some(if_rule(
-            first_is_absent(parts),
-            Rule::Fixed(Fixed::CatchBare),
-            Rule::Fixed(Fixed::CatchParam),
-        )),
-        Shape::ObjectProperty(kind, method, shorthand, computed) => property_rule(
-            *kind, *method, *shorthand, *computed, parts,
-        ),
-        Shape::ForInStatement => Some(for_in_rule(parts)),
-        Shape::ForOfStatement => Some(for_of_rule(parts)),
-        Shape::ObjectPattern => Some(Rule::Fixed(Fixed::ObjectPattern)),
-        Shape::ArrayPattern => Some(Rule::Fixed(Fixed::ArrayPattern)),
-        Shape::RestElement => Some(rest_rule(parts)),
-        Shape::BindingProperty(shorthand, computed) => bound_rule(*shorthand, *computed, parts),
-        Shape::ObjectExpression => Some(Rule::Fixed(Fixed::Object)),
-        Shape::SpreadElement => Some(Rule::Fixed(Fixed::Spread)),
-        Shape::TemplateLiteral => Some(if_rule(
-            is_one(parts),
-            Rule::WholeTemplate(first_raw(parts)),
-            Rule::Template(first_raw(parts)),
-        )),
-        Shape::TemplateElement(tail, raw, _) => Some(if_rule(
-            *tail,
-            Rule::TailPiece(raw.text().as_slice()),
-            Rule::MiddlePiece(raw.text().as_slice()),
-        )),
-        Shape::TaggedTemplateExpression => Some(Rule::Fixed(Fixed::TaggedTemplate)),
-        Shape::ChainExpression => Some(Rule::Fixed(Fixed::Chain)),
-        Shape::Class(true) => Some(if_rule(
-            first_is_absent(parts),
-            Rule::Fixed(Fixed::DefaultClass),
-            Rule::ClassDeclared(first_spelling(parts)),
-        )),
-        Shape::Class(false) => Some(if_rule(
-            first_is_absent(parts),
-            Rule::Fixed(Fixed::ClassPlain),
-            Rule::ClassNamed(first_spelling(parts)),
-        )),
-        Shape::ClassBody => Some(Rule::Fixed(Fixed::ClassBody)),
-        Shape::MethodDefinition(_, _, true) | Shape::PropertyDefinition(_, true) => Some(
-            Rule::Fixed(Fixed::StaticElement),
-        ),
-        Shape::MethodDefinition(kind, computed, false) => method_rule(*kind, *computed, parts),
-        Shape::PropertyDefinition(computed, false) => Some(if_rule(
-            *computed,
-            Rule::Fixed(Fixed::ComputedField),
-            Rule::Fixed(Fixed::Field),
-        )),
-        Shape::StaticBlock => Some(Rule::Fixed(Fixed::StaticInit)),
-        Shape::AssignmentPattern => Some(element_rule(parts)),
-        Shape::ArrayAssignmentTarget => Some(Rule::Fixed(Fixed::ArrayTarget)),
-        Shape::ObjectAssignmentTarget => Some(Rule::Fixed(Fixed::ObjectTarget)),
-        Shape::AssignmentTargetPropertyIdentifier => Some(if_rule(
-            has_default(parts),
-            Rule::TargetDefault(first_spelling(parts)),
-            Rule::TargetShorthand(first_spelling(parts)),
-        )),
-        Shape::AssignmentTargetPropertyProperty(computed) => Some(if_rule(
-            *computed,
-            Rule::Fixed(Fixed::TargetComputed),
-            Rule::Fixed(Fixed::TargetKeyValue),
-        )),
-        Shape::ImportDeclaration => Some(import_rule(parts)),
-        Shape::ImportSpecifier => Some(if_rule(
-            is_repeated(parts),
-            Rule::ImportShort(first_spelling(parts)),
-            Rule::Fixed(Fixed::ImportAs),
-        )),
-        Shape::ExportNamedDeclaration => Some(export_rule(parts)),
-        Shape::ExportSpecifier => Some(export_item_rule(parts)),
-        Shape::ExportDefaultDeclaration => Some(if_rule(
-            declares_default(parts),
-            Rule::Fixed(Fixed::ExportDefault),
-            Rule::Fixed(Fixed::ExportValue),
-        )),
-        Shape::ExportAllDeclaration => Some(Rule::Fixed(Fixed::ExportAll)),
-        Shape::Program(_, _)
-        | Shape::Absent
-        | Shape::Listed
-        | Shape::InnerExpression
-        | Shape::Super
-        | Shape::Identifier
-        | Shape::BindingIdentifier
-        | Shape::ImportDefaultSpecifier
-        | Shape::ImportNamespaceSpecifier => None,
-    }
+    let rule = shape_rule(shape)?;
+    Some(over_parts(rule, parts))
 }
 
 // The production in a goal of a node whose production elsewhere is this.

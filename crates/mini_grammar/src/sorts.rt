@@ -255,6 +255,7 @@ fn fixed_sort(rule: Fixed) -> Sort
         | Fixed::Member
         | Fixed::Index
         | Fixed::New
+        | Fixed::NewBare
         | Fixed::Call
         | Fixed::Import => Sort::Values,
         Fixed::Conditional

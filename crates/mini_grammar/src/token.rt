@@ -163,11 +163,6 @@ impl<'a> Tokens<'a> {
         self.items.len()
     }
 
-    /// The allocator that the list was made with.
-    pub fn allocator(&self) -> Global {
-        *self.items.allocator()
-    }
-
     /// Puts a token before the others. After `OutOfMemory` they are as they were.
     #[tactic(auto, using(crate::proofs::Before::one_more))]
     pub fn push(&mut self, token: Token<'a>) -> Result<(), OutOfMemory>

@@ -9,7 +9,7 @@ use Rattle.mini_model.specs.declared.operator.UnaryOperator.TheVariants as unary
 use Rattle.mini_model.specs.declared.operator.UpdateOperator.TheVariants.{Increment, Decrement}
 use Rattle.mini_model.specs.Tree.{Tree, Trees}
 use Rattle.mini_print.specs.Token.{Token, Word, Punct, Comma, Semicolon, RightParen, RightBracket, RightBrace, Arrow as ArrowToken, LeftBrace, Times, Dot, Colon, LeftParen, Quoted, Number, OptionalDot, LeftBracket, Private, Assigns, Ellipsis, TemplateMiddle, TemplateTail}
-use Rattle.mini_print.specs.Grammar.{Goal, Anything, WithoutIn, Callee, Body, Element, ArrowBlock, FunctionBody, NoBrace, permits, is_left_brace, Sort, Values, Statements, Properties, Bodies, sort, heir, Place, Rule, Parenthesized, Arrow, Prefix, Unary, Variables, Zero, One, Two, Gaps, Equals, Part, token, left, part, commas, lookahead, form, level, is_of, excluded, NewTarget, Yield, YieldFrom, GeneratorExpression, GeneratorDeclaration, CatchParam, CatchBare, Catches, is_allowed, same_sort, rule_sort, New, FunctionExpression, FunctionDeclaration, CatchParam, perhaps, option, statements, unwritten, BoundKeyValue, BoundShorthand, Shorthand, BoundProperties, KeyValue, has, ends_property, is_colon_next, ForIn, ForOf, ForDeclared, ForDeclaredIn, ForDeclaredOf, HeadVariables, fork, For, is_word_of, MethodProperty, Getter, Setter, GeneratorProperty, MethodFunction, GeneratorMethod, Methods, GeneratorMethods, Key, KeyWord, KeyText, KeyNumber, KeyName, Chain, FirstMember, FirstCall, LinkCall, OptionalMember, Link, FirstLinks, Links, Defaulted, BoundDefault, ComputedMethod, ComputedGenerator, BoundElements, Computed, Rest, ClassPlain, ClassMethod, ClassComputedMethod, ClassGenerator, ClassComputedGenerator, ClassGetter, ClassComputedGetter, ClassSetter, ClassComputedSetter, Field, ComputedField, StaticElement, StaticInit, PrivateKey, ClassKey, ClassElements, ArrayTarget, ObjectTarget, PatternItem, ValueItem, PatternRest, ValueRest, TargetShorthand, TargetDefault, TargetKeyValue, PatternAssignment, TargetPattern, Target, TargetElements, TargetProperties, Object, Array, YieldBare, ends_yield, Declarations, DefaultDeclarations, ImportItems, ExportItems, ForwardItems, ImportDefault, ImportDefaultNames, ImportDefaultNamespace, ImportShort, ImportAs, ExportNames, ExportFrom, ExportDeclared, ExportValue, ExportDefault, ExportShort, ForwardName, ForwardText, ForwardAs, DeclaredVariables, DeclaredFunction, DefaultFunction, DefaultClass, ForPatternIn, ForPatternOf, semicolon, inserts, ArrowName, ArrowNameBlock, Reference, is_reserved}
+use Rattle.mini_print.specs.Grammar.{Goal, Anything, WithoutIn, Callee, Body, Element, ArrowBlock, FunctionBody, NoBrace, permits, is_left_brace, Sort, Values, Statements, Properties, Bodies, sort, heir, Place, Rule, Parenthesized, Arrow, Prefix, Unary, Variables, Zero, One, Two, Gaps, Equals, Part, token, left, part, commas, lookahead, form, level, is_of, excluded, NewTarget, Yield, YieldFrom, GeneratorExpression, GeneratorDeclaration, CatchParam, CatchBare, Catches, is_allowed, same_sort, rule_sort, New, FunctionExpression, FunctionDeclaration, CatchParam, perhaps, option, statements, unwritten, BoundKeyValue, BoundShorthand, Shorthand, BoundProperties, KeyValue, has, ends_property, is_colon_next, ForIn, ForOf, ForDeclared, ForDeclaredIn, ForDeclaredOf, HeadVariables, fork, For, is_word_of, MethodProperty, Getter, Setter, GeneratorProperty, MethodFunction, GeneratorMethod, Methods, GeneratorMethods, Key, KeyWord, KeyText, KeyNumber, KeyName, Chain, FirstMember, FirstCall, LinkCall, OptionalMember, Link, FirstLinks, Links, Defaulted, BoundDefault, ComputedMethod, ComputedGenerator, BoundElements, Computed, Rest, ClassPlain, ClassMethod, ClassComputedMethod, ClassGenerator, ClassComputedGenerator, ClassGetter, ClassComputedGetter, ClassSetter, ClassComputedSetter, Field, ComputedField, StaticElement, StaticInit, PrivateKey, ClassKey, ClassElements, ArrayTarget, ObjectTarget, PatternItem, ValueItem, PatternRest, ValueRest, TargetShorthand, TargetDefault, TargetKeyValue, PatternAssignment, TargetPattern, Target, TargetElements, TargetProperties, Object, Array, YieldBare, ends_yield, Declarations, DefaultDeclarations, ImportItems, ExportItems, ForwardItems, ImportDefault, ImportDefaultNames, ImportDefaultNamespace, ImportShort, ImportAs, ExportNames, ExportFrom, ExportDeclared, ExportValue, ExportDefault, ExportShort, ForwardName, ForwardText, ForwardAs, DeclaredVariables, DeclaredFunction, DefaultFunction, DefaultClass, ForPatternIn, ForPatternOf, semicolon, inserts, ArrowName, ArrowNameBlock, Reference, is_reserved, NewBare}
 use Rattle.mini_print.specs.Groups.{Groups, by_rule, Row, end, a_token, a_left, a_part, a_list, a_lookahead, present, missing, with, without, a_silent, a_semicolon, inserted}
 use Rattle.mini_print.specs.Printed.{is_statements}
 use Rattle.mini_print.proofs.Reader.{start_at, arrow_rule, is_brace_next, prefix, power, next_power, ends, is_left_paren, is_arrow_next, tail, bars, is_star_next, is_dot_next, is_paren_next, statement_at, property_at, bound_at, end_words, is_word_next, accessor, first_link, optional_link, link_at, is_equals_next, is_bracket_next, computed_accessor, is_name_end, class_rule, keyed_member, worded_member, member_at, rest_element, element_at, target_property_at, keyword_at, name_or_arrow}
@@ -192,8 +192,11 @@ pub arrow_name_block_begins : (s : List ℕ) {g : Goal} {ks : Trees} {ts r : Lis
 arrow_name_block_begins s (a_token g x _ _ _ _ (a_token _ y _ _ us _ (a_silent _ _ _ _ _ _ (a_part _ _ _ _ _ _ _ _ _ _ c d)))) v e =
     value_prefix g (x ∷ y ∷ us) v ∙ named s (y ∷ us) e ∙ ap (λ b. Some (if b then ArrowNameBlock s else ArrowName s)) (body_brace refl c)
 
+pub new_starts : (g : Goal) (us : List Token) → is_values (sort g) ≡ true → bars us ≡ false → prefix (sort g) (Word (codes "new") ∷ us) ≡ Some New
+new_starts g us v b = value_prefix g (Word (codes "new") ∷ us) v ∙ ap (λ b. Some (if b then NewTarget else New)) (not_dot us b)
+
 pub new_begins : {g : Goal} {ks : Trees} {ts r : List Token} → Row g (form New) ks ts r → is_values (sort g) ≡ true → prefix (sort g) ts ≡ Some New
-new_begins (a_token g x ps ks _ r (a_part _ _ _ _ _ k _ ts _ _ c d)) v = value_prefix g (x ∷ ts) v ∙ ap (λ b. Some (if b then NewTarget else New)) (not_dot ts (first_open c))
+new_begins (a_token g x ps ks _ r (a_part _ _ _ _ _ k _ ts _ _ c d)) v = new_starts g ts v (first_open c)
 
 pub yield_goes_on : (ts : List Token) → bars ts ≡ false → ends_yield ts ≡ false
 yield_goes_on [] e = absurd (false≢true (sym e))
@@ -618,6 +621,7 @@ specially DefaultFunction e f {g} {ks} {ts} d v q X = ap (λ s. prefix s ts) (of
 specially DefaultClass e f {g} {ks} {ts} d v q X = ap (λ s. prefix s ts) (of_sort (sort g) DefaultDeclarations (sorted (sort g) DefaultClass v)) ∙ default_class_begins d
 specially ForPatternIn e f {g} {ks} {ts} d v q X = ap (λ s. prefix s ts) (of_sort (sort g) Statements (sorted (sort g) ForPatternIn v)) ∙ pattern_in_begins d
 specially ForPatternOf e f {g} {ks} {ts} d v q X = ap (λ s. prefix s ts) (of_sort (sort g) Statements (sorted (sort g) ForPatternOf v)) ∙ pattern_of_begins d
+specially NewBare e f d v q X = absurd (false≢true (sym f))
 specially ForIn e f d v q X = absurd (false≢true (sym f))
 specially ForOf e f d v q X = absurd (false≢true (sym f))
 specially ForDeclaredIn e f d v q X = absurd (false≢true (sym f))
@@ -660,6 +664,7 @@ led_plainly Setter e = absurd (false≢true e)
 led_plainly (Reference s) e = absurd (false≢true e)
 led_plainly (ArrowName s) e = absurd (false≢true e)
 led_plainly (ArrowNameBlock s) e = absurd (false≢true e)
+led_plainly NewBare e = absurd (false≢true e)
 led_plainly MethodFunction e = absurd (false≢true e)
 led_plainly GeneratorMethod e = absurd (false≢true e)
 led_plainly GeneratorProperty e = absurd (false≢true e)
@@ -714,18 +719,15 @@ led_unforked ForIn e = absurd (false≢true e)
 led_unforked ForOf e = absurd (false≢true e)
 led_unforked ForDeclaredIn e = absurd (false≢true e)
 led_unforked ForDeclaredOf e = absurd (false≢true e)
+led_unforked NewBare e = absurd (false≢true e)
 led_unforked _ e = refl
 
 -- the parts behind the first one of a loop's head
 abbrev pub behind_head : List Part → List Part
 behind_head ps = tail (tail (tail ps))
 
-pub fork_sort : (s : Sort) (h : Rule) → is_forked h ≡ true → is_of s h ≡ true → s ≡ Statements
-fork_sort s ForIn e v = of_sort s Statements (sorted s ForIn v)
-fork_sort s ForOf e v = of_sort s Statements (sorted s ForOf v)
-fork_sort s ForDeclaredIn e v = of_sort s Statements (sorted s ForDeclaredIn v)
-fork_sort s ForDeclaredOf e v = of_sort s Statements (sorted s ForDeclaredOf v)
-fork_sort s _ e v = absurd (false≢true e)
+pub fork_sort : (s : Sort) (h : Rule) → rule_sort h ≡ Statements → is_of s h ≡ true → s ≡ Statements
+fork_sort s h e v = of_sort s (rule_sort h) (sorted s h v) ∙ e
 
 pub plainly_tidy : (e : ℕ) (ps : List Part) → is_led ps ≡ false → TidyBehind e ps → Tidy e ps
 plainly_tidy e (left w n b ∷ ps) i t = absurd (false≢true (sym i))

@@ -8,10 +8,10 @@ use Rattle.mini_model.specs.Weight.{same_text}
 use Rattle.mini_model.specs.declared.operator.AssignmentOperator.{AssignmentOperator}
 use Rattle.mini_model.specs.declared.operator.AssignmentOperator.TheVariants as assignment
 use Rattle.mini_print.specs.Token.{Token, Word, Punct, Number, BigInt, Quoted, Pattern, Private, Punctuator, LeftParen, RightParen, LeftBracket, RightBracket, LeftBrace, RightBrace, Comma, Semicolon, Colon, Question, Dot, Ellipsis, OptionalDot, Arrow, Plus, Minus, Times, Slash, Percent, Power, PlusPlus, MinusMinus, Bang, Tilde, Ampersand, Bar, Caret, AndAnd, BarBar, QuestionQuestion, ShiftL, ShiftR, ShiftRR, Less, LessEqual, Greater, GreaterEqual, EqualEqual, BangEqual, EqualEqualEqual, BangEqualEqual, Assigns, TemplateWhole, TemplateHead, TemplateMiddle, TemplateTail}
-use Rattle.mini_print.specs.Text.{spelling, assignment_spelling, spelled, is_word_unit, is_digit, are_word_units, is_word, IsLexical, AllLexical, AllLexicalIn, Open, TemplateOpen, BraceOpen, open_behind, may_stand, Outside, is_whole_pattern, has_no_line_end, is_end_next, opens_pattern, begins_pattern, is_pattern, is_letter, are_letters, holds_bare, ends_escaped, is_quotable}
-use Rattle.mini_print.specs.Compact.{goes_on_with, goes_on, is_slash, Before, Blank, Operand, Other, behind_token, may_enter, is_blank, may_leave, apart, compact_from, compact_text_of, Stands, SplitsAfter, nothing, alone, tight, spaced, SplitsCompactly}
+use Rattle.mini_print.specs.Text.{spelling, assignment_spelling, spelled, is_word_unit, is_digit, are_word_units, is_word, IsLexical, AllLexical, AllLexicalIn, Open, TemplateOpen, BraceOpen, open_behind, may_stand, is_slash, ends_operand, may_follow, slashes_follow, Outside, is_whole_pattern, has_no_line_end, begins_pattern, is_pattern, is_letter, are_letters, holds_bare, ends_escaped, is_quotable}
+use Rattle.mini_print.specs.Compact.{goes_on_with, goes_on, may_enter, apart, compact_text_of, Stands, SplitsAfter, nothing, alone, tight, spaced, SplitsCompactly}
 use Rattle.mini_print.proofs.Escapes.{same_itself}
-use Rattle.mini_print.proofs.Split.{both, untrue, or_parts, is_other, no_quote, without_first, ends_template, no_template, mark_template, begins_with, word_begins, numeral_begins, is_numeral, are_digits, decimal_is_numeral, number_facts, big_facts, word_facts, classified, punctuator_facts, quoted_end, quoted_back, piece_end, as_text, as_first, as_further, in_quotes, whole_read, head_read, starts_quote, pattern_end, pattern_back, pattern_opens, some_text, is_empty, append_none, further_stands, tail_stands, token_of, left_of}
+use Rattle.mini_print.proofs.Split.{both, untrue, or_parts, is_other, no_quote, without_first, ends_template, no_template, mark_template, begins_with, word_begins, numeral_begins, is_numeral, are_digits, decimal_is_numeral, number_facts, big_facts, word_facts, classified, punctuator_facts, quoted_end, quoted_back, piece_end, as_text, as_first, as_further, in_quotes, whole_read, head_read, starts_quote, pattern_end, pattern_back, some_text, is_empty, append_none, further_stands, tail_stands, token_of, left_of}
 
 -- ---- up to the end of a word
 
@@ -144,7 +144,8 @@ munched : (qs : List Punctuator) (p : Punctuator) (v : List ℕ) → comes p qs 
 munched [] p v e f = absurd (false≢true e)
 munched (q ∷ qs) p v e f = munched_by (same_text (spelling q) (spelling p)) q qs p v refl e f (λ a. munched qs p v a f)
 
--- ---- a token is read from the text that it begins, with this before it
+-- ---- a token is read from the text that it begins, right behind one with which an operand may end
+-- or not
 
 abbrev as_regular : Option (List ℕ × List ℕ) → Option (Token × List ℕ)
 as_regular None = None
@@ -153,27 +154,26 @@ as_regular (Some p) = Some (Pattern p.0 (word_part p.1), behind_word p.1)
 abbrev regular : List ℕ → Option (Token × List ℕ)
 regular u = as_regular (pattern_end Outside u)
 
-abbrev at_slash : Before → List ℕ → Option (Token × List ℕ)
-at_slash Blank u = if opens_pattern u then regular u else munch by_length (47 ∷ u)
-at_slash Operand u = munch by_length (47 ∷ u)
-at_slash Other u = regular u
+abbrev at_slash : Bool → List ℕ → Option (Token × List ℕ)
+at_slash true u = munch by_length (47 ∷ u)
+at_slash false u = regular u
 
-abbrev at_unit : Before → ℕ → List ℕ → Option (Token × List ℕ)
+abbrev at_unit : Bool → ℕ → List ℕ → Option (Token × List ℕ)
 at_unit k c u = if nat_eq c 47 then at_slash k u else (if nat_eq c 35 then Some (Private (word_part u), behind_word u) else (if is_word_unit c then Some (classified (word_part (c ∷ u)), behind_word (c ∷ u)) else munch by_length (c ∷ u)))
 
-abbrev bare_read : Before → List ℕ → Option (Token × List ℕ)
+abbrev bare_read : Bool → List ℕ → Option (Token × List ℕ)
 bare_read k [] = None
 bare_read k (c ∷ u) = at_unit k c u
 
-abbrev next_read : Before → List Open → List ℕ → Option (Token × List ℕ)
+abbrev next_read : Bool → List Open → List ℕ → Option (Token × List ℕ)
 next_read k os u = if starts_quote u then in_quotes u else (if ends_template os u then as_further (piece_end false (without_first u)) else bare_read k u)
 
 -- what begins neither with a quote nor ends a template's expression
-plainly : (k : Before) (os : List Open) (u : List ℕ) → starts_quote u ≡ false → ends_template os u ≡ false → next_read k os u ≡ bare_read k u
+plainly : (k : Bool) (os : List Open) (u : List ℕ) → starts_quote u ≡ false → ends_template os u ≡ false → next_read k os u ≡ bare_read k u
 plainly k os u e f = ap (λ b. if b then in_quotes u else (if ends_template os u then as_further (piece_end false (without_first u)) else bare_read k u)) e ∙ ap (λ b. if b then as_further (piece_end false (without_first u)) else bare_read k u) f
 
 -- a word, and what is made of word units
-units_read : (k : Before) (os : List Open) (c : ℕ) (s v : List ℕ) (x : Token) → are_word_units (c ∷ s) ≡ true → starts_word v ≡ false → classified (c ∷ s) ≡ x → next_read k os ((c ∷ s) ++ v) ≡ Some (x, v)
+units_read : (k : Bool) (os : List Open) (c : ℕ) (s v : List ℕ) (x : Token) → are_word_units (c ∷ s) ≡ true → starts_word v ≡ false → classified (c ∷ s) ≡ x → next_read k os ((c ∷ s) ++ v) ≡ Some (x, v)
 units_read k os c s v x e f q =
     let a = (both (is_word_unit c) (are_word_units s) e).0 in
     let r = word_cut (c ∷ s) v e f in
@@ -233,19 +233,19 @@ n_units : (u : List ℕ) → are_digits u ≡ true → are_word_units (u ++ code
 n_units [] e = refl
 n_units (c ∷ u) e = let a = both (is_digit c) (are_digits u) e in ap (λ b. b && are_word_units (u ++ codes "n")) (digit_unit c a.0) ∙ n_units u a.1
 
-numeral_read : (k : Before) (os : List Open) (u v : List ℕ) (x : Token) → is_numeral u ≡ true → starts_word v ≡ false → classified u ≡ x → next_read k os (u ++ v) ≡ Some (x, v)
+numeral_read : (k : Bool) (os : List Open) (u v : List ℕ) (x : Token) → is_numeral u ≡ true → starts_word v ≡ false → classified u ≡ x → next_read k os (u ++ v) ≡ Some (x, v)
 numeral_read k os [] v x e f q = absurd (false≢true e)
 numeral_read k os (c ∷ s) v x e f q = units_read k os c s v x (digit_units (c ∷ s) e) f q
 
-numeral_n_read : (k : Before) (os : List Open) (u v : List ℕ) (x : Token) → is_numeral u ≡ true → starts_word v ≡ false → classified (u ++ codes "n") ≡ x → next_read k os ((u ++ codes "n") ++ v) ≡ Some (x, v)
+numeral_n_read : (k : Bool) (os : List Open) (u v : List ℕ) (x : Token) → is_numeral u ≡ true → starts_word v ≡ false → classified (u ++ codes "n") ≡ x → next_read k os ((u ++ codes "n") ++ v) ≡ Some (x, v)
 numeral_n_read k os [] v x e f q = absurd (false≢true e)
 numeral_n_read k os (c ∷ s) v x e f q = units_read k os c (s ++ codes "n") v x (n_units (c ∷ s) e) f q
 
-word_read : (k : Before) (os : List Open) (s v : List ℕ) → is_word s ≡ true → starts_word v ≡ false → next_read k os (s ++ v) ≡ Some (Word s, v)
+word_read : (k : Bool) (os : List Open) (s v : List ℕ) → is_word s ≡ true → starts_word v ≡ false → next_read k os (s ++ v) ≡ Some (Word s, v)
 word_read k os [] v e f = absurd (false≢true e)
 word_read k os (c ∷ s) v e f = units_read k os c s v (Word (c ∷ s)) (both (not (is_digit c)) (are_word_units (c ∷ s)) e).1 f (word_facts (c ∷ s) e).0
 
-private_read : (k : Before) (os : List Open) (s v : List ℕ) → is_word s ≡ true → starts_word v ≡ false → next_read k os ((35 ∷ s) ++ v) ≡ Some (Private s, v)
+private_read : (k : Bool) (os : List Open) (s v : List ℕ) → is_word s ≡ true → starts_word v ≡ false → next_read k os ((35 ∷ s) ++ v) ≡ Some (Private s, v)
 private_read k os [] v e f = absurd (false≢true e)
 private_read k os (c ∷ s) v e f =
     let r = word_cut (c ∷ s) v (both (not (is_digit c)) (are_word_units (c ∷ s)) e).1 f in
@@ -264,48 +264,35 @@ regular_back p f v l t =
     let c = word_cut f v (letter_units f a.1) t in
     ap regular (append_assoc p (47 ∷ f) v) ∙ ap as_regular (pattern_back Outside p (f ++ v) d.0) ∙ ap (λ y. Some (Pattern p y, behind_word (f ++ v))) c.0 ∙ ap (λ y. Some (Pattern p f, y)) c.1
 
-regular_read : (k : Before) (os : List Open) (p f v : List ℕ) → (is_pattern p && are_letters f) ≡ true → may_enter k (Pattern p f) ≡ true → starts_word v ≡ false → next_read k os ((47 ∷ (p ++ (47 ∷ f))) ++ v) ≡ Some (Pattern p f, v)
+regular_read : (k : Bool) (os : List Open) (p f v : List ℕ) → (is_pattern p && are_letters f) ≡ true → may_enter k (Pattern p f) ≡ true → starts_word v ≡ false → next_read k os ((47 ∷ (p ++ (47 ∷ f))) ++ v) ≡ Some (Pattern p f, v)
 regular_read k os p f v l m t = plainly k os (47 ∷ ((p ++ (47 ∷ f)) ++ v)) refl (no_template os 47 ((p ++ (47 ∷ f)) ++ v) refl) ∙ by k m
   where
-    opens : opens_pattern ((p ++ (47 ∷ f)) ++ v) ≡ true
-    opens = ap opens_pattern (append_assoc p (47 ∷ f) v) ∙ pattern_opens p (f ++ v) (both (begins_pattern p) (is_whole_pattern Outside p && has_no_line_end p) (both (is_pattern p) (are_letters f) l).0).0
-
-    by : (k : Before) → may_enter k (Pattern p f) ≡ true → at_slash k ((p ++ (47 ∷ f)) ++ v) ≡ Some (Pattern p f, v)
-    by Blank m = ap (λ b. if b then regular ((p ++ (47 ∷ f)) ++ v) else munch by_length (47 ∷ ((p ++ (47 ∷ f)) ++ v))) opens ∙ regular_back p f v l t
-    by Operand m = absurd (false≢true m)
-    by Other m = regular_back p f v l t
+    by : (k : Bool) → may_enter k (Pattern p f) ≡ true → at_slash k ((p ++ (47 ∷ f)) ++ v) ≡ Some (Pattern p f, v)
+    by true m = absurd (false≢true m)
+    by false m = regular_back p f v l t
 
 -- ---- a punctuator
 
 mark_read : (p : Punctuator) (v : List ℕ) → goes_on (Punct p) v ≡ false → munch by_length (spelling p ++ v) ≡ Some (Punct p, v)
 mark_read p v f = munched by_length p v (all_come p) f
 
-end_opens_none : (v : List ℕ) → is_end_next v ≡ true → opens_pattern v ≡ false
-end_opens_none [] t = refl
-end_opens_none (c ∷ v) t = ap (λ b. not b && not (is_end_next v && nat_eq c 61)) t
+slash_back : (k : Bool) (v : List ℕ) → may_enter k (Punct Slash) ≡ true → goes_on (Punct Slash) v ≡ false → at_slash k v ≡ Some (Punct Slash, v)
+slash_back true v m f = mark_read Slash v f
+slash_back false v m f = absurd (false≢true m)
 
-end_divides : (v : List ℕ) → is_end_next v ≡ true → opens_pattern (61 ∷ v) ≡ false
-end_divides v t = ap (λ b. not (b && true)) t
+divides_back : (k : Bool) (v : List ℕ) → may_enter k (Punct (Assigns assignment.Division)) ≡ true → goes_on (Punct (Assigns assignment.Division)) v ≡ false → at_slash k (61 ∷ v) ≡ Some (Punct (Assigns assignment.Division), v)
+divides_back true v m f = mark_read (Assigns assignment.Division) v f
+divides_back false v m f = absurd (false≢true m)
 
-slash_back : (k : Before) (v : List ℕ) → may_enter k (Punct Slash) ≡ true → may_leave k (Punct Slash) v ≡ true → goes_on (Punct Slash) v ≡ false → at_slash k v ≡ Some (Punct Slash, v)
-slash_back Blank v m l f = ap (λ b. if b then regular v else munch by_length (47 ∷ v)) (end_opens_none v l) ∙ mark_read Slash v f
-slash_back Operand v m l f = mark_read Slash v f
-slash_back Other v m l f = absurd (false≢true m)
+assignment_back : (k : Bool) (o : AssignmentOperator) (v : List ℕ) → may_enter k (Punct (Assigns o)) ≡ true → goes_on (Punct (Assigns o)) v ≡ false → bare_read k (assignment_spelling o ++ v) ≡ Some (Punct (Assigns o), v)
+assignment_back k assignment.Division v m f = divides_back k v m f
+assignment_back k assignment.Assign v m f = mark_read (Assigns assignment.Assign) v f
+assignment_back k o v m f = mark_read (Assigns o) v f
 
-divides_back : (k : Before) (v : List ℕ) → may_enter k (Punct (Assigns assignment.Division)) ≡ true → may_leave k (Punct (Assigns assignment.Division)) v ≡ true → goes_on (Punct (Assigns assignment.Division)) v ≡ false → at_slash k (61 ∷ v) ≡ Some (Punct (Assigns assignment.Division), v)
-divides_back Blank v m l f = ap (λ b. if b then regular (61 ∷ v) else munch by_length (47 ∷ 61 ∷ v)) (end_divides v l) ∙ mark_read (Assigns assignment.Division) v f
-divides_back Operand v m l f = mark_read (Assigns assignment.Division) v f
-divides_back Other v m l f = absurd (false≢true m)
-
-assignment_back : (k : Before) (o : AssignmentOperator) (v : List ℕ) → may_enter k (Punct (Assigns o)) ≡ true → may_leave k (Punct (Assigns o)) v ≡ true → goes_on (Punct (Assigns o)) v ≡ false → bare_read k (assignment_spelling o ++ v) ≡ Some (Punct (Assigns o), v)
-assignment_back k assignment.Division v m l f = divides_back k v m l f
-assignment_back k assignment.Assign v m l f = mark_read (Assigns assignment.Assign) v f
-assignment_back k o v m l f = mark_read (Assigns o) v f
-
-mark_back : (k : Before) (p : Punctuator) (v : List ℕ) → may_enter k (Punct p) ≡ true → may_leave k (Punct p) v ≡ true → goes_on (Punct p) v ≡ false → bare_read k (spelling p ++ v) ≡ Some (Punct p, v)
-mark_back k Slash v m l f = slash_back k v m l f
-mark_back k (Assigns o) v m l f = assignment_back k o v m l f
-mark_back k p v m l f = mark_read p v f
+mark_back : (k : Bool) (p : Punctuator) (v : List ℕ) → may_enter k (Punct p) ≡ true → goes_on (Punct p) v ≡ false → bare_read k (spelling p ++ v) ≡ Some (Punct p, v)
+mark_back k Slash v m f = slash_back k v m f
+mark_back k (Assigns o) v m f = assignment_back k o v m f
+mark_back k p v m f = mark_read p v f
 
 assignment_quote : (o : AssignmentOperator) (v : List ℕ) → starts_quote (assignment_spelling o ++ v) ≡ false
 assignment_quote assignment.Assign v = refl
@@ -316,7 +303,7 @@ mark_quote (Assigns o) v = assignment_quote o v
 mark_quote _ v = refl
 
 -- a text in its quotes
-text_read : (k : Before) (os : List Open) (s v : List ℕ) → is_quotable s ≡ true → next_read k os (spelled (Quoted s) ++ v) ≡ Some (Quoted s, v)
+text_read : (k : Bool) (os : List Open) (s v : List ℕ) → is_quotable s ≡ true → next_read k os (spelled (Quoted s) ++ v) ≡ Some (Quoted s, v)
 text_read k os s v l = by (holds_bare 34 false s) refl
   where
     a : (has_no_line_end s ≡ true) × ((not (ends_escaped false s) && not (holds_bare 34 false s && holds_bare 39 false s)) ≡ true)
@@ -329,7 +316,7 @@ text_read k os s v l = by (holds_bare 34 false s) refl
     by true e = ap (λ y. as_text (quoted_end 39 false y)) (append_assoc s (39 ∷ []) v) ∙ ap as_text (quoted_back 39 false s v refl (untrue (holds_bare 39 false s) (ap (λ b. not (b && holds_bare 39 false s)) (sym e) ∙ d.1)) (untrue (ends_escaped false s) d.0))
     by false e = ap (λ y. as_text (quoted_end 34 false y)) (append_assoc s (34 ∷ []) v) ∙ ap as_text (quoted_back 34 false s v refl e (untrue (ends_escaped false s) d.0))
 
-further_back : (k : Before) (os : List Open) (x : Token) (u v : List ℕ) → may_stand os (TemplateTail []) ≡ true → as_further (piece_end false (u ++ v)) ≡ Some (x, v) → next_read k os ((125 ∷ u) ++ v) ≡ Some (x, v)
+further_back : (k : Bool) (os : List Open) (x : Token) (u v : List ℕ) → may_stand os (TemplateTail []) ≡ true → as_further (piece_end false (u ++ v)) ≡ Some (x, v) → next_read k os ((125 ∷ u) ++ v) ≡ Some (x, v)
 further_back k [] x u v e q = absurd (false≢true e)
 further_back k (BraceOpen ∷ os) x u v e q = absurd (false≢true e)
 further_back k (TemplateOpen ∷ os) x u v e q = q
@@ -338,14 +325,14 @@ no_word_behind : (x : Token) → ((c : ℕ) (u : List ℕ) → goes_on x (c ∷ 
 no_word_behind x h [] f = refl
 no_word_behind x h (c ∷ v) f = h c v f
 
-read_back : (k : Before) (os : List Open) (x : Token) (v : List ℕ) → Stands k os x v → next_read k os (spelled x ++ v) ≡ Some (x, v)
-read_back k os (Word s) v w = word_read k os s v w.0 (no_word_behind (Word s) (λ c u f. f) v w.4)
-read_back k os (Punct p) v w = plainly k os (spelling p ++ v) (mark_quote p v) (mark_template os p v w.1) ∙ mark_back k p v w.2 w.3 w.4
-read_back k os (Number n) v w = let l = w.0 in numeral_read k os (decimal n) v (Number n) (decimal_is_numeral n (omega (arith, l))) (no_word_behind (Number n) (λ c u f. (or_parts (is_word_unit c) (nat_eq c 46) f).0) v w.4) (number_facts n l).0
-read_back k os (BigInt n) v w = let l = w.0 in numeral_n_read k os (decimal n) v (BigInt n) (decimal_is_numeral n (omega (arith, l))) (no_word_behind (BigInt n) (λ c u f. f) v w.4) (big_facts n l).0
+read_back : (k : Bool) (os : List Open) (x : Token) (v : List ℕ) → Stands k os x v → next_read k os (spelled x ++ v) ≡ Some (x, v)
+read_back k os (Word s) v w = word_read k os s v w.0 (no_word_behind (Word s) (λ c u f. f) v w.3)
+read_back k os (Punct p) v w = plainly k os (spelling p ++ v) (mark_quote p v) (mark_template os p v w.1) ∙ mark_back k p v w.2 w.3
+read_back k os (Number n) v w = let l = w.0 in numeral_read k os (decimal n) v (Number n) (decimal_is_numeral n (omega (arith, l))) (no_word_behind (Number n) (λ c u f. (or_parts (is_word_unit c) (nat_eq c 46) f).0) v w.3) (number_facts n l).0
+read_back k os (BigInt n) v w = let l = w.0 in numeral_n_read k os (decimal n) v (BigInt n) (decimal_is_numeral n (omega (arith, l))) (no_word_behind (BigInt n) (λ c u f. f) v w.3) (big_facts n l).0
 read_back k os (Quoted s) v w = text_read k os s v w.0
-read_back k os (Pattern p f) v w = regular_read k os p f v w.0 w.2 (no_word_behind (Pattern p f) (λ c u g. g) v w.4)
-read_back k os (Private s) v w = private_read k os s v w.0 (no_word_behind (Private s) (λ c u f. f) v w.4)
+read_back k os (Pattern p f) v w = regular_read k os p f v w.0 w.2 (no_word_behind (Pattern p f) (λ c u g. g) v w.3)
+read_back k os (Private s) v w = private_read k os s v w.0 (no_word_behind (Private s) (λ c u f. f) v w.3)
 read_back k os (TemplateWhole s) v w = ap as_first (whole_read s v w.0)
 read_back k os (TemplateHead s) v w = ap as_first (head_read s v w.0)
 read_back k os (TemplateMiddle s) v w = further_back k os (TemplateMiddle s) (s ++ codes "${") v (sym (further_stands os s) ∙ w.1) (ap as_further (head_read s v w.0))
@@ -386,25 +373,25 @@ first_unit (TemplateHead s) l v = refl
 first_unit (TemplateMiddle s) l v = refl
 first_unit (TemplateTail s) l v = refl
 
-starts_tight : {k : Before} {os : List Open} {u : List ℕ} {y : Token} {ts : List Token} → SplitsAfter k os u (y ∷ ts) → starts_by 32 u ≡ false
+starts_tight : {k : Bool} {os : List Open} {u : List ℕ} {y : Token} {ts : List Token} → SplitsAfter k os u (y ∷ ts) → starts_by 32 u ≡ false
 starts_tight (alone k os x w) = ap (starts_by 32) (sym (append_none (spelled x))) ∙ first_unit x w.0 []
 starts_tight (tight k os x u y ts w d) = first_unit x w.0 u
 starts_tight (spaced k os x u y ts w d) = first_unit x w.0 (32 ∷ u)
 
-text_is_some : {k : Before} {os : List Open} {u : List ℕ} {y : Token} {ts : List Token} → SplitsAfter k os u (y ∷ ts) → is_empty u ≡ false
+text_is_some : {k : Bool} {os : List Open} {u : List ℕ} {y : Token} {ts : List Token} → SplitsAfter k os u (y ∷ ts) → is_empty u ≡ false
 text_is_some (alone k os x w) = ap is_empty (sym (append_none (spelled x))) ∙ some_text x w.0 []
 text_is_some (tight k os x u y ts w d) = some_text x w.0 u
 text_is_some (spaced k os x u y ts w d) = some_text x w.0 (32 ∷ u)
 
 -- ---- a text splits in one way
 
-last_back : (k : Before) (os : List Open) (x : Token) → Stands k os x [] → next_read k os (spelled x) ≡ Some (x, [])
+last_back : (k : Bool) (os : List Open) (x : Token) → Stands k os x [] → next_read k os (spelled x) ≡ Some (x, [])
 last_back k os x w = ap (next_read k os) (sym (append_none (spelled x))) ∙ read_back k os x [] w
 
 apart_absurd : {A : Type 0} (f : List ℕ → Bool) (u v : List ℕ) → f u ≡ true → f v ≡ false → u ≡ v → A
 apart_absurd f u v a b e = absurd (false≢true (sym b ∙ ap f (sym e) ∙ a))
 
-one_way : (k : Before) (os : List Open) (u w : List ℕ) (ts vs : List Token) → SplitsAfter k os u ts → SplitsAfter k os w vs → u ≡ w → ts ≡ vs
+one_way : (k : Bool) (os : List Open) (u w : List ℕ) (ts vs : List Token) → SplitsAfter k os u ts → SplitsAfter k os w vs → u ≡ w → ts ≡ vs
 one_way _ _ _ _ _ _ (nothing _ _) (nothing _ _) e = refl
 one_way _ _ _ _ _ _ (nothing _ _) (alone k os y l) e = apart_absurd is_empty [] (spelled y) refl (text_is_some (alone k os y l)) e
 one_way _ _ _ _ _ _ (nothing _ _) (tight k os y u z ts l d) e = apart_absurd is_empty [] (spelled y ++ u) refl (some_text y l.0 u) e
@@ -418,7 +405,7 @@ one_way k os _ _ _ _ (tight _ _ x u z ts j d) (alone _ _ y l) e = apart_absurd i
 one_way k os _ _ _ _ (tight _ _ x u z ts j a) (tight _ _ y w v us l b) e =
     let same = sym (read_back k os x u j) ∙ ap (next_read k os) e ∙ read_back k os y w l in
     let alike = ap token_of same in
-    let rest = one_way (behind_token x) (open_behind x os) u w (z ∷ ts) (v ∷ us) a (subst (λ q. SplitsAfter (behind_token q) (open_behind q os) w (v ∷ us)) (sym alike) b) (ap left_of same) in
+    let rest = one_way (ends_operand x) (open_behind x os) u w (z ∷ ts) (v ∷ us) a (subst (λ q. SplitsAfter (ends_operand q) (open_behind q os) w (v ∷ us)) (sym alike) b) (ap left_of same) in
     ap (λ q. q ∷ z ∷ ts) alike ∙ ap (λ q. y ∷ q) rest
 one_way k os _ _ _ _ (tight _ _ x u z ts j a) (spaced _ _ y w v us l b) e = apart_absurd (starts_by 32) (32 ∷ w) u refl (starts_tight a) (ap left_of (sym (read_back k os y (32 ∷ w) l) ∙ ap (next_read k os) (sym e) ∙ read_back k os x u j))
 one_way _ _ _ _ _ _ (spaced k os x u z ts j d) (nothing _ _) e = apart_absurd is_empty [] (spelled x ++ (32 ∷ u)) refl (some_text x j.0 (32 ∷ u)) (sym e)
@@ -427,11 +414,11 @@ one_way k os _ _ _ _ (spaced _ _ x u z ts j a) (tight _ _ y w v us l b) e = apar
 one_way k os _ _ _ _ (spaced _ _ x u z ts j a) (spaced _ _ y w v us l b) e =
     let same = sym (read_back k os x (32 ∷ u) j) ∙ ap (next_read k os) e ∙ read_back k os y (32 ∷ w) l in
     let alike = ap token_of same in
-    let rest = one_way Blank (open_behind x os) u w (z ∷ ts) (v ∷ us) a (subst (λ q. SplitsAfter Blank (open_behind q os) w (v ∷ us)) (sym alike) b) (ap (λ q. without_first (left_of q)) same) in
+    let rest = one_way false (open_behind x os) u w (z ∷ ts) (v ∷ us) a (subst (λ q. SplitsAfter false (open_behind q os) w (v ∷ us)) (sym alike) b) (ap (λ q. without_first (left_of q)) same) in
     ap (λ q. q ∷ z ∷ ts) alike ∙ ap (λ q. y ∷ q) rest
 
 pub compact_alone : (u : List ℕ) (ts vs : List Token) → SplitsCompactly u ts → SplitsCompactly u vs → ts ≡ vs
-compact_alone u ts vs a b = one_way Blank [] u u ts vs a b refl
+compact_alone u ts vs a b = one_way false [] u u ts vs a b refl
 
 -- ---- and the text of tokens splits into these
 
@@ -451,43 +438,66 @@ goes_by_first x (c ∷ s) v e = refl
 spelled_is_some : (y : Token) → IsLexical y → is_empty (spelled y) ≡ false
 spelled_is_some y l = ap is_empty (sym (append_none (spelled y))) ∙ some_text y l []
 
-goes_by_next : (x y : Token) (k : Before) (ts : List Token) → IsLexical y → goes_on x (compact_from k (y ∷ ts)) ≡ goes_on x (spelled y)
-goes_by_next x y k [] l = refl
-goes_by_next x y k (z ∷ ts) l = goes_by_first x (spelled y) (if apart k y z then 32 ∷ compact_from Blank (z ∷ ts) else compact_from (behind_token y) (z ∷ ts)) (spelled_is_some y l)
-
-leaves_tight : (b c : Bool) → b ≡ false → (not b || c) ≡ true
-leaves_tight true c e = absurd (false≢true (sym e))
-leaves_tight false c e = refl
-
-leaves_blank : (b : Bool) → (not b || true) ≡ true
-leaves_blank true = refl
-leaves_blank false = refl
-
-abbrev Enters : Before → List Token → Type 0
-Enters k [] = Unit {0}
-Enters k (x ∷ ts) = may_enter k x ≡ true
-
-blank_enters : (ts : List Token) → Enters Blank ts
-blank_enters [] = tt
-blank_enters (x ∷ ts) = refl
+goes_by_next : (x y : Token) (ts : List Token) → IsLexical y → goes_on x (compact_text_of (y ∷ ts)) ≡ goes_on x (spelled y)
+goes_by_next x y [] l = refl
+goes_by_next x y (z ∷ ts) l = goes_by_first x (spelled y) (if apart y z then 32 ∷ compact_text_of (z ∷ ts) else compact_text_of (z ∷ ts)) (spelled_is_some y l)
 
 entered : (b : Bool) → not b ≡ false → b ≡ true
 entered true e = refl
 entered false e = absurd (false≢true (sym e))
 
-within_by : (b : Bool) (k : Before) (os : List Open) (x y : Token) (ts : List Token) → apart k x y ≡ b → AllLexicalIn os (x ∷ y ∷ ts) → may_enter k x ≡ true → ((j : Before) → may_enter j y ≡ true → SplitsAfter j (open_behind x os) (compact_from j (y ∷ ts)) (y ∷ ts)) →
-    SplitsAfter k os (spelled x ++ (if b then 32 ∷ compact_from Blank (y ∷ ts) else compact_from (behind_token x) (y ∷ ts))) (x ∷ y ∷ ts)
-within_by true k os x y ts e l m r = spaced k os x (compact_from Blank (y ∷ ts)) y ts (l.0, l.1, m, leaves_blank (is_blank k && is_slash x), stops_at_blank x (compact_from Blank (y ∷ ts))) (r Blank refl)
-within_by false k os x y ts e l m r =
-    let a = or_parts (is_blank k && is_slash x) (goes_on x (spelled y) || not (may_enter (behind_token x) y)) e in
-    let b = or_parts (goes_on x (spelled y)) (not (may_enter (behind_token x) y)) a.1 in
-    let u = compact_from (behind_token x) (y ∷ ts) in
-    tight k os x u y ts (l.0, l.1, m, leaves_tight (is_blank k && is_slash x) (is_end_next u) a.0, goes_by_next x y (behind_token x) ts l.2.0 ∙ b.0) (r (behind_token x) (entered (may_enter (behind_token x) y) b.1))
+-- right behind what an operand may end with a slash stands without a blank
+ends_before : (x : Token) → ends_operand x ≡ true → goes_on x (47 ∷ []) ≡ false
+ends_before (Punct RightParen) e = refl
+ends_before (Punct RightBracket) e = refl
+ends_before (Punct RightBrace) e = refl
+ends_before (Punct PlusPlus) e = refl
+ends_before (Punct MinusMinus) e = refl
+ends_before (Punct p) e = absurd (false≢true e)
+ends_before (TemplateHead s) e = absurd (false≢true e)
+ends_before (TemplateMiddle s) e = absurd (false≢true e)
+ends_before _ e = refl
 
-compact_within : (k : Before) (os : List Open) (ts : List Token) → AllLexicalIn os ts → Enters k ts → SplitsAfter k os (compact_from k ts) ts
-compact_within k os [] l m = nothing k os
-compact_within k os (x ∷ []) l m = alone k os x (l.0, l.1, m, leaves_blank (is_blank k && is_slash x), refl)
-compact_within k os (x ∷ y ∷ ts) l m = within_by (apart k x y) k os x y ts refl l m (λ j n. compact_within j (open_behind x os) (y ∷ ts) l.2 n)
+slash_is_tight : (x y : Token) → is_slash y ≡ true → ends_operand x ≡ true → apart x y ≡ false
+slash_is_tight x (Punct Slash) i e = ap (λ b. goes_on x (47 ∷ []) || not (may_enter b (Punct Slash))) e ∙ ap (λ b. b || false) (ends_before x e)
+slash_is_tight x (Punct (Assigns assignment.Division)) i e = ap (λ b. goes_on x (47 ∷ []) || not (may_enter b (Punct (Assigns assignment.Division)))) e ∙ ap (λ b. b || false) (ends_before x e)
+slash_is_tight x _ i e = absurd (false≢true i)
 
-pub compact_splits : (ts : List Token) → AllLexical ts → SplitsCompactly (compact_text_of ts) ts
-compact_splits ts l = compact_within Blank [] ts l (blank_enters ts)
+-- so behind a blank no slash divides
+enters_apart : (x y : Token) → may_follow (ends_operand x) y ≡ true → apart x y ≡ true → may_enter false y ≡ true
+enters_apart x y f e = by (is_slash y) refl
+  where
+    follows : (b c : Bool) → (b || not c) ≡ true → c ≡ true → b ≡ true
+    follows true c g h = refl
+    follows false true g h = absurd (false≢true g)
+    follows false false g h = h
+
+    by : (b : Bool) → is_slash y ≡ b → not b ≡ true
+    by true i = absurd (false≢true (sym (slash_is_tight x y i (follows (ends_operand x) (is_slash y) f i)) ∙ e))
+    by false i = refl
+
+within_by : (b d : Bool) (os : List Open) (x y : Token) (ts : List Token) → apart x y ≡ b → AllLexicalIn os (x ∷ y ∷ ts) → may_enter d x ≡ true → may_follow (ends_operand x) y ≡ true → ((j : Bool) → may_enter j y ≡ true → SplitsAfter j (open_behind x os) (compact_text_of (y ∷ ts)) (y ∷ ts)) →
+    SplitsAfter d os (spelled x ++ (if b then 32 ∷ compact_text_of (y ∷ ts) else compact_text_of (y ∷ ts))) (x ∷ y ∷ ts)
+within_by true d os x y ts e l m f r = spaced d os x (compact_text_of (y ∷ ts)) y ts (l.0, l.1, m, stops_at_blank x (compact_text_of (y ∷ ts))) (r false (enters_apart x y f e))
+within_by false d os x y ts e l m f r =
+    let b = or_parts (goes_on x (spelled y)) (not (may_enter (ends_operand x) y)) e in
+    tight d os x (compact_text_of (y ∷ ts)) y ts (l.0, l.1, m, goes_by_next x y ts l.2.0 ∙ b.0) (r (ends_operand x) (entered (may_enter (ends_operand x) y) b.1))
+
+abbrev Enters : Bool → List Token → Type 0
+Enters d [] = Unit {0}
+Enters d (x ∷ ts) = may_enter d x ≡ true
+
+compact_within : (d o : Bool) (os : List Open) (ts : List Token) → AllLexicalIn os ts → slashes_follow o ts ≡ true → Enters d ts → SplitsAfter d os (compact_text_of ts) ts
+compact_within d o os [] l f m = nothing d os
+compact_within d o os (x ∷ []) l f m = alone d os x (l.0, l.1, m, refl)
+compact_within d o os (x ∷ y ∷ ts) l f m =
+    let a = both (may_follow o x) (slashes_follow (ends_operand x) (y ∷ ts)) f in
+    let b = both (may_follow (ends_operand x) y) (slashes_follow (ends_operand y) ts) a.1 in
+    within_by (apart x y) d os x y ts refl l m b.0 (λ j n. compact_within j (ends_operand x) (open_behind x os) (y ∷ ts) l.2 a.1 n)
+
+first_enters : (ts : List Token) → slashes_follow false ts ≡ true → Enters false ts
+first_enters [] f = tt
+first_enters (x ∷ ts) f = (both (not (is_slash x)) (slashes_follow (ends_operand x) ts) f).0
+
+pub compact_splits : (ts : List Token) → AllLexical ts → slashes_follow false ts ≡ true → SplitsCompactly (compact_text_of ts) ts
+compact_splits ts l f = compact_within false false [] ts l f (first_enters ts f)

@@ -11,7 +11,7 @@ use Rattle.mini_model.specs.declared.operator.UpdateOperator.TheVariants.{Increm
 use Rattle.mini_model.specs.Tree.{Tree, Trees}
 use Rattle.mini_model.specs.Weight.{same_text}
 use Rattle.mini_print.specs.Token.{Token, Word, Punct, LeftBracket, LeftBrace, TemplateWhole, TemplateHead, binary_token}
-use Rattle.mini_print.specs.Grammar.{Array, ArrayTarget, Arrow, ArrowBlock, Assignment, BigIntLiteral, Binary, Call, Chain, ClassNamed, ClassPlain, Conditional, False, For, ForDeclared, ForPatternIn, ForPatternOf, FunctionExpression, GeneratorExpression, Goal, Import, ImportMeta, Index, Least, Logical, Member, New, NewTarget, Null, NumberLiteral, Object, ObjectTarget, Parenthesized, Part, PatternAssignment, Place, Postfix, Prefix, Reference, RegExpLiteral, Rule, Sequence, SuperCall, SuperIndex, SuperMember, TagTemplate, TaggedTemplate, TargetPattern, Template, TextLiteral, This, True, Two, Unary, WholeTemplate, WithoutIn, Yield, YieldBare, YieldFrom, commas, form, has, is_word_of, left, level, part, sort, token, ArrowName, ArrowNameBlock}
+use Rattle.mini_print.specs.Grammar.{Array, ArrayTarget, Arrow, ArrowBlock, Assignment, BigIntLiteral, Binary, Call, Chain, ClassNamed, ClassPlain, Conditional, False, For, ForDeclared, ForPatternIn, ForPatternOf, FunctionExpression, GeneratorExpression, Goal, Import, ImportMeta, Index, Least, Logical, Member, New, NewTarget, Null, NumberLiteral, Object, ObjectTarget, Parenthesized, Part, PatternAssignment, Place, Postfix, Prefix, Reference, RegExpLiteral, Rule, Sequence, SuperCall, SuperIndex, SuperMember, TagTemplate, TaggedTemplate, TargetPattern, Template, TextLiteral, This, True, Two, Unary, WholeTemplate, WithoutIn, Yield, YieldBare, YieldFrom, commas, form, has, is_word_of, left, level, part, sort, token, ArrowName, ArrowNameBlock, NewBare}
 use Rattle.mini_print.specs.Groups.{Groups, by_rule, Row, end, a_token, a_left, a_part, a_list, present, missing, Items, nothing, last, next, gap, a_fork}
 use Rattle.mini_print.proofs.Reader.{statement_at, declares, for_rule, starts_head, each_pattern, is_head_word, is_head_word_next, behind_bracket, tail, opens_bracket, bars, end_words}
 use Rattle.mini_print.proofs.Tidy.{Starting, opens_next, starts_template}
@@ -93,6 +93,7 @@ head_opening (ArrowName s) b e = λ ts. refl
 head_opening (ArrowNameBlock s) b e = λ ts. refl
 head_opening FunctionExpression b e = λ ts. refl
 head_opening New b e = λ ts. refl
+head_opening NewBare b e = λ ts. refl
 head_opening Yield b e = λ ts. refl
 head_opening YieldBare b e = λ ts. refl
 head_opening YieldFrom b e = λ ts. refl

@@ -21,8 +21,8 @@ use Rattle.mini_model.specs.Position.{assignment_level}
 use Rattle.mini_print.specs.Token.{Token, Punct, LeftParen, RightParen, RightBrace, Comma, Word, Semicolon, Quoted}
 use Rattle.mini_print.specs.Grammar.{Sort, Values, Statements, Declarators, sort, WithoutIn, Callee, Statement, Declared, left, lookahead, perhaps, option, statements, permits, Lookahead, NoStatement, NoBrace, Goal, Anything, Place, place, Rule, TextLiteral, Least, Zero, One, Two, Gaps, Silent, silent_tree, unwritten, Part, token, part, commas, has, opens, is_opener, Else, Equals, ExpressionStatement, Element, Property, Properties, Key, Cases, CaseEnd, Opener, opener, BoundProperties, Ended, HeadDeclarations, HeadDeclared, fork, HeadEnd, NotAsync, ends_head, KeyWord, KeyText, KeyNumber, KeyName, BoundElements, DefaultsOf, ClassBraces, ClassElements, Extends, starts_directive, NoDirective, Target, TargetElements, TargetProperties, YieldEnd, NoDeclaration, ImportItems, ExportItems, ForwardItems, semicolon, inserts, ends_statement}
 use Rattle.mini_print.specs.Groups.{goal_of, a_left, a_lookahead, Groups, by_rule, Row, end, a_token, a_part, a_list, a_block, a_silent as a_silent_row, gap, has_gaps, none_is_enough, one_is_enough, behind_comma, present, missing, with, without, Items, nothing, last, next, Statements as StatementList, no_more, more, a_fork, a_semicolon, inserted}
-use Rattle.mini_print.specs.Printed.{is_statements, else_behind, settled, settled_parts, are_printable, Printer, lay, lay_items, lay_block, printer, printers, enclosed, a_part as a_part_of, a_list as a_list_of, a_perhaps, sort_of, wants, a_block as a_block_of, a_silent, is_gap, wanted_goal, plain, has_enough, is_printable, fill, core, has_core, stands, undirected, takes_values, holds_head_in, holds_in, Style, Full, Short, terminated}
-use Rattle.mini_print.proofs.Placed.{fits_whole, produced, serves_more, Serves, plain_sort, serves_sort, value_serves, limit, one_limit, limited, in_parentheses}
+use Rattle.mini_print.specs.Printed.{is_statements, else_behind, settled, settled_parts, are_printable, Printer, lay, lay_items, lay_block, printer, printers, enclosed, a_part as a_part_of, a_list as a_list_of, a_perhaps, sort_of, wants, a_block as a_block_of, a_silent, is_gap, wanted_goal, plain, has_enough, is_printable, fill, core, has_core, stands, undirected, takes_values, Style, Full, Short, terminated}
+use Rattle.mini_print.proofs.Placed.{fits_whole, produced, Serves, plain_sort, serves_sort, value_serves, limit, one_limit, limited, in_parentheses}
 use Rattle.mini_print.proofs.Low.{Heir, Ready, After, is_block_sort, Tail, stands_in_rows, ShutBefore, Shut, InBlock, Low, clause_opens}
 
 -- ---- what is known of the parts of a node
@@ -417,33 +417,13 @@ module _ (style : Style) where
       a_lookahead g c _ _ _ r (paren_permitted c _ k) (a_part g o n b ps (settled false t) ks _ m r
       (in_parentheses (record { goal = goal_of g o; level = n; around = b }) (settled false t) _ m v l (value_at Anything 0 mix.None t G e refl (omega arith) (Punct RightParen ∷ m))) row)
 
-  -- what stands in the head of a loop, in parentheses or not
-  pub head_at : (i w : Goal) (n : ℕ) (b : Mix) (t : Tree) → Good t → Serves w i → is_printable (a_part_of w) t ≡ true → is_statements (sort i) ≡ false → n ≤ limit w → (r : List Token) → Ready (sort i) r →
-      Groups (record { goal = i; level = n; around = b }) (settled false t) (enclosed (holds_head_in i (printer style t)) (printer style t) (record { goal = i; level = n; around = b }) r) r
-  head_at WithoutIn w n b t G S e s l r y = by (holds_in 0 ((printer style t).one (place Anything 0) []))
-    where
-      served_in : Serves w WithoutIn → w ≡ Anything
-      served_in (inl q) = q
-      served_in (inr q) = absurd (no_more w q)
-        where
-          no_more : (w : Goal) → serves_more w WithoutIn ≡ true → ⊥
-          no_more Anything q = false≢true q
-          no_more _ q = false≢true q
-
-      by : (c : Bool) → Groups (record { goal = WithoutIn; level = n; around = b }) (settled false t) (enclosed c (printer style t) (record { goal = WithoutIn; level = n; around = b }) r) r
-      by false = at WithoutIn w n b t G S e s l r y
-      by true =
-          let u = limited w in
-          in_parentheses (record { goal = WithoutIn; level = n; around = b }) (settled false t) _ r refl (omega (arith, l, u)) (value_at Anything 0 mix.None t G (subst (λ g. is_printable (a_part_of g) t ≡ true) (served_in S) e) refl (omega arith) (Punct RightParen ∷ r))
-  head_at i w n b t G S e s l r y = at i w n b t G S e s l r y
-
   pub perhaps_laid : (g i : Goal) (t : Tree) → Good t → is_printable (a_perhaps (plain i)) t ≡ true → stands_in_rows (sort i) ≡ false → (ps : List Part) (ks : Trees) (m r : List Token) → Ready (sort i) m → Row g ps ks m r →
-      Row g (perhaps i ∷ ps) (settled false t ▸ ks) (if (printer style t).absent then m else enclosed (holds_head_in i (printer style t)) (printer style t) (place i 0) m) r
+      Row g (perhaps i ∷ ps) (settled false t ▸ ks) (if (printer style t).absent then m else (printer style t).one (place i 0) m) r
   perhaps_laid g i (node shape.Absent [] n none) G e s ps ks m r y d = missing g i ps ks m r d
   perhaps_laid g i (node shape.Absent [] n (t ▸ ts)) G e s ps ks m r y d = absurd (false≢true e)
   perhaps_laid g i (node shape.Absent (x ∷ xs) n ts) G e s ps ks m r y d = absurd (false≢true e)
   perhaps_laid g i (node h xs n ts) G e s ps ks m r y d =
-      present g i ps (settled false (node h xs n ts)) ks _ m r (head_at i (plain i) 0 mix.None (node h xs n ts) G (inl refl) (part_of (plain i) h xs n ts e) (rows_no_statements (sort i) s) (let q = one_limit (plain i) in omega (arith, q)) m y) d
+      present g i ps (settled false (node h xs n ts)) ks _ m r (at i (plain i) 0 mix.None (node h xs n ts) G (inl refl) (part_of (plain i) h xs n ts e) (rows_no_statements (sort i) s) (let q = one_limit (plain i) in omega (arith, q)) m y) d
 
   pub flagged : (g : Goal) (o : Option Goal) (n : ℕ) (b : Mix) (ps : List Part) (t : Tree) (ks : Trees) (m r : List Token) (c : Bool) → Groups (record { goal = goal_of g o; level = n; around = b }) (settled (flag (goal_of g o) m) t) ((printer style t).one (record { goal = goal_of g o; level = n; around = b }) m) m →
       flag (goal_of g o) m ≡ c → Row g ps ks m r → Row g (part o n b ∷ ps) (settled c t ▸ ks) ((printer style t).one (record { goal = goal_of g o; level = n; around = b }) m) r
@@ -451,12 +431,12 @@ module _ (style : Style) where
 
   pub option_laid : (g : Goal) (w : Opener) (o : Option Goal) (n : ℕ) (t : Tree) → Good t → is_printable (a_perhaps (wanted_goal o)) t ≡ true → is_statements (sort (goal_of g o)) ≡ false → Serves (wanted_goal o) (goal_of g o) → n ≤ limit (wanted_goal o) →
       (ps : List Part) (ks : Trees) (m r : List Token) → Ready (sort (goal_of g o)) m → opens w m ≡ false → Row g ps ks m r →
-      Row g (option w o n ∷ ps) (settled false t ▸ ks) (if (printer style t).absent then m else opener w ∷ enclosed (holds_head_in (goal_of g o) (printer style t)) (printer style t) (place (goal_of g o) n) m) r
+      Row g (option w o n ∷ ps) (settled false t ▸ ks) (if (printer style t).absent then m else opener w ∷ (printer style t).one (place (goal_of g o) n) m) r
   option_laid g w o n (node shape.Absent [] k none) G e s S l ps ks m r y c d = without g w o n ps ks m r c d
   option_laid g w o n (node shape.Absent [] k (t ▸ ts)) G e s S l ps ks m r y c d = absurd (false≢true e)
   option_laid g w o n (node shape.Absent (x ∷ xs) k ts) G e s S l ps ks m r y c d = absurd (false≢true e)
   option_laid g w o n (node h xs k ts) G e s S l ps ks m r y c d =
-      with g w o n ps (settled false (node h xs k ts)) ks _ m r (head_at (goal_of g o) (wanted_goal o) n mix.None (node h xs k ts) G S (part_of (wanted_goal o) h xs k ts e) s l m y) d
+      with g w o n ps (settled false (node h xs k ts)) ks _ m r (at (goal_of g o) (wanted_goal o) n mix.None (node h xs k ts) G S (part_of (wanted_goal o) h xs k ts e) s l m y) d
 
   pub shut_opens : (s : Sort) (w : Opener) (ps : List Part) → Shut s w ps → (g : Goal) (ks : List Printer) (us : Trees) (r : List Token) → Ready s r → Row g ps us (lay style g ps ks r) r → opens w (lay style g ps ks r) ≡ false
   shut_opens s w (token x ∷ ps) e g ks us r y D = e
@@ -465,7 +445,7 @@ module _ (style : Style) where
   shut_opens s w (option v o n ∷ []) e g [] us r y D = e.1 r y
   shut_opens s w (option v o n ∷ []) e g (k ∷ ks) us r y D = by k.absent
     where
-      by : (b : Bool) → opens w (if b then r else opener v ∷ enclosed (holds_head_in (goal_of g o) k) k (place (goal_of g o) n) r) ≡ false
+      by : (b : Bool) → opens w (if b then r else opener v ∷ k.one (place (goal_of g o) n) r) ≡ false
       by true = e.1 r y
       by false = e.0
   shut_opens s w (lookahead Ended ∷ []) e g ks us r y D = e r y
@@ -609,7 +589,7 @@ module _ (style : Style) where
       let q = part_sort g o L.0.1 in
       let m = lay style g ps (printers style ts) r in
       let s = rows_no_statements (sort_of o) L.0.0 in
-      subst (λ z. Row g (option w o n ∷ ps) (settled z t ▸ settled_parts (flag g r) ps ts) (if (printer style t).absent then m else opener w ∷ enclosed (holds_head_in (goal_of g o) (printer style t)) (printer style t) (place (goal_of g o) n) m) r) (sym (ap (λ b. b && else_behind (flag g r) ps ts) s))
+      subst (λ z. Row g (option w o n ∷ ps) (settled z t ▸ settled_parts (flag g r) ps ts) (if (printer style t).absent then m else opener w ∷ (printer style t).one (place (goal_of g o) n) m) r) (sym (ap (λ b. b && else_behind (flag g r) ps ts) s))
       (option_laid g w o n t G.0 a.0 (subst (λ u. is_statements u ≡ false) q s) (part_goal g o L.0.1) L.0.2 ps _ m r (subst (λ u. Ready u m) q (ready (sort g) (sort_of o) ps L.0.3 g (printers style ts) r y)) (shut_opens (sort g) w ps L.0.4 g (printers style ts) _ r y (laid ps ts G.1 a.1 g k H L.1 r y)) (laid ps ts G.1 a.1 g k H L.1 r y))
   laid (statements i ∷ ps) none G f g k H L r y = absurd (false≢true f)
   laid (statements i ∷ ps) (t ▸ ts) G f g k H L r y =

@@ -8,7 +8,7 @@ use Rattle.mini_print.proofs.Tidy.{Starting, starts_clause}
 use Rattle.mini_print.proofs.Reader.{is_right_brace, ends}
 use Rattle.mini_model.specs.Weight.{same_text}
 use Rattle.mini_print.specs.Token.{Token, Punct, RightParen, RightBrace, Comma, Word, RightBracket}
-use Rattle.mini_print.specs.Grammar.{Sort, Values, Statements, Declarators, sort, is_of, rule_sort, excluded, Statement, Arrow, BindingName, left, lookahead, perhaps, option, statements, Lookahead, Goal, Anything, Rule, Reference, NumberLiteral, BigIntLiteral, TextLiteral, RegExpLiteral, Null, This, True, False, Parenthesized, Array, Member, Index, New, Import, Call, PropertyName, Postfix, Prefix, Unary, Binary, Logical, Conditional, Assignment, Sequence, unwritten, Part, token, part, commas, form, has, opens, is_opener, Else, Equals, Block, Variables, Declarator, Empty, ExpressionStatement, If, DoWhile, While, For, Return, Throw, Debugger, Object, KeyValue, Computed, Spread, FunctionExpression, FunctionDeclaration, FunctionBody, SpreadItem, ArrowBlock, Break, Continue, Properties, Key, SuperMember, SuperIndex, SuperCall, NewTarget, ImportMeta, PrivateName, PrivateIn, Yield, YieldFrom, GeneratorExpression, GeneratorDeclaration, Label, Switch, Case, DefaultCase, Try, CatchParam, CatchBare, BlockPart, Cases, CaseEnd, Catch, Finally, ends_clause, Opener, opener, ObjectPattern, ArrayPattern, Rest, BoundKeyValue, BoundComputed, BoundShorthand, BoundRest, Shorthand, BoundProperties, Ended, ends_property, ends_property_at, ForIn, ForOf, ForDeclared, ForDeclaredIn, ForDeclaredOf, HeadVariables, HeadDeclarations, fork, HeadEnd, ends_head, ends_head_at, MethodProperty, Getter, Setter, GeneratorProperty, MethodFunction, GeneratorMethod, KeyWord, KeyText, KeyNumber, KeyName, WholeTemplate, Template, MiddlePiece, TailPiece, TaggedTemplate, TagWhole, TagParts, Chain, FirstMember, FirstIndex, FirstCall, LinkMember, LinkIndex, LinkCall, OptionalMember, OptionalIndex, OptionalCall, Link, Defaulted, BoundDefault, NamedDefault, ComputedMethod, ComputedGetter, ComputedSetter, ComputedGenerator, BoundElements, DefaultsOf, ClassPlain, ClassNamed, ClassDeclared, ClassBody, ClassMethod, ClassComputedMethod, ClassGenerator, ClassComputedGenerator, ClassGetter, ClassComputedGetter, ClassSetter, ClassComputedSetter, Field, ComputedField, StaticElement, StaticInit, PrivateKey, ClassBraces, ClassElements, Extends, Leading, Directive, NoDirective, ArrayTarget, ObjectTarget, PatternItem, ValueItem, PatternRest, ValueRest, TargetShorthand, TargetDefault, TargetKeyValue, TargetComputed, TargetPropertyRest, PatternAssignment, TargetElements, TargetProperties, YieldBare, YieldEnd, ImportItems, ExportItems, ForwardItems, ImportBare, ImportNames, ImportNamespace, ImportDefault, ImportDefaultNames, ImportDefaultNamespace, ImportShort, ImportAs, ExportNames, ExportFrom, ExportAll, ExportDeclared, ExportValue, ExportDefault, ExportShort, ExportAs, ForwardName, ForwardText, ForwardAs, DeclaredVariables, DeclaredFunction, DeclaredGenerator, DeclaredClass, DefaultFunction, DefaultGenerator, DefaultClass, DefaultClassNamed, ForPatternIn, ForPatternOf, semicolon, ArrowName, ArrowNameBlock}
+use Rattle.mini_print.specs.Grammar.{Sort, Values, Statements, Declarators, sort, is_of, rule_sort, excluded, Statement, Arrow, BindingName, left, lookahead, perhaps, option, statements, Lookahead, Goal, Anything, Rule, Reference, NumberLiteral, BigIntLiteral, TextLiteral, RegExpLiteral, Null, This, True, False, Parenthesized, Array, Member, Index, New, Import, Call, PropertyName, Postfix, Prefix, Unary, Binary, Logical, Conditional, Assignment, Sequence, unwritten, Part, token, part, commas, form, has, opens, is_opener, Else, Equals, Block, Variables, Declarator, Empty, ExpressionStatement, If, DoWhile, While, For, Return, Throw, Debugger, Object, KeyValue, Computed, Spread, FunctionExpression, FunctionDeclaration, FunctionBody, SpreadItem, ArrowBlock, Break, Continue, Properties, Key, SuperMember, SuperIndex, SuperCall, NewTarget, ImportMeta, PrivateName, PrivateIn, Yield, YieldFrom, GeneratorExpression, GeneratorDeclaration, Label, Switch, Case, DefaultCase, Try, CatchParam, CatchBare, BlockPart, Cases, CaseEnd, Catch, Finally, ends_clause, Opener, opener, ObjectPattern, ArrayPattern, Rest, BoundKeyValue, BoundComputed, BoundShorthand, BoundRest, Shorthand, BoundProperties, Ended, ends_property, ends_property_at, ForIn, ForOf, ForDeclared, ForDeclaredIn, ForDeclaredOf, HeadVariables, HeadDeclarations, fork, HeadEnd, ends_head, ends_head_at, MethodProperty, Getter, Setter, GeneratorProperty, MethodFunction, GeneratorMethod, KeyWord, KeyText, KeyNumber, KeyName, WholeTemplate, Template, MiddlePiece, TailPiece, TaggedTemplate, TagWhole, TagParts, Chain, FirstMember, FirstIndex, FirstCall, LinkMember, LinkIndex, LinkCall, OptionalMember, OptionalIndex, OptionalCall, Link, Defaulted, BoundDefault, NamedDefault, ComputedMethod, ComputedGetter, ComputedSetter, ComputedGenerator, BoundElements, DefaultsOf, ClassPlain, ClassNamed, ClassDeclared, ClassBody, ClassMethod, ClassComputedMethod, ClassGenerator, ClassComputedGenerator, ClassGetter, ClassComputedGetter, ClassSetter, ClassComputedSetter, Field, ComputedField, StaticElement, StaticInit, PrivateKey, ClassBraces, ClassElements, Extends, Leading, Directive, NoDirective, ArrayTarget, ObjectTarget, PatternItem, ValueItem, PatternRest, ValueRest, TargetShorthand, TargetDefault, TargetKeyValue, TargetComputed, TargetPropertyRest, PatternAssignment, TargetElements, TargetProperties, YieldBare, YieldEnd, ImportItems, ExportItems, ForwardItems, ImportBare, ImportNames, ImportNamespace, ImportDefault, ImportDefaultNames, ImportDefaultNamespace, ImportShort, ImportAs, ExportNames, ExportFrom, ExportAll, ExportDeclared, ExportValue, ExportDefault, ExportShort, ExportAs, ForwardName, ForwardText, ForwardAs, DeclaredVariables, DeclaredFunction, DeclaredGenerator, DeclaredClass, DefaultFunction, DefaultGenerator, DefaultClass, DefaultClassNamed, ForPatternIn, ForPatternOf, semicolon, ArrowName, ArrowNameBlock, NewBare}
 use Rattle.mini_print.specs.Printed.{is_statements, sort_of, wanted_goal, plain}
 use Rattle.mini_print.proofs.Placed.{rule_sort_is, Serves, value_serves, limit}
 
@@ -223,6 +223,7 @@ low Array v = ((refl, tt), tt)
 low Member v = ((value_left Member refl, omega arith, refl, λ r. tt), ((tt, omega arith, tt), tt))
 low Index v = ((value_left Index refl, omega arith, refl, λ r. tt), ((tt, omega arith, tt), tt))
 low New v = ((tt, omega arith, tt), ((refl, tt), tt))
+low NewBare v = ((tt, omega arith, tt), tt)
 low Import v = ((tt, omega arith, tt), tt)
 low Call v = ((value_left Call refl, omega arith, refl, λ r. tt), ((refl, tt), tt))
 low (PropertyName s) v = tt

@@ -7,7 +7,7 @@ use Rattle.mini_model.specs.declared.seat.Mix.TheVariants as mix
 use Rattle.mini_print.proofs.Told.{is_values, both, defaults_are}
 use Rattle.mini_model.specs.Tree.{Tree, Trees, none, ◌▸◌}
 use Rattle.mini_print.specs.Token.{Token, Punct, LeftParen, RightParen}
-use Rattle.mini_print.specs.Grammar.{Sort, Values, Names, Bindings, Statements, Declarators, sort, is_of, rule_sort, same_sort, is_allowed, WithoutIn, Callee, Goal, Anything, Place, place, Rule, Parenthesized, Array, Import, Call, Binary, Logical, Assignment, Sequence, form, level, has, mixes, built, built_before, opens, Else, Block, Object, Spread, SpreadItem, Element, Properties, Bodies, Fits, SuperCall, PrivateIn, Cases, Catches, BlockParts, BoundProperties, HeadDeclarations, Methods, GeneratorMethods, KeyNames, Chain, TemplateRests, TagTemplates, FirstLinks, Links, BoundElements, DefaultsOf, ClassBodies, ClassElements, Leadings, PatternAssignment, Target, Patterns, TargetElements, TargetProperties, Declarations, DefaultDeclarations, ImportItems, ExportItems, ForwardItems}
+use Rattle.mini_print.specs.Grammar.{Sort, Values, Names, Bindings, Statements, Declarators, sort, is_of, rule_sort, same_sort, is_allowed, WithoutIn, Callee, Goal, Anything, Place, place, Rule, Parenthesized, Array, Import, Call, Binary, Logical, Assignment, Sequence, form, level, has, mixes, built, built_before, opens, Else, Block, Object, Spread, SpreadItem, Element, Properties, Bodies, Fits, SuperCall, PrivateIn, Cases, Catches, BlockParts, BoundProperties, HeadDeclarations, Methods, GeneratorMethods, KeyNames, Chain, TemplateRests, TagTemplates, FirstLinks, Links, BoundElements, DefaultsOf, ClassBodies, ClassElements, Leadings, PatternAssignment, Target, Patterns, TargetElements, TargetProperties, Declarations, DefaultDeclarations, ImportItems, ExportItems, ForwardItems, NewBare}
 use Rattle.mini_print.specs.Groups.{Groups, by_rule, Row, end, a_token, a_part}
 use Rattle.mini_print.specs.Printed.{is_block, is_fit, parenthesized, plain, turned}
 
@@ -227,6 +227,7 @@ only_bare Callee h b v i e f = absurd (false≢true (sym e ∙ called h f))
     called Import f = refl
     called SuperCall f = refl
     called Chain f = refl
+    called NewBare f = refl
     called h f = f
 only_bare Target h b v i e f = absurd (false≢true (sym e ∙ targeted h f))
   where
@@ -236,6 +237,7 @@ only_bare Target h b v i e f = absurd (false≢true (sym e ∙ targeted h f))
     targeted Array f = refl
     targeted Object f = refl
     targeted Chain f = refl
+    targeted NewBare f = refl
     targeted h f = f
 only_bare _ h b v i e f = absurd (false≢true v)
 

@@ -1,17 +1,17 @@
 -- What a tree begins with, what goes on it, and that its brackets match.
-use Rattle.std.specs.Prelude.{ℕ, zero, suc, ◌≡◌, refl, ◌≤◌, ◌<◌, Bool, true, false, not, List, [], ◌∷◌, codes, Option, Some, None, if◌then◌else◌, ◌||◌}
+use Rattle.std.specs.Prelude.{ℕ, zero, suc, ◌≡◌, refl, ◌≤◌, ◌<◌, Bool, true, false, not, List, [], ◌∷◌, codes, Option, Some, None, if◌then◌else◌, ◌||◌, nat_eq, nat_lt}
 use Rattle.std.proofs.Common.{◌∙◌, ap, sym, subst, arith, ◌⊎◌, inl, inr}
-use Rattle.std.proofs.lemmas.Bool.{lt-ltb, le-ltb, false≢true}
+use Rattle.std.proofs.lemmas.Bool.{lt-ltb, le-ltb, false≢true, eqb-false, ltb-true, ltb-false}
 use Rattle.mini_model.specs.declared.operator.AssignmentOperator.TheVariants.{Assign}
 use Rattle.mini_model.specs.declared.operator.BinaryOperator.TheVariants as binary
 use Rattle.mini_model.specs.Weight.{same_text}
 use Rattle.mini_model.specs.Tree.{Tree, Trees}
 use Rattle.mini_print.specs.Token.{Token, Word, Punct, Punctuator, Comma, Semicolon, RightParen, RightBracket, RightBrace, LeftBrace, Dot, LeftParen, Quoted, OptionalDot, TemplateWhole, TemplateHead, TemplateMiddle, TemplateTail, LeftBracket, Assigns}
-use Rattle.mini_print.specs.Grammar.{Block as BlockRule, Goal, Anything, WithoutIn, Callee, AfterDot, Binding, Statement, Declared, Property, Body, Element, SpreadItem, ArrowBlock, FunctionBody, NoBrace, permits, is_left_brace, Binary, Sort, Values, Names, Bindings, Statements, Declarators, Properties, Bodies, sort, heir, Place, place, whole, Rule, Parenthesized, Arrow, Prefix, Unary, Variables, Least, Zero, One, Two, Gaps, silent_tree, Opener, Equals, Else, opener, opens, Part, token, left, part, commas, lookahead, form, level, is_of, excluded, built_before, NewTarget, Yield, YieldFrom, GeneratorExpression, GeneratorDeclaration, CatchParam, CatchBare, Cases, Catches, BlockParts, CaseItem, Catching, BlockOnly, LabelName, CaseEnd, Catch, Finally, ends_clause, is_allowed, same_sort, rule_sort, New, FunctionExpression, FunctionDeclaration, CatchParam, perhaps, option, statements, unwritten, BoundKeyValue, BoundShorthand, Shorthand, BoundProperties, Bound, Parameter, BoundProperty, KeyValue, has, ends_property, is_colon_next, ForIn, ForOf, ForDeclared, ForDeclaredIn, ForDeclaredOf, HeadVariables, HeadDeclarations, HeadDeclaration, HeadDeclared, fork, HeadEnd, For, ends_head, is_word_of, MethodProperty, Getter, Setter, GeneratorProperty, MethodFunction, GeneratorMethod, Methods, GeneratorMethods, MethodValue, GeneratorValue, Key, KeyWord, KeyText, KeyNumber, KeyNames, KeyName, WholeTemplate, Template, MiddlePiece, TailPiece, TaggedTemplate, TagWhole, TagParts, Chain, FirstMember, FirstIndex, FirstCall, LinkMember, LinkIndex, LinkCall, OptionalMember, OptionalIndex, OptionalCall, TemplateRest, TagTemplate, FirstLink, Link, TemplateRests, TagTemplates, FirstLinks, Links, Defaulted, BoundDefault, NamedDefault, ComputedMethod, ComputedGetter, ComputedSetter, ComputedGenerator, BoundElement, DefaultOf, BoundElements, DefaultsOf, Lookahead, Computed, Rest, same_flag, ClassPlain, ClassNamed, ClassDeclared, ClassBody, ClassMethod, ClassComputedMethod, ClassGenerator, ClassComputedGenerator, ClassGetter, ClassComputedGetter, ClassSetter, ClassComputedSetter, Field, ComputedField, StaticElement, StaticInit, PrivateKey, ClassBraces, ClassElement, PlainElement, ClassKey, ClassBodies, ClassElements, Extends, Leading, Leadings, Directive, starts_directive, NoDirective, ArrayTarget, ObjectTarget, PatternItem, ValueItem, PatternRest, ValueRest, TargetShorthand, TargetDefault, TargetKeyValue, TargetComputed, TargetPropertyRest, PatternAssignment, TargetPattern, Target, TargetElement, TargetProperty, Patterns, TargetElements, TargetProperties, Object, Array, As, starts_default, ModuleItem, SourceText, ModuleName, ImportItem, Exportable, DefaultDeclared, ExportItem, ForwardItem, Declarations, DefaultDeclarations, semicolon, inserts, ends_statement}
+use Rattle.mini_print.specs.Grammar.{Block as BlockRule, Goal, Anything, WithoutIn, Callee, AfterDot, Binding, Statement, Declared, Property, Body, Element, SpreadItem, ArrowBlock, FunctionBody, NoBrace, permits, is_left_brace, Binary, Sort, Values, Names, Bindings, Statements, Declarators, Properties, Bodies, sort, heir, Place, place, whole, Rule, Parenthesized, Arrow, Prefix, Unary, Variables, Least, Zero, One, Two, Gaps, silent_tree, Opener, Equals, Else, opener, opens, Part, token, left, part, commas, lookahead, form, level, is_of, excluded, built_before, NewTarget, Yield, YieldFrom, GeneratorExpression, GeneratorDeclaration, CatchParam, CatchBare, Cases, Catches, BlockParts, CaseItem, Catching, BlockOnly, LabelName, CaseEnd, Catch, Finally, ends_clause, is_allowed, same_sort, rule_sort, New, FunctionExpression, FunctionDeclaration, CatchParam, perhaps, option, statements, unwritten, BoundKeyValue, BoundShorthand, Shorthand, BoundProperties, Bound, Parameter, BoundProperty, KeyValue, has, ends_property, is_colon_next, ForIn, ForOf, ForDeclared, ForDeclaredIn, ForDeclaredOf, HeadVariables, HeadDeclarations, HeadDeclaration, HeadDeclared, fork, HeadEnd, For, ends_head, is_word_of, MethodProperty, Getter, Setter, GeneratorProperty, MethodFunction, GeneratorMethod, Methods, GeneratorMethods, MethodValue, GeneratorValue, Key, KeyWord, KeyText, KeyNumber, KeyNames, KeyName, WholeTemplate, Template, MiddlePiece, TailPiece, TaggedTemplate, TagWhole, TagParts, Chain, FirstMember, FirstIndex, FirstCall, LinkMember, LinkIndex, LinkCall, OptionalMember, OptionalIndex, OptionalCall, TemplateRest, TagTemplate, FirstLink, Link, TemplateRests, TagTemplates, FirstLinks, Links, Defaulted, BoundDefault, NamedDefault, ComputedMethod, ComputedGetter, ComputedSetter, ComputedGenerator, BoundElement, DefaultOf, BoundElements, DefaultsOf, Lookahead, Computed, Rest, same_flag, ClassPlain, ClassNamed, ClassDeclared, ClassBody, ClassMethod, ClassComputedMethod, ClassGenerator, ClassComputedGenerator, ClassGetter, ClassComputedGetter, ClassSetter, ClassComputedSetter, Field, ComputedField, StaticElement, StaticInit, PrivateKey, ClassBraces, ClassElement, PlainElement, ClassKey, ClassBodies, ClassElements, Extends, Leading, Leadings, Directive, starts_directive, NoDirective, ArrayTarget, ObjectTarget, PatternItem, ValueItem, PatternRest, ValueRest, TargetShorthand, TargetDefault, TargetKeyValue, TargetComputed, TargetPropertyRest, PatternAssignment, TargetPattern, Target, TargetElement, TargetProperty, Patterns, TargetElements, TargetProperties, Object, Array, As, starts_default, ModuleItem, SourceText, ModuleName, ImportItem, Exportable, DefaultDeclared, ExportItem, ForwardItem, Declarations, DefaultDeclarations, semicolon, inserts, ends_statement, NewBare, PrivateIn}
 use Rattle.mini_print.specs.Grammar as look
 use Rattle.mini_print.specs.Groups.{goal_of, none_is_enough, behind_comma, Groups, by_rule, Row, end, a_token, a_left, a_part, a_list, a_lookahead, present, missing, with, without, a_block, a_silent, Statements as StatementList, no_more, more, Items, nothing, last, next, gap, a_fork, a_semicolon, inserted}
 use Rattle.mini_print.specs.Printed.{is_statements}
-use Rattle.mini_print.proofs.Reader.{is_brace_next, infix_punct, infix_rule, binding, bound_by, bound_in, strength, is_weak, power, next_power, goes_on, is_closing, closes, stops, ends, is_comma, is_comma_next, is_sequence, Bracket, Opens, Closes, Neither, bracket, behind_bracket, State, is_separator, separates, Reaches, is_paren_next, is_right_brace, ends_at, declares, is_equals_next, stops_at}
+use Rattle.mini_print.proofs.Reader.{is_brace_next, infix_punct, infix_rule, binding, bound_by, bound_in, strength, is_weak, power, next_power, goes_on, is_closing, closes, stops, ends, is_comma, is_comma_next, is_sequence, Bracket, Opens, Closes, Neither, bracket, behind_bracket, State, is_separator, separates, Reaches, is_paren_next, is_right_brace, ends_at, declares, is_equals_next, stops_at, is_left_paren}
 use Rattle.mini_print.proofs.Told.{is_values, inner, Led, same_is, both}
 use Rattle.mini_print.proofs.Tidy.{Stops, Closed, Stopped, Ended, Starting, starts_clause, brace_separates, starts_rest, starts_template, starts_link, named_separates, StopsBefore, StopsLook, key_separates, StopsOption, starts_declaration}
 use Rattle.mini_print.proofs.Table.{Opening, opening, Balanced, balanced, bars_separate, opens_separates, is_no_value, TargetOpening, target_opening}
@@ -217,6 +217,62 @@ power_is g x h a b e = value_power g x a ∙ ap (bound_in g) e ∙ un (excluded 
     un : (c : Bool) → c ≡ false → (if c then 0 else binding h) ≡ binding h
     un true c = absurd (false≢true (sym c))
     un false c = refl
+
+-- behind a `new` without arguments stands no `(`, and nothing that goes on with what is made
+loose : (g : Goal) → has g NewBare ≡ true → (o : Option Rule) → bound_in g o ≤ 17 → bound_by o ≤ 17
+loose Anything e (Some SpreadItem) q = omega arith
+loose WithoutIn e (Some SpreadItem) q = omega arith
+loose WithoutIn e (Some (PrivateIn s)) q = omega arith
+loose WithoutIn e (Some (Binary binary.In)) q = omega arith
+loose WithoutIn e (Some (Binary o)) q = q
+loose Anything e None q = q
+loose WithoutIn e None q = q
+loose Element e None q = q
+loose Anything e (Some h) q = q
+loose WithoutIn e (Some h) q = q
+loose Element e (Some h) q = q
+loose _ e o q = absurd (false≢true e)
+
+no_seventeen_punct : (x : Punctuator) → nat_eq (bound_by (infix_punct x)) 17 ≡ false
+no_seventeen_punct Comma = refl
+no_seventeen_punct _ = refl
+
+no_seventeen : (x : Token) → nat_eq (strength x) 17 ≡ false
+no_seventeen (Word s) = by (same_text s (codes "in")) (same_text s (codes "instanceof"))
+  where
+    by : (b c : Bool) → nat_eq (bound_by (if b then Some (Binary binary.In) else (if c then Some (Binary binary.Instanceof) else None))) 17 ≡ false
+    by true c = refl
+    by false true = refl
+    by false false = refl
+no_seventeen (Punct x) = no_seventeen_punct x
+no_seventeen _ = refl
+
+below : (n : ℕ) → nat_eq n 17 ≡ false → n ≤ 17 → n ≤ 16
+below n e q = by (nat_lt n 17) refl
+  where
+    by : (b : Bool) → nat_lt n 17 ≡ b → n ≤ 16
+    by true f = let l = ltb-true n 17 f in omega (arith, l)
+    by false f = let l = ltb-false n 17 f in absurd (eqb-false n 17 e (omega (arith, l, q)))
+
+no_paren : (x : Token) → strength x ≤ 17 → is_left_paren x ≡ false
+no_paren (Punct LeftParen) q = absurd (omega (arith, q))
+no_paren _ q = refl
+
+new_sort : (g : Goal) → has g NewBare ≡ true → is_values (sort g) ≡ true
+new_sort g e = by (sort g) (both (is_of (sort g) NewBare) (not (excluded g NewBare)) e).0
+  where
+    by : (s : Sort) → is_of s NewBare ≡ true → is_values s ≡ true
+    by Values e = refl
+    by _ e = absurd (false≢true e)
+
+pub behind_new : (g : Goal) → has g NewBare ≡ true → (r : List Token) → next_power g r ≤ 17 → (next_power Callee r ≤ 16) × (is_paren_next r ≡ false)
+behind_new g e [] q = (omega arith, refl)
+behind_new g e (x ∷ r) q =
+    let v = value_power g x (new_sort g e) in
+    let l = loose g e (infix_rule x) (omega (arith, q, v)) in
+    let b = below (strength x) (no_seventeen x) l in
+    let p = power_le Callee x in
+    (omega (arith, p, b), no_paren x l)
 
 pub goes : (g : Goal) (n : ℕ) (x : Token) (ts : List Token) (h : Rule) → infix_rule x ≡ Some h → n < power g x → goes_on g n (x ∷ ts) ≡ Some h
 goes g n x ts h e l = ap (λ b. if b then infix_rule x else None) (lt-ltb n (power g x) l) ∙ e

@@ -11,7 +11,7 @@ use Rattle.mini_model.specs.declared.operator.UpdateOperator.TheVariants.{Increm
 use Rattle.mini_model.specs.Position.{binary_level, left_level, right_level}
 use Rattle.mini_model.specs.Weight.{same_text}
 use Rattle.mini_print.specs.Token.{Token, Word, Punct, Comma, binary_token, Colon, TemplateWhole, TemplateHead, Quoted}
-use Rattle.mini_print.specs.Grammar.{Sort, Values, Names, Bindings, Statements, Declarators, Properties, Bodies, Rule, Reference, NumberLiteral, BigIntLiteral, TextLiteral, RegExpLiteral, Null, This, True, False, Parenthesized, Array, Member, Index, New, Import, Call, PropertyName, Postfix, Prefix, Unary, Binary, Logical, Conditional, Assignment, Sequence, Arrow, BindingName, Block as BlockRule, Variables, Declarator, Empty, ExpressionStatement, If, DoWhile, While, For, Return, Throw, Debugger, Object, KeyValue, Computed, Spread, FunctionExpression, FunctionDeclaration, FunctionBody, SpreadItem, ArrowBlock, Break, Continue, Two, NoStatement, permits, begins_statement, Part, token, left, part, commas, lookahead, form, level, is_reserved, is_of, SuperMember, SuperIndex, SuperCall, NewTarget, ImportMeta, PrivateName, PrivateIn, Yield, YieldFrom, GeneratorExpression, GeneratorDeclaration, Label, Switch, Case, DefaultCase, Try, CatchParam, CatchBare, BlockPart, Cases, Catches, BlockParts, begins_label, is_colon_next, is_word_of, statement_words, ObjectPattern, ArrayPattern, Rest, BoundKeyValue, BoundComputed, BoundShorthand, BoundRest, Shorthand, BoundProperties, ForIn, ForOf, ForDeclared, ForDeclaredIn, ForDeclaredOf, HeadVariables, HeadDeclarations, MethodProperty, Getter, Setter, GeneratorProperty, MethodFunction, GeneratorMethod, Methods, GeneratorMethods, KeyWord, KeyText, KeyNumber, KeyNames, WholeTemplate, Template, MiddlePiece, TailPiece, TaggedTemplate, TagWhole, TagParts, Chain, FirstMember, FirstIndex, FirstCall, LinkMember, LinkIndex, LinkCall, OptionalMember, OptionalIndex, OptionalCall, TagTemplate, TemplateRests, TagTemplates, FirstLinks, Links, Defaulted, BoundDefault, NamedDefault, ComputedMethod, ComputedGetter, ComputedSetter, ComputedGenerator, BoundElements, DefaultsOf, same_flag, ClassPlain, ClassNamed, ClassDeclared, ClassBody, ClassMethod, ClassComputedMethod, ClassGenerator, ClassComputedGenerator, ClassGetter, ClassComputedGetter, ClassSetter, ClassComputedSetter, Field, ComputedField, StaticElement, StaticInit, PrivateKey, ClassBodies, ClassElements, Leadings, Directive, ArrayTarget, ObjectTarget, PatternItem, ValueItem, PatternRest, ValueRest, TargetShorthand, TargetDefault, TargetKeyValue, TargetComputed, TargetPropertyRest, PatternAssignment, Patterns, TargetElements, TargetProperties, YieldBare, begins_import, Declarations, DefaultDeclarations, ImportItems, ExportItems, ForwardItems, ImportBare, ImportNames, ImportNamespace, ImportDefault, ImportDefaultNames, ImportDefaultNamespace, ImportShort, ImportAs, ExportNames, ExportFrom, ExportAll, ExportDeclared, ExportValue, ExportDefault, ExportShort, ExportAs, ForwardName, ForwardText, ForwardAs, DeclaredVariables, DeclaredFunction, DeclaredGenerator, DeclaredClass, DefaultFunction, DefaultGenerator, DefaultClass, DefaultClassNamed, ForPatternIn, ForPatternOf, ArrowName, ArrowNameBlock}
+use Rattle.mini_print.specs.Grammar.{Sort, Values, Names, Bindings, Statements, Declarators, Properties, Bodies, Rule, Reference, NumberLiteral, BigIntLiteral, TextLiteral, RegExpLiteral, Null, This, True, False, Parenthesized, Array, Member, Index, New, Import, Call, PropertyName, Postfix, Prefix, Unary, Binary, Logical, Conditional, Assignment, Sequence, Arrow, BindingName, Block as BlockRule, Variables, Declarator, Empty, ExpressionStatement, If, DoWhile, While, For, Return, Throw, Debugger, Object, KeyValue, Computed, Spread, FunctionExpression, FunctionDeclaration, FunctionBody, SpreadItem, ArrowBlock, Break, Continue, Two, NoStatement, permits, begins_statement, Part, token, left, part, commas, lookahead, form, level, is_reserved, is_of, SuperMember, SuperIndex, SuperCall, NewTarget, ImportMeta, PrivateName, PrivateIn, Yield, YieldFrom, GeneratorExpression, GeneratorDeclaration, Label, Switch, Case, DefaultCase, Try, CatchParam, CatchBare, BlockPart, Cases, Catches, BlockParts, begins_label, is_colon_next, is_word_of, statement_words, ObjectPattern, ArrayPattern, Rest, BoundKeyValue, BoundComputed, BoundShorthand, BoundRest, Shorthand, BoundProperties, ForIn, ForOf, ForDeclared, ForDeclaredIn, ForDeclaredOf, HeadVariables, HeadDeclarations, MethodProperty, Getter, Setter, GeneratorProperty, MethodFunction, GeneratorMethod, Methods, GeneratorMethods, KeyWord, KeyText, KeyNumber, KeyNames, WholeTemplate, Template, MiddlePiece, TailPiece, TaggedTemplate, TagWhole, TagParts, Chain, FirstMember, FirstIndex, FirstCall, LinkMember, LinkIndex, LinkCall, OptionalMember, OptionalIndex, OptionalCall, TagTemplate, TemplateRests, TagTemplates, FirstLinks, Links, Defaulted, BoundDefault, NamedDefault, ComputedMethod, ComputedGetter, ComputedSetter, ComputedGenerator, BoundElements, DefaultsOf, same_flag, ClassPlain, ClassNamed, ClassDeclared, ClassBody, ClassMethod, ClassComputedMethod, ClassGenerator, ClassComputedGenerator, ClassGetter, ClassComputedGetter, ClassSetter, ClassComputedSetter, Field, ComputedField, StaticElement, StaticInit, PrivateKey, ClassBodies, ClassElements, Leadings, Directive, ArrayTarget, ObjectTarget, PatternItem, ValueItem, PatternRest, ValueRest, TargetShorthand, TargetDefault, TargetKeyValue, TargetComputed, TargetPropertyRest, PatternAssignment, Patterns, TargetElements, TargetProperties, YieldBare, begins_import, Declarations, DefaultDeclarations, ImportItems, ExportItems, ForwardItems, ImportBare, ImportNames, ImportNamespace, ImportDefault, ImportDefaultNames, ImportDefaultNamespace, ImportShort, ImportAs, ExportNames, ExportFrom, ExportAll, ExportDeclared, ExportValue, ExportDefault, ExportShort, ExportAs, ForwardName, ForwardText, ForwardAs, DeclaredVariables, DeclaredFunction, DeclaredGenerator, DeclaredClass, DefaultFunction, DefaultGenerator, DefaultClass, DefaultClassNamed, ForPatternIn, ForPatternOf, ArrowName, ArrowNameBlock, NewBare}
 use Rattle.mini_print.specs.Text.{escaped}
 use Rattle.mini_print.proofs.Escapes.{unescaped, unescaped_back, escapes_again}
 use Rattle.mini_print.proofs.Reader.{prefix, statement_at, infix_rule, binding, is_sequence, is_left_paren, Neither, bracket, label_or_expression, statement_start, import_at, start}
@@ -76,6 +76,7 @@ is_special (ArrowName s) = true
 is_special (ArrowNameBlock s) = true
 is_special (Reference s) = true
 is_special New = true
+is_special NewBare = true
 is_special Yield = true
 is_special YieldBare = true
 is_special FunctionExpression = true
@@ -152,6 +153,7 @@ is_forked ForIn = true
 is_forked ForOf = true
 is_forked ForDeclaredIn = true
 is_forked ForDeclaredOf = true
+is_forked NewBare = true
 is_forked _ = false
 
 abbrev pub Told : Sort → Rule → List Part → Type 0
@@ -258,6 +260,7 @@ told_value This e = λ ts. refl
 told_value True e = λ ts. refl
 told_value False e = λ ts. refl
 told_value New e = tt
+told_value NewBare e = tt
 told_value Yield e = tt
 told_value YieldBare e = tt
 told_value YieldFrom e = λ ts. refl

@@ -1,5 +1,5 @@
 -- The words of a command line, and the options that they name.
-use Rattle.std.specs.Prelude.{◌≡◌, ℕ, ◌<◌, ◌≤◌, ◌==◌, ◌^◌, List, [], ◌∷◌, ◌++◌, map, Option, Some, None, is_none, is_some, unwrap_or, if◌then◌else◌, codes}
+use Rattle.std.specs.Prelude.{◌≡◌, ◌≢◌, ◌⊎◌, ℕ, Bool, true, false, ◌<◌, ◌≤◌, ◌==◌, ◌^◌, List, [], ◌∷◌, ◌++◌, map, Option, Some, None, is_none, is_some, unwrap_or, if◌then◌else◌, codes}
 use Rattle.std.specs.List.{AllByRecursion}
 use Rattle.std.specs.Fmt.{decimal}
 use Rattle.mini_tree.specs.Options.{default_options}
@@ -103,3 +103,11 @@ NameOrders words r = (cs : List Choice) × Spell words cs × (r ≡ ordered cs)
 
 abbrev pub GoodWords : List (List ℕ) → Type 0
 GoodWords words = (cs : List Choice) × Spell words cs
+
+-- ---- words of a program's own
+
+-- the second words are the first without the first of them that is this one, and the answer says
+-- whether there is one
+abbrev pub Taken : List ℕ → List (List ℕ) → List (List ℕ) → Bool → Type 0
+Taken w [] rest b = (rest ≡ []) × (b ≡ false)
+Taken w (v ∷ vs) rest b = ((v ≡ w) × (rest ≡ vs) × (b ≡ true)) ⊎ ((v ≢ w) × ((us : List (List ℕ)) × (rest ≡ v ∷ us) × Taken w vs us b))

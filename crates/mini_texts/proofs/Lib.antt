@@ -1,2 +1,3 @@
-pub mod Named
+pub mod Minified
+pub mod Ordered
 pub mod Told

@@ -1,2 +1,3 @@
+pub mod Minified
 pub mod Options
 pub mod Texts

@@ -113,9 +113,9 @@ fn line_of(alloc: Global, text: Text) -> Result<String, Refusal>
     }
 }
 
-// The text of a program, with a newline behind it.
+/// The text of a program, with a newline behind it.
 #[tactic(auto, using(crate::proofs::Told::printed, crate::proofs::Told::half_told, crate::proofs::Told::cause_told))]
-fn print_line(alloc: Global, program: Node, spaced: bool) -> Result<String, Refusal>
+pub fn print_line(alloc: Global, program: Node, spaced: bool) -> Result<String, Refusal>
     ensures printed { IfOk result (λ line. IsPrinted spaced program (string_bytes line)) }
     ensures refused { IfErr result (λ e. IfTold e (IsUnprinted spaced program)) }
 {

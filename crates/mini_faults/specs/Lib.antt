@@ -1,0 +1,4 @@
+pub mod Depth
+pub mod Faults
+pub mod There
+pub mod Wants
