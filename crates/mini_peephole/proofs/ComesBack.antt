@@ -30,7 +30,7 @@ module _ (d : Data) (o : CompressOptions) (m : Minified) (t : Tree) (read : Acce
 
   rewritten_there : m.settled ≡ true → IsRewritten o (resolved_program seen)
   rewritten_there s =
-      let last : IsRewritten o r.output = subst (IsRewritten o) (faith.whole_is d o m t read free r) ((faith.faithful_there d o m t read free r light).settled s) in
+      let last : IsRewritten o r.output = subst (IsRewritten o) (faith.whole_is d o m t read free r) ((faith.faithful_there d o m t read free r light).kept.settled s) in
       let (ρ, far, same) = seen_later t r.output seen (faith.again d o m t read free r).1.1 (faith.back d o m t read free r) (faith.answer_read d o m t read free r) in
       rewritten_survives ρ far o (resolved_program seen) (subst (IsRewritten o) (sym same) last)
 

@@ -25,8 +25,13 @@ use Rattle.mini_kept.proofs.ReadBack.{IsRead, IsReadBack}
 use Rattle.mini_kept.proofs.Texts.{text, text_resolved}
 use Rattle.mini_shrink.specs.Exact.{exactly_of}
 use Rattle.mini_writer.specs.Written.{program_data}
+use Rattle.mini_rows.specs.Forms.{IsWithinEdition}
 use Rattle.mini_rows.specs.Switches.{let_go, Liberties}
 use Rattle.mini_rows.specs.Redex.{Rewrites, IsSettled}
+use Rattle.mini_editions.specs.Kept.{StaysWithin}
+use Rattle.mini_editions.proofs.Bodies.{steady_rewrites_stay_within}
+use Rattle.mini_editions.proofs.Rows.{rewrites_stay_within}
+use Rattle.mini_editions.proofs.Steps.{steps_stay_within}
 use Rattle.mini_steady.specs.Told.{told_in}
 use Rattle.mini_shrink.specs.SameForeign.{DeclaresOnce}
 use Rattle.mini_peephole.specs.AnyPasses.{AreSo, EachBegins, NothingLeft}
@@ -113,7 +118,7 @@ module _ (o : CompressOptions) (t : Tree) (f : IsRewritten o t) where
       stays AnyRow (reaches_of (AllGives o t) AnyRow made_by_row Elsewhere t w over) nowhere
 
 -- where the rules have nothing to do, nothing is left to rewrite
-nothing_left : (o : CompressOptions) (m : Minified) (t u : Tree) → weight Elsewhere (resolved_program t) < 2 ^ 32 → IsFaithfulUnder steady_in (NothingLeft (AllRests o)) o m t u → IsFaithful o m t u
+nothing_left : (o : CompressOptions) (m : Minified) (t u : Tree) → weight Elsewhere (resolved_program t) < 2 ^ 32 → IsFaithfulUnder steady_in (NothingLeft (AllRests o)) o m t u → IsFaithfulUnder steady_in (IsRewritten o) o m t u
 nothing_left o m t u light f = record {
   names = f.names;
   jumps = f.jumps;
@@ -127,6 +132,17 @@ nothing_left o m t u light f = record {
   settled = λ e. all_rest o (faith.later m u) (let less = f.weight in omega (arith, less, light)) (f.settled e);
   unsettled = f.unsettled;
 }
+
+-- ---- no newer form
+
+gives_stay : (o : CompressOptions) (q : Tree) → StaysWithin o.edition (AllGives o q)
+gives_stay o q p n w (inl r) = rewrites_stay_within (switches o) (writable_in q) p n w (loose_contract o q p n w r)
+gives_stay o q p n w (inr r) = steady_rewrites_stay_within (told_in q) (allowed_in o q) p n w r
+
+-- so one pass after another
+pub passes_stay : (o : CompressOptions) {k : ℕ} {s u : Tree} → PassesReach (AllGives o) k s u → IsWithinEdition o.edition s u
+passes_stay o (no_pass s) f newer there = there
+passes_stay o (one_more k s u w r others) f newer there = passes_stay o r f newer (steps_stay_within (AllGives o u) o.edition (gives_stay o u) Elsewhere u w others f newer there)
 
 module _ (d : Data) (o : CompressOptions) (m : Minified) (t : Tree) (read : Accepts d t) (free : early_fault t ≡ None) (r : IsRewriting (resolved_program t) o m) where
   pub lawful : (q : Tree) → DeclaresOnce q → LawfulRooted (let_go (switches o)) (writable_in q) (exactly_of q) (AllGives o q)
@@ -157,7 +173,10 @@ module _ (d : Data) (o : CompressOptions) (m : Minified) (t : Tree) (read : Acce
   back = (any.made exactly_of steady_in (AllGives o) (AllRests o) o lawful so d m t read free r begins).back
 
   pub faithful_there : weight Elsewhere t < 2 ^ 32 → IsFaithful o m t again.0
-  faithful_there light = nothing_left o m t again.0 (let a = resolved_lighter t start.unresolved in omega (arith, a, light)) (any.faithful_there exactly_of steady_in (AllGives o) (AllRests o) o lawful so d m t read free r begins)
+  faithful_there light = record {
+    kept = nothing_left o m t again.0 (let a = resolved_lighter t start.unresolved in omega (arith, a, light)) (any.faithful_there exactly_of steady_in (AllGives o) (AllRests o) o lawful so d m t read free r begins);
+    forms = subst (IsWithinEdition o.edition (earlier t)) (sym whole_is) (passes_stay o r.passes.reached);
+  }
 
   pub faithful : weight Elsewhere t < 2 ^ 32 → Faithful d o m
   faithful light = record { input = t; output = again.0; accepted = read; answered = written; faithful = faithful_there light }

@@ -28,6 +28,7 @@ use Rattle.mini_kept.specs.Frames.{frames_in}
 use Rattle.mini_kept.specs.Loosely.{undeclared}
 use Rattle.mini_kept.specs.ShownFrames.{KeyGivenUnder, gone_from, FramesShown}
 use Rattle.mini_kept.specs.Without.{BodySets}
+use Rattle.mini_rows.specs.Forms.{IsWithinEdition}
 use Rattle.mini_rows.specs.Switches.{Switches, let_go}
 use Rattle.mini_again.specs.Carrying.{HasNoRepeat}
 use Rattle.mini_rows.specs.Redex.{HasNoRedex}
@@ -134,11 +135,18 @@ abbrev pub IsRewritten : CompressOptions → Tree → Type 0
 IsRewritten o u = HasNoRedex (switches o) (writable_in u) Elsewhere u × IsSteadilyRewritten o u
 
 -- of rewrites, where that is known of bodies which Shared and Foreign say
-abbrev pub IsFaithful : CompressOptions → Minified → Tree → Tree → Type 0
-IsFaithful o m t u = IsFaithfulUnder steady_in (IsRewritten o) o m t u
+pub record IsFaithful (o : CompressOptions) (m : Minified) (t u : Tree) : Type 0 where
+  pub kept : IsFaithfulUnder steady_in (IsRewritten o) o m t u
+  -- each form newer than the edition that is asked for, which stands in the later program, stands in
+  -- the earlier
+  pub forms : IsWithinEdition o.edition (earlier t) (later m u)
 
-abbrev pub Faithful : Data → CompressOptions → Minified → Type 0
-Faithful d o m = FaithfulUnder steady_in (IsRewritten o) d o m
+pub record Faithful (d : Data) (o : CompressOptions) (m : Minified) : Type 0 where
+  pub input : Tree
+  pub output : Tree
+  pub accepted : Accepts d input
+  pub answered : Accepts (view m.program) output
+  pub faithful : IsFaithful o m input output
 
 -- bounds on the passes, which tell more than Faithful does
 pub record PassesBounded (d : Data) (o : CompressOptions) (m : Minified) : Type 0 where

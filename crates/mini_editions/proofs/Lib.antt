@@ -1,0 +1,14 @@
+pub mod Times
+pub mod Steps
+pub mod Negated
+pub mod Expressions
+pub mod Chained
+pub mod Folded
+pub mod Statements
+pub mod Keys
+pub mod Moved
+pub mod Past
+pub mod Idle
+pub mod Own
+pub mod Rows
+pub mod Bodies
