@@ -24,6 +24,7 @@ use Rattle.mini_tree.specs.declared.options.CompressOptions.{CompressOptions}
 use Rattle.mini_dead.specs.Dead.{dead_count}
 use Rattle.mini_dead.specs.Drops.{NumbersOnce, times_in}
 use Rattle.mini_dead.specs.KeptNames.{NamesStay}
+use Rattle.mini_rows.specs.Forms.{IsWithinEdition}
 use Rattle.mini_writer.specs.Written.{program_data}
 use Rattle.mini_peephole.specs.Faithful as faith
 use Rattle.mini_peephole.specs.Faithful.{symbols_of, IsRewritten}
@@ -35,6 +36,7 @@ use Rattle.mini_peephole.proofs.Written.{is_read, free_of, read_again}
 use Rattle.mini_shaken.specs.Chain.{Chain}
 use Rattle.mini_shaken.specs.Shaking.{IsShakenAnswer}
 use Rattle.mini_shaken.specs.Shaken.{StandsLess, StandsRewritten, IsShaken, Shaken}
+use Rattle.mini_shaken.proofs.Forms.{links_within}
 use Rattle.mini_shaken.proofs.Links.{links_stand}
 use Rattle.mini_shaken.proofs.Names.{same_times}
 
@@ -79,6 +81,7 @@ module _ (d : Data) (o : CompressOptions) (m : Minified) (t : Tree) (read : Acce
         named = named m t a.output again.0 back a.tells.kept a.tells.symbols;
         spelled = λ x c. stood.1.declares x (subst (λ w. Contains (declared w) x) whole c);
         links = subst (Chain StandsLess (StandsRewritten o) m.passes (resolved_program t)) (sym whole) stood.0;
+        forms = subst (IsWithinEdition o.edition (resolved_program t)) (sym whole) (links_within o m.passes (resolved_program t) a.output a.shakes.links);
         weight = subst (λ w. program_weight w ≤ program_weight (resolved_program t)) (sym whole) (omega (arith, some, falls));
         none_dead = ap dead_count whole ∙ a.shakes.none_dead;
         some_pass = some;

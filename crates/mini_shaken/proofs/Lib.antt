@@ -1,5 +1,6 @@
 pub mod Answered
 pub mod Faith
+pub mod Forms
 pub mod Lighter
 pub mod Links
 pub mod Names

@@ -15,6 +15,7 @@ use Rattle.mini_kept.specs.Declaring.{declared}
 use Rattle.mini_kept.specs.Frames.{Frame, frames_in}
 use Rattle.mini_kept.specs.Loosely.{undeclared}
 use Rattle.mini_kept.specs.ShownFrames.{KeyGivenUnder, gone_from, FramesShown}
+use Rattle.mini_rows.specs.Forms.{IsWithinEdition}
 use Rattle.mini_rows.specs.Switches.{let_go}
 use Rattle.mini_dead.specs.Dead.{dead_count}
 use Rattle.mini_dead.specs.Drops.{DropsAgain, BodiesStay}
@@ -61,6 +62,9 @@ pub record IsShaken (o : CompressOptions) (m : Minified) (t u : Tree) : Type 0 w
   pub spelled : (x : Name) → Contains (declared (later m u)) x → Contains (declared (earlier t)) x
   -- links lead from the earlier program to the later one, of which each keeps what programs do
   pub links : Chain StandsLess (StandsRewritten o) m.passes (earlier t) (later m u)
+  -- each form newer than the edition that is asked for, which stands in the later program, stands in
+  -- the earlier
+  pub forms : IsWithinEdition o.edition (earlier t) (later m u)
   -- it is no heavier
   pub weight : program_weight (later m u) ≤ program_weight (earlier t)
   -- no item of it is dead
