@@ -21,7 +21,7 @@ minified_by spaced o d m (Err e) made is = tt
 
 unwritten : (spaced : Bool) (m : Minified) (line : List ℕ) → IsUnprintedAnswer spaced m line → IsUnwrittenAnswer spaced m line
 unwritten spaced m line (inl unread) = inl unread
-unwritten spaced m line (inr (t, (k, n, read), q)) = inr (t, ((k, n, read), read_unprinted spaced k (view m.program) t n line read q))
+unwritten spaced m line (inr (t, (k, n, read), q)) = inr (t, (k, n, read), read_unprinted spaced k (view m.program) t n line read q)
 
 pub unprinted_by : (spaced : Bool) (o : CompressOptions) (d : Data) (m : Minified) (r : Result (String Global) Refusal) → HasAnswer o d m → IfErr r (λ e. IfTold e (IsUnprintedAnswer spaced m)) → IfErr r (λ e. IfTold e (HasNoMinifiedText spaced o d))
 unprinted_by spaced o d m (Ok line) made is = tt

@@ -1,7 +1,7 @@
 -- What keeps a program that was read from its text: each token of one without a fault is one that a
 -- text has, and each half of a surrogate pair has the other, so only a regular expression that isn't
 -- told from a division is left.
-use Rattle.std.proofs.Common.{◌≡◌, ℕ, ◌×◌, Bool, true, false, List, refl, sym, ap, subst, ◌∙◌, ◌⊎◌, inl, inr}
+use Rattle.std.proofs.Common.{◌≡◌, ℕ, Bool, true, false, List, refl, sym, ap, subst, ◌∙◌, ◌⊎◌, inl, inr}
 use Rattle.std.specs.Prelude.{Option, Some, None, Result, Ok, Err}
 use Rattle.std.specs.Char.Utf16.{has_unpaired_surrogate}
 use Rattle.std.proofs.lemmas.Bool.{false≢true}
@@ -25,10 +25,10 @@ use Rattle.mini_texts.specs.Texts as no_text
 use Rattle.mini_texts.specs.Texts.{program_data_in, style_by, text_by, print_note, KeepsRead, IsUnprinted, IsReadUnprinted, HasNoText, text_task}
 
 untold : (k : ℕ) (d : Data) (t : Tree) (n : ℕ) → program_at k d ≡ Ok (t, n) → first_fault t ≡ None → (IsPrintable Full t → ⊥) → are_told false (printed_program t) ≡ false
-untold k d t n read plain no = by (are_told false (printed_program t)) refl
+untold k d t n read plain not-printable = by (are_told false (printed_program t)) refl
   where
     by : (b : Bool) → are_told false (printed_program t) ≡ b → b ≡ false
-    by true e = absurd (no (read_prints k d t n read plain, (read_says Full k d t n read plain, e)))
+    by true e = absurd (not-printable (read_prints k d t n read plain, (read_says Full k d t n read plain, e)))
     by false e = refl
 
 keeps : (b : Bool) (k : ℕ) (d : Data) (t : Tree) (n : ℕ) (e : PrintError) → program_at k d ≡ Ok (t, n) → IsRefusalOf (style_by b) t e → KeepsRead b t e
@@ -36,7 +36,7 @@ keeps b k d t n error.OutOfMemory read is = tt
 keeps b k d t n (error.Reserved at) read is = is
 keeps b k d t n (error.BadText at) read is = is
 keeps b k d t n error.TooDeep read is = is
-keeps true k d t n error.Unprintable read is = (refl, (is.0, untold k d t n read is.0 is.1))
+keeps true k d t n error.Unprintable read is = (refl, is.0, untold k d t n read is.0 is.1)
 keeps false k d t n error.Unprintable read is = absurd (is.1 (read_prints k d t n read is.0, (read_says Short k d t n read is.0, refl)))
 
 paired : (b : Bool) (k : ℕ) (d : Data) (t : Tree) (n : ℕ) → program_at k d ≡ Ok (t, n) → first_fault t ≡ None → has_unpaired_surrogate (text_by b t) ≡ false
@@ -44,7 +44,7 @@ paired true k d t n read plain = read_text Full k d t n read plain
 paired false k d t n read plain = read_compact Short k d t n read plain
 
 pub read_unprinted : (b : Bool) (k : ℕ) (d : Data) (t : Tree) (n : ℕ) (line : List ℕ) → program_at k d ≡ Ok (t, n) → IsUnprinted b t line → IsReadUnprinted b t line
-read_unprinted b k d t n line read (inl (e, is, told)) = (e, (keeps b k d t n e read is, told))
+read_unprinted b k d t n line read (inl (e, is, told)) = (e, keeps b k d t n e read is, told)
 read_unprinted b k d t n line read (inr (plain, half, told)) = absurd (false≢true (sym (paired b k d t n read plain) ∙ half))
 
 -- ---- a program without a fault that doesn't nest too deep
@@ -57,7 +57,11 @@ nothing_keeps b t error.TooDeep line plain deep c is note = false≢true (sym is
 nothing_keeps b t error.Unprintable line plain deep c is note = false≢true (sym c ∙ is.0)
 
 same_tree : (p : Result (Tree × ℕ) accept.Fault) (t u : Tree) (n m : ℕ) → p ≡ Ok (t, n) → p ≡ Ok (u, m) → u ≡ t
-same_tree p t u n m e f = cc (sym e ∙ f)
+same_tree p t u n m e f = sym (ap (tree_of t) (sym e ∙ f))
+  where
+    tree_of : Tree → Result (Tree × ℕ) accept.Fault → Tree
+    tree_of v (Ok x) = x.0
+    tree_of v (Err x) = v
 
 unread_not : (p : Result (Tree × ℕ) accept.Fault) (t : Tree) (n : ℕ) (f : accept.Fault) → p ≡ Ok (t, n) → p ≡ Err f → ⊥
 unread_not p t n f e g = absurd (cc (sym e ∙ g))

@@ -16,7 +16,7 @@ use Rattle.mini_cli.specs.declared.answering.Refusal.{Refusal}
 use Rattle.mini_cli.specs.declared.answering.Refusal.TheVariants as refusal
 use Rattle.mini_print.specs.Unprintable.{first_fault}
 use Rattle.mini_printer.specs.Texts.{IsTextOf, IsRefusalOf}
-use Rattle.mini_printer.specs.declared.error.PrintError.{PrintError}
+use Rattle.mini_faults.specs.declared.error.PrintError.{PrintError}
 use Rattle.mini_texts.proofs.Read.{read_unprinted}
 use Rattle.mini_texts.specs.declared.options.TextOptions.{TextOptions}
 use Rattle.mini_texts.specs.Texts as no_text
@@ -44,7 +44,7 @@ cause_told b t e r is = told_so r _ (IsUnprinted b t) (λ line q. inl (e, is, q)
 
 pub half_told : (b : Bool) (t : Tree) (u : List ℕ) (r : Result (String Global) Refusal) → u ≡ text_by b t → first_fault t ≡ None → IfErr r (λ e. IfTold e (λ line. (has_unpaired_surrogate u ≡ true) × (line ≡ lone_half))) → IfErr r (λ e. IfTold e (IsUnprinted b t))
 half_told b t u (Ok line) is plain q = tt
-half_told b t u (Err e) is plain q = told_so e _ (IsUnprinted b t) (λ line p. inr (plain, (rw is at p.0, p.1))) q
+half_told b t u (Err e) is plain q = told_so e _ (IsUnprinted b t) (λ line p. inr (plain, rw is at p.0, p.1)) q
 
 pub printed : (b : Bool) (t : Tree) (u : List ℕ) (r : Result (String Global) Refusal) → u ≡ text_by b t → IsTextOf (splits_by b) t u → IfOk r (λ line. IsLine u (string_bytes line)) → IfOk r (λ line. IsPrinted b t (string_bytes line))
 printed b t u (Ok line) exact one is = record { text = u; exact = exact; one = one; is = is }
