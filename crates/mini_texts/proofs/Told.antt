@@ -15,7 +15,7 @@ use Rattle.mini_cli.specs.Run.{IfTold, note_of}
 use Rattle.mini_cli.specs.declared.answering.Refusal.{Refusal}
 use Rattle.mini_cli.specs.declared.answering.Refusal.TheVariants as refusal
 use Rattle.mini_printer.specs.Texts.{IsTextOf, IsRefusalOf}
-use Rattle.mini_printer.specs.declared.error.PrintError.{PrintError}
+use Rattle.mini_faults.specs.declared.error.PrintError.{PrintError}
 use Rattle.mini_texts.specs.declared.options.TextOptions.{TextOptions}
 use Rattle.mini_texts.specs.Texts as no_text
 use Rattle.mini_texts.specs.Texts.{program_data_in, splits_by, style_by, text_by, path_text, print_note, lone_half, IsLine, IsPrinted, IsUnread, IsUnprinted, HasText, HasNoText}

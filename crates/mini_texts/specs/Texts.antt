@@ -13,8 +13,8 @@ use Rattle.mini_print.specs.Text.{Splits, text_of}
 use Rattle.mini_print.specs.Compact.{SplitsCompactly, compact_text_of}
 use Rattle.mini_print.specs.Printed.{Style, Full, Short, printed_program, short_program}
 use Rattle.mini_printer.specs.Texts.{IsTextOf, IsRefusalOf}
-use Rattle.mini_printer.specs.declared.error.PrintError.{PrintError}
-use Rattle.mini_printer.specs.declared.error.PrintError.TheVariants as error
+use Rattle.mini_faults.specs.declared.error.PrintError.{PrintError}
+use Rattle.mini_faults.specs.declared.error.PrintError.TheVariants as error
 use Rattle.mini_cli.specs.Run.{Task, note_line, note_of}
 use Rattle.mini_texts.specs.declared.options.TextOptions.{TextOptions}
 
