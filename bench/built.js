@@ -22,4 +22,4 @@ function run(program, value, given = []) {
   return { status: ended.status, output: ended.stdout.toString(), notes: ended.stderr.toString() };
 }
 
-module.exports = { words, run };
+module.exports = { built, words, run };

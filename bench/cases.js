@@ -14,12 +14,13 @@
 //
 //     BEFORE => AFTER
 //     BEFORE => AFTER // { kept: 2, symbols: [0, 2], passes: 3, settled: false, bound: 1 }
+//     BEFORE => AFTER // { edition: 2019 }
 //     BEFORE // ERROR at POINTER
 //
 // BEFORE and AFTER are JavaScript, which acorn parses with early errors left aside; BEFORE ends in
 // `;` or `}`. `kept` and `symbols` are numbers in the input, in order, or how many there are where
 // each stays at its place: without the words all of them, and in bench/dead those symbols whose
-// names stay. Without `passes` there is one that changes something and one that doesn't, or the
+// names stay. With `edition` no form newer than that edition is written. Without `passes` there is one that changes something and one that doesn't, or the
 // latter alone where both are the same program, and in bench/dead.
 "use strict";
 const { createHash } = require("crypto");
@@ -40,8 +41,8 @@ const FOLDERS = [
 const CASES = path.join(__dirname, "..", "crates", "mini_cases");
 
 // What the answer says of a program that becomes another one, or stays.
-function answered({ kept, symbols, passes, settled, program, bound = UNBOUNDED }) {
-  return { bound, answer: `${kept} ${symbols} ${passes} ${settled} ${program}` };
+function answered({ kept, symbols, passes, settled, program, bound = UNBOUNDED, edition }) {
+  return { bound, edition, answer: `${kept} ${symbols} ${passes} ${settled} ${program}` };
 }
 
 // The case that a line tells.
@@ -49,10 +50,11 @@ function caseOf(line, word, outcome) {
   const refusal = /^(.*) \/\/ (\w+) at (\/\S*)$/.exec(line);
   const [programs, said = "{}"] = line.split(/ \/\/ (?={.*}$)/);
   const [source, after] = refusal ? [refusal[1]] : programs.split(/(?<=[;}]) =>(?: |$)/);
-  const { bound, answer } = refusal
+  const { bound, edition, answer } = refusal
     ? { bound: UNBOUNDED, answer: `${refusal[2]} ${refusal[3]}` }
     : answered(outcome(source, after, saidOptions(said)));
-  return { source, line: `${word} ${bound} ${text(estree(source))}`, answer };
+  const asked = edition === undefined ? `${word} ${bound}` : `edition ${edition}`;
+  return { source, line: `${asked} ${text(estree(source))}`, answer };
 }
 
 function casesOf(rows, word, outcome) {

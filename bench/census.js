@@ -8,15 +8,18 @@
 // and `--log` writes a line of JSON for each. What is told: how many files and bytes the parser
 // reads, how many are answered, refused by cause, or printed as another program; the bytes of those
 // that are answered as they were, printed without a rewrite, and minified; the passes. With
-// `--print` nothing is rewritten: each file is only printed and compared, which is quick and wants
-// no program.
+// `--print` nothing is rewritten: each file is only printed, adapted as `minify` does, and compared.
 "use strict";
 const crypto = require("crypto");
 const fs = require("fs");
 const { minify } = require("../js");
+const { adapt } = require("../js/src/adapter.js");
+const { unwrap, wrap } = require("../js/src/commonjs.js");
 const { difference, placeOf } = require("../js/src/guard.js");
+const { toJson } = require("../js/src/json.js");
+const { numbered } = require("../js/src/numbered.js");
 const { parse } = require("../js/src/parser.js");
-const { print } = require("../js/src/print.js");
+const { printed, read } = require("../js/src/printer.js");
 const { filesBelow } = require("./pieces.js");
 
 const FOLDERS = ["/usr/share/nodejs", "/usr/share/javascript"];
@@ -51,22 +54,32 @@ function* distinct({ folders, most }) {
   }
 }
 
-// What the printer makes of a file that nothing rewrites.
-const printedBytes = (code) => Buffer.byteLength(print(parse(code).ast));
+// What is printed of a file that nothing rewrites: the program, its text, and the tree of that.
+function plain(code, module) {
+  const { ast, commonjs } = parse(code, { module });
+  const input = commonjs ? wrap(ast, code) : ast;
+  const { ast: tree, restore, respell } = adapt(input, code);
+  const calls = [{ json: toJson(tree), words: ["--max-depth=1000"] }];
+  const program = restore({ program: tree, kept: numbered(tree).map((_, number) => number) });
+  const made = { program, ...printed(ast.sourceType === "module", calls, respell, {}) };
+  return commonjs ? unwrap(program, made.text, code) : made;
+}
+
+const printedBytes = (code, module) => Buffer.byteLength(plain(code, module).text);
 
 // Prints a file as it is; gives what is wrong with the text, as `minify` would.
 function printAlone(code, module) {
-  const { ast } = parse(code, { module });
-  const text = print(ast);
-  const found = difference(ast, parse(text, { module: ast.sourceType === "module" }).ast);
+  const { program, text, tree } = plain(code, module);
+  const found = difference(program, tree ?? read(text, program.sourceType === "module"));
   if (found) return { refused: { code: "Guard", message: placeOf(found), line: null, column: null }, stats: {} };
   return { refused: null, stats: { bytesAfter: Buffer.byteLength(text), passes: 0, settled: true } };
 }
 
-function printed(code, { module }) {
+function withoutRewrites(code, { module }) {
   try {
     return printAlone(code, module);
   } catch (refused) {
+    if (refused.name !== "Refusal") throw refused;
     return { refused, stats: {} };
   }
 }
@@ -98,18 +111,18 @@ class Census {
   take({ file, code }, { adapt, print: isPrintOnly }) {
     const bytes = Buffer.byteLength(code);
     const module = file.endsWith(".mjs") ? true : undefined;
-    const { refused, stats } = (isPrintOnly ? printed : minify)(code, { adapt, module });
+    const { refused, stats } = (isPrintOnly ? withoutRewrites : minify)(code, { adapt, module });
     if (refused?.code === "Syntax") add(this.unread, bytes);
     else add(this.read, bytes);
-    if (!refused) this.answer(code, bytes, stats);
+    if (!refused) this.answer(code, module, bytes, stats);
     else if (refused.code !== "Syntax") this.refuse(causeOf(refused), bytes);
     return { file, bytes, ...stats, refused: refused && `${refused.line}:${refused.column}: ${causeOf(refused)}` };
   }
 
-  answer(code, bytes, { bytesAfter, passes, settled }) {
+  answer(code, module, bytes, { bytesAfter, passes, settled }) {
     add(this.answered, bytes);
     this.sizes.source += bytes;
-    this.sizes.printed += printedBytes(code);
+    this.sizes.printed += passes === 0 ? bytesAfter : printedBytes(code, module);
     this.sizes.minified += bytesAfter;
     this.passes = Math.max(this.passes, passes);
     if (!settled) this.unsettled += 1;

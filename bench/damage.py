@@ -14,7 +14,8 @@ of 1 MB, 2,000,000 keys, UTF-8 cut in two, and inputs as long as the limit and l
 one of examples/*.json, of bench/forms.js (which wants node) or of the stored runs of
 crates/mini_cases at a time, with one to four damages: of the tree (nodes dropped, doubled, moved,
 copied, swapped, wrapped in negations, named or typed otherwise, and lists made many times as long),
-or of that and then of the text (bits, bytes and tokens). Every fourth is run with words.
+or of that and then of the text (bits, bytes, characters and tokens, dropped, doubled and moved).
+Every fourth is run with words.
 
 Each run must end with a status of its table that such a run can have (0, 2 or 3; 6 beyond the
 limit), write to standard output only with status 0, one line of JSON with the members of an answer,
@@ -310,16 +311,49 @@ def repeat_bytes(data, chance):
     data[at:at] = piece * chance.randint(1, 8)
 
 
+def move_bytes(data, chance):
+    at = chance.randrange(len(data))
+    piece = data[at : at + chance.randint(1, 40)]
+    del data[at : at + len(piece)]
+    there = chance.randint(0, len(data))
+    data[there:there] = piece
+
+
+def break_character(data, chance):
+    """Puts in a part of a character, or half of a pair."""
+    at = chance.randrange(len(data))
+    data[at:at] = chance.choice(BROKEN)
+
+
 def change_token(data, chance):
-    """Drops a token, doubles it, or puts it in place of another."""
+    """Drops a token, doubles it, puts it in place of another, or before another."""
     found = list(TOKEN.finditer(data))
     if found:
         one, other = chance.choice(found), chance.choice(found)
-        piece = chance.choice((b"", one[0] * 2, one[0] + b"," + one[0], other[0]))
+        piece = chance.choice((b"", one[0] * 2, one[0] + b"," + one[0], other[0], other[0] + one[0]))
         data[one.start() : one.end()] = piece
 
 
-TEXT_DAMAGES = (flip_bit, cut_bytes, repeat_bytes, change_token)
+def move_token(data, chance):
+    found = list(TOKEN.finditer(data))
+    if found:
+        one, other = chance.choice(found), chance.choice(found)
+        first, last = sorted((one, other), key=lambda token: token.start())
+        between = data[first.end() : last.start()]
+        if first is not last:
+            data[first.start() : last.end()] = between + first[0] + last[0]
+
+
+BROKEN = (b"\xc3", b"\xe2\x82", b"\xf0\x90\x8c", b"\xed\xa0\x80", b"\xff", b"\\ud800", b"\\udc00", b"\0")
+TEXT_DAMAGES = (
+    flip_bit,
+    cut_bytes,
+    repeat_bytes,
+    move_bytes,
+    break_character,
+    change_token,
+    move_token,
+)
 MIXED_DAMAGES = TREE_DAMAGES + TEXT_DAMAGES * 12
 
 

@@ -16,8 +16,8 @@ const saidOptions = (said) => Function(`return (${said});`)();
 // The parts of an answer, as text. `said` tells what is not as usual: `kept` and `symbols` are
 // numbers in the input, in order, or how many there are where each stays at its place.
 function told(after, said, usual) {
-  const { kept, symbols, passes, settled, bound } = { ...usual, ...said };
-  return { kept: numbers(kept), symbols: numbers(symbols), passes, settled, program: text(written(after)), bound };
+  const { kept, symbols, passes, settled, bound, edition } = { ...usual, ...said };
+  return { kept: numbers(kept), symbols: numbers(symbols), passes, settled, program: text(written(after)), bound, edition };
 }
 
 function outcomeOf(source, after, said) {

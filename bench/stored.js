@@ -1,5 +1,5 @@
-// Runs the whole runs that are stored (crates/mini_cases/stdin, lines `answer PASSES PROGRAM`) by
-// the built program, and compares what it answers with what is stored (crates/mini_cases/stdout).
+// Runs the whole runs that are stored (crates/mini_cases/stdin, lines `answer PASSES PROGRAM` and
+// `edition YEAR PROGRAM`) by the built program, and compares what it answers with what is stored (crates/mini_cases/stdout).
 // It takes under a minute, where the build with checks of mini_cases takes many, so that stale
 // lines are found before the gate. Builds nothing.
 //
@@ -39,12 +39,16 @@ const same = (first, second) => JSON.stringify(ordered(first)) === JSON.stringif
 // `[KEPT] [SYMBOLS] PASSES SETTLED PROGRAM`, or an error and a pointer.
 const ANSWER = /^(\[[\d,]*\] \[[\d,]*\] \d+ \w+) (.*)$/;
 
+// A word names an edition that there is.
+const within = (year) => Math.min(2022, Math.max(2015, Number(year)));
+
 const told = { runs: 0, differ: 0, refused: 0 };
 asked.forEach((line, at) => {
-  const [, passes, value] = /^answer (\d+) (.*)$/.exec(line) ?? [];
+  const [, task, number, value] = /^(answer|edition) (\d+) (.*)$/.exec(line) ?? [];
   if (value === undefined) return;
+  const word = task === "answer" ? `--passes=${number}` : `--edition=${within(number)}`;
   told.runs += 1;
-  const ended = spawnSync(program, [`--passes=${passes}`], { input: value, maxBuffer: 1 << 28 });
+  const ended = spawnSync(program, [word], { input: value, maxBuffer: 1 << 28 });
   const [, head, text] = ANSWER.exec(stored[at]) ?? [];
   if (ended.status !== 0) {
     told.refused += 1;

@@ -6,7 +6,9 @@
 //
 // PROGRAM is crates/mini_text/out/mini_text of this repository unless it is given. The trees are
 // both sides of each line of bench/rows, COUNT programs (3,000) that generate.js makes of SEED (1),
-// and as many pieces of installed code that pieces.js finds; those that aren't read are left out.
+// as many pieces of installed code that pieces.js finds, and one that has what a printer has to
+// mind; those that aren't read are left out. By `--minify` the program has to write of each tree
+// just what it writes of the answer of mini_app, and it refuses the tree where that is refused.
 // Statements without directives are put together, a hundred to a tree, since a call costs more than
 // a text; where such a tree is refused each statement is a tree of its own. Then a line for each
 // peer that is installed: the bytes of what it writes of the pieces without rewrites, by themselves
@@ -17,17 +19,24 @@ const { spawnSync } = require("child_process");
 const fs = require("fs");
 const path = require("path");
 const zlib = require("zlib");
-const { words, run } = require("./built.js");
+const { built, words, run } = require("./built.js");
 const { isOutside, isUnread, parseLeniently, text, written } = require("./estree.js");
 const { script } = require("./generate.js");
 const { chosenPieces } = require("./pieces.js");
 const { print } = require("./print.js");
 
 const ROWS = path.join(__dirname, "rows");
-const MODES = { spaced: ["--spaced"], compact: [] };
+const MODES = { spaced: ["--spaced"], compact: [], minified: ["--minify"] };
+const PRINTED = ["spaced", "compact"];
 const AT_ONCE = 100;
 const REFUSED = 3;
 const SHOWN = 5;
+
+// A directive, a template, a chain, an arrow function of an object, a regular expression, `in` in
+// the head of a loop, two signs, and an `else` behind an `if` without one.
+const MINDED =
+  '"use strict"; var t = `a${b}c`; x?.y.z; f = () => ({}); /[/]re/g.test(t);' +
+  'for (var i = ("k" in o); i;) i = g(i - -1); if (a) { if (b) c(); } else d();';
 
 // ---- the trees
 
@@ -102,13 +111,36 @@ function difference(tree, source) {
   return `${wanted.slice(Math.max(0, at - 120), at + 80)}\n  became ${got.slice(Math.max(0, at - 120), at + 80)}`;
 }
 
+// What the program writes of the answer of mini_app, or why one of the two refuses the tree.
+function pipedText(program, tree) {
+  const answer = run(built("mini_app"), written(tree));
+  if (answer.status === REFUSED) return answer.notes.trim();
+  const { status, output, notes } = run(program, JSON.parse(answer.output));
+  return status === 0 ? output.slice(0, -1) : notes.trim();
+}
+
+// How many of the trees are minified to another text than that of the answer of mini_app.
+function heldMinified(program, name, trees) {
+  let [made, differ] = [0, 0];
+  for (const tree of joined(trees)) {
+    const { source, refused } = textOf(program, tree, "minified");
+    const wanted = pipedText(program, tree);
+    made += 1;
+    if (wanted === (source ?? refused)) continue;
+    differ += 1;
+    if (differ <= SHOWN) console.log(`${name}, minified: ${source ?? refused}\n  in place of ${wanted}`);
+  }
+  console.log(`${name}: ${made} trees minified, ${differ} to another text than that of mini_app's answer`);
+  return differ;
+}
+
 // How many of the trees are printed, refused, and printed as another one.
 function held(program, name, trees) {
   const told = { printed: 0, refused: 0, differ: 0 };
   const left = [...joined(trees)];
   while (left.length > 0) {
     const tree = left.pop();
-    const texts = Object.keys(MODES).map((mode) => ({ mode, ...textOf(program, tree, mode) }));
+    const texts = PRINTED.map((mode) => ({ mode, ...textOf(program, tree, mode) }));
     const refused = texts.find((made) => made.refused);
     const parts = refused ? split(tree) : [];
     if (parts.length > 1) {
@@ -179,8 +211,8 @@ async function beside(program, trees) {
 async function main() {
   const { program, count, seed } = words(3000, "mini_text");
   const pieces = chosenPieces(count, seed).map(([, piece]) => piece);
-  const sets = { rows: rowTrees(), generated: generatedTrees(count, seed), pieces };
-  const differ = Object.entries(sets).map(([name, trees]) => held(program, name, trees));
+  const sets = { minded: [treeOf(MINDED)], rows: [...rowTrees()], generated: [...generatedTrees(count, seed)], pieces };
+  const differ = Object.entries(sets).flatMap(([name, trees]) => [held(program, name, trees), heldMinified(program, name, trees)]);
   await beside(program, [...joined(pieces)].filter((tree) => tree.sourceType === "script"));
   if (differ.some((found) => found > 0)) process.exitCode = 1;
 }

@@ -3,11 +3,9 @@ const { adapt } = require("./adapter.js");
 const { Refusal, messageOf } = require("./errors.js");
 const { halves, joined } = require("./halves.js");
 const { nesting, toJson } = require("./json.js");
-const { runProgram } = require("./program.js");
+const { printed } = require("./printer.js");
+const { MOST, runProgram } = require("./program.js");
 const { wordsOf } = require("./words.js");
-
-// The program reads no more bytes.
-const MOST = 16_777_216;
 
 /** The node that a JSON pointer leads to, and the nearest one above it that has a place. */
 function nodeAt(ast, pointer) {
@@ -41,14 +39,20 @@ const ENDINGS = {
   OutOfMemory: () => "the program had too little memory",
 };
 
-/** Hands the JSON of a tree to the program, and gives its answer. */
+/** Hands the JSON of a tree to the program, and gives its answer, read and as bytes. */
 function rewritten(ast, json, options) {
   const ended = runProgram(json, wordsOf(options), options);
-  if (ended.answer) return ended.answer;
+  if (ended.answer) return { answer: ended.answer, bytes: ended.output };
   if (ended.name === "Refused") throw refusedNode(ended.note, ast, ended.status);
   const message = ENDINGS[ended.name]?.(json) ?? ended.note;
   throw new Refusal(ended.name, message, { status: ended.status });
 }
+
+/** Ways to have an answer printed: where it is no JSON that is read, it is made once more. */
+const callsOf = (json, bytes, options) => [
+  { json: bytes, words: ["--max-depth=1000"] },
+  { json, words: ["--minify", ...wordsOf(options)] },
+];
 
 /**
  * The lighter program for a parser's tree: what the program doesn't read is adapted before and put
@@ -57,7 +61,9 @@ function rewritten(ast, json, options) {
  * @param {string} code its text
  * @param {object} options those of `minify`
  * @param {object[]} warnings takes in those of the adapter
- * @returns {{program: object, kept: number[], passes: number, settled: boolean}}
+ * @returns {{program: object, text: string, tree: object | null, kept: number[], passes: number,
+ *   settled: boolean}} `text` is that of the program, and `tree` what the parser makes of it, where
+ *   that is known
  * @throws {Refusal}
  */
 function answerFor(ast, code, options, warnings) {
@@ -69,8 +75,11 @@ function answerFor(ast, code, options, warnings) {
     return joined(parts[0], one, other);
   }
   warnings.push(...adapted.warnings);
-  const answer = rewritten(adapted.ast, json, options);
-  return { ...answer, program: adapted.restore(answer) };
+  const { answer, bytes } = rewritten(adapted.ast, json, options);
+  const program = adapted.restore(answer);
+  const isModule = ast.sourceType === "module";
+  const calls = callsOf(json, bytes, options);
+  return { ...answer, program, ...printed(isModule, calls, adapted.respell, options) };
 }
 
 module.exports = { answerFor };

@@ -1,4 +1,5 @@
 "use strict";
+const { Refusal } = require("./errors.js");
 
 // What node's loader hands to a module of CommonJS, whose code is the body of a function.
 const PARAMETERS = ["exports", "require", "module", "__filename", "__dirname"];
@@ -34,9 +35,19 @@ function wrap(ast, code) {
   return { ...ast, body: [wrapper] };
 }
 
-/** The statements of the function that `wrap` made, again as a program. */
-function unwrap(program) {
-  return { ...program, body: program.body[0].body.body };
+/**
+ * What stands in the function that `wrap` made, again as a program and as its text.
+ * @param {object} program
+ * @param {string} text
+ * @param {string} code the text that was wrapped
+ */
+function unwrap(program, text, code) {
+  const head = `function ${freshName(code)}(${PARAMETERS.join(",")}){`;
+  if (!text.startsWith(head) || !text.endsWith("}")) {
+    throw new Refusal("Guard", "what was printed isn't the function round the code");
+  }
+  const body = { ...program, body: program.body[0].body.body };
+  return { program: body, text: text.slice(head.length, -1), tree: null };
 }
 
 module.exports = { wrap, unwrap };

@@ -7,9 +7,10 @@
  * - `Unsupported`, `BadShape`, `TooDeep`, `EarlyName`, `EarlyJump`: what the program says of a
  * node;
  * - `NotJson`, `TooLong`, `OutOfMemory`, `ReadFault`, `WriteFault`, `BadWords`: its other statuses;
- * - `NoProgram`: the program isn't there, or was ended;
+ * - `NoProgram`: a program isn't there, or was ended;
  * - `NoParser`: the parser isn't there;
  * - `Adapter`: what the adapter wrote in place of a form did not come back as it must;
+ * - `Printer`: the program that prints refuses the answer, or it is too long or too deep;
  * - `Guard`: what was printed is another program than what was answered.
  *
  * `line` counts from 1 and `column` too; both are null where no place is known.

@@ -4,8 +4,8 @@ const { NODES, isNode } = require("./estree.js");
 /**
  * Compares the tree that was to be printed with the one that the parser gives for the text. Both
  * say the same program where they differ only in what has no meaning: positions, `raw`, the cooked
- * text of templates (which follows from the raw one), empty statements of a list, braces round the
- * first branch of an `if`, and a negative number that is written as a minus and a number.
+ * text of templates (which follows from the raw one), empty statements of a list, braces that part
+ * an `if` from an `else` behind it, and a negative number that is written as a minus and a number.
  */
 
 class Difference {
@@ -68,6 +68,25 @@ function withoutBraces(node) {
   return statements.length === 1 && !DECLARATION.test(only.type) ? only : node;
 }
 
+// Where a statement ends in another one, which would take an `else` behind it.
+const TAILS = {
+  IfStatement: "alternate",
+  WhileStatement: "body",
+  ForStatement: "body",
+  ForInStatement: "body",
+  ForOfStatement: "body",
+  LabeledStatement: "body",
+};
+
+/** The first branch of an `if`, without braces that part an `if` in it from the `else` behind it. */
+function firstBranch(node) {
+  const bare = withoutBraces(node);
+  const field = TAILS[bare.type];
+  const last = bare[field] ?? null;
+  const inner = last && firstBranch(last);
+  return inner === last ? bare : { ...bare, [field]: inner };
+}
+
 // ---- trees
 
 function ofLists(one, other) {
@@ -107,8 +126,8 @@ function ofFields(one, other) {
 
 function ofIfs(one, other) {
   return ofFields(
-    { ...one, consequent: withoutBraces(one.consequent) },
-    { ...other, consequent: withoutBraces(other.consequent) },
+    { ...one, consequent: firstBranch(one.consequent) },
+    { ...other, consequent: firstBranch(other.consequent) },
   );
 }
 

@@ -37,10 +37,19 @@ function halves(ast) {
   return [half(statements.slice(0, count)), half(statements.slice(count))];
 }
 
+/** The text of a script behind its directives. */
+function withoutDirectives({ text, tree }) {
+  const first = tree.body.find((node) => !isDirective(node));
+  return text.slice(first?.start ?? text.length);
+}
+
+/** Two texts of statements as one. */
+const together = (one, other) => [one, other].filter((text) => text !== "").join(";");
+
 /**
  * The answer for a script, from those for its halves.
  * @param {object} first the first half, as it was handed over
- * @param {object} one its answer
+ * @param {object} one its answer, with its text and the parser's tree of that
  * @param {object} other the answer for the second half
  */
 function joined(first, one, other) {
@@ -49,6 +58,8 @@ function joined(first, one, other) {
   const shift = numbered(first).length - 1;
   return {
     program: { ...one.program, body },
+    text: together(one.text, withoutDirectives(other)),
+    tree: null,
     kept: [...one.kept, ...other.kept.slice(1).map((number) => number + shift)],
     passes: Math.max(one.passes, other.passes),
     settled: one.settled && other.settled,

@@ -5,26 +5,22 @@ const { Refusal } = require("./errors.js");
 const { difference, placeOf } = require("./guard.js");
 const { licences } = require("./licences.js");
 const { parse } = require("./parser.js");
-const { print } = require("./print.js");
+const { read } = require("./printer.js");
 const { sourceMap } = require("./source-map.js");
 
 const bytes = (text) => Buffer.byteLength(text);
 
 // ---- what is printed
 
-/** The text of a program, if the parser reads it as that program again. */
-function guarded(program, positions) {
-  let text;
-  let again;
-  try {
-    text = print(program, { positions });
-    again = parse(text, { module: program.sourceType === "module" }).ast;
-  } catch (error) {
-    throw new Refusal("Guard", `what was printed can't be read: ${error.message}`);
-  }
-  const found = difference(program, again);
-  if (found) throw new Refusal("Guard", `what was printed is another program at ${placeOf(found)}`);
-  return text;
+/**
+ * What the parser makes of a text, if that is the program of which it is to be the text.
+ * @throws {Refusal}
+ */
+function guarded({ program, text, tree }) {
+  const found = tree ?? read(text, program.sourceType === "module");
+  const other = difference(program, found);
+  if (other) throw new Refusal("Guard", `what was printed is another program at ${placeOf(other)}`);
+  return found;
 }
 
 /** What stands before the code: the `#!` line, and the comments that are kept. */
@@ -41,13 +37,13 @@ function changed(code, options, warnings) {
   const { ast, commonjs: isCommonjs } = parse(code, { module: options.module, comments });
   const input = isCommonjs ? commonjs.wrap(ast, code) : ast;
   const answer = answerFor(input, code, options, warnings);
-  const program = isCommonjs ? commonjs.unwrap(answer.program) : answer.program;
-  const positions = options.sourceMap ? [] : null;
-  const text = guarded(program, positions);
-  const head = headOf(code, comments);
+  const parts = isCommonjs ? commonjs.unwrap(answer.program, answer.text, code) : answer;
+  const tree = guarded(parts);
+  const { program, text } = parts;
   const { kept, passes, settled } = answer;
-  const parts = { code, ast, kept, program, text, positions, head };
-  const map = options.sourceMap ? mapOf(parts, options, warnings) : null;
+  const head = headOf(code, comments);
+  const sources = { code, ast, kept, program, text, tree, head };
+  const map = options.sourceMap ? mapOf(sources, options, warnings) : null;
   return { code: head + text, map, stats: { passes, settled } };
 }
 
@@ -65,8 +61,8 @@ function checkCall(code, options) {
 }
 
 /**
- * Minifies JavaScript: it parses the text, lets the proved program rewrite the tree, and prints
- * what that answers. What was printed is parsed again and compared; where anything goes wrong the
+ * Minifies JavaScript: it parses the text, lets one proved program rewrite the tree, and another
+ * print what that answers. What was printed is parsed and compared; where anything goes wrong the
  * text comes back as it was.
  *
  * @param {string} code
@@ -76,6 +72,8 @@ function checkCall(code, options) {
  *   it as others that it reads (docs/ADAPTER.md)
  * @param {number} [options.passes] how many passes are made at most
  * @param {number} [options.maxDepth=1000] how deep nodes may nest
+ * @param {number} [options.edition=2022] the edition of ECMAScript, as a year from 2015 on, of
+ *   which no newer form is written that `code` lacks
  * @param {boolean} [options.sequences=true] whether statements are joined by commas
  * @param {boolean} [options.joinVars=true] whether declarations are joined
  * @param {boolean} [options.keepFunctionNames=false]
@@ -83,7 +81,10 @@ function checkCall(code, options) {
  * @param {boolean} [options.sourceMap=false] whether a source map is made
  * @param {object} [options.inputMap] the source map of `code`, with which that is composed
  * @param {string} [options.file] the name of the file, for the source map
- * @param {string} [options.program] where the program is (`MINI_APP`, crates/mini_app/out/mini_app)
+ * @param {string} [options.program] where the program is that rewrites (else `MINI_APP`, else
+ *   crates/mini_app/out/mini_app)
+ * @param {string} [options.printer] where the program is that prints (else `MINI_TEXT`, else
+ *   crates/mini_text/out/mini_text)
  * @returns {{code: string, map: object | null, refused: Refusal | null, warnings: object[], stats:
  *   object}} `refused` says why `code` is as it was; a warning has `code`, `message`, `line` and
  *   `column`; `stats` has `bytesBefore`, `bytesAfter`, and of the answer `passes` and `settled`

@@ -44,7 +44,7 @@ function tryParse(code, options) {
   }
 }
 
-const ALWAYS = { ecmaVersion: "latest", allowHashBang: true, locations: true };
+const ALWAYS = { ecmaVersion: "latest", allowHashBang: true };
 
 /**
  * How a text may be read: as a script, as one of CommonJS with a `return` outside functions, as a
@@ -61,17 +61,19 @@ function readings(module) {
 /**
  * Parses JavaScript.
  * @param {string} code
- * @param {{module?: boolean, comments?: object[]}} [options] `module`: whether it is a module, else
- *   a script if it is one. `comments`: a list that takes in the comments.
+ * @param {{module?: boolean, comments?: object[], isPlaced?: boolean}} [options] `module`: whether
+ *   it is a module, else a script if it is one. `comments`: a list that takes in the comments.
+ *   `isPlaced`: whether nodes have lines and columns beside offsets (`loc`), which takes time.
  * @returns {{ast: object, commonjs: boolean}} the ESTree with positions, and whether a `return`
  *   stands outside functions
  * @throws {Refusal} with the code `Syntax`
  */
-function parse(code, { module, comments } = {}) {
+function parse(code, { module, comments, isPlaced = true } = {}) {
   let first = null;
   for (const reading of readings(module)) {
     const notes = [];
-    const { ast, error } = tryParse(code, { ...ALWAYS, onComment: notes, ...reading });
+    const asked = { ...ALWAYS, locations: isPlaced, onComment: notes, ...reading };
+    const { ast, error } = tryParse(code, asked);
     if (ast) {
       comments?.push(...notes);
       return { ast, commonjs: reading.allowReturnOutsideFunction === true };

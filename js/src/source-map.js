@@ -171,6 +171,16 @@ function placesIn(text) {
 }
 
 /**
+ * Where each leaf of a printed tree begins in its text: the parser's tree of that is the same, leaf
+ * by leaf, as the guard has seen.
+ * @returns {[number, object][]}
+ */
+function positionsOf(program, tree) {
+  const found = leaves(tree);
+  return leaves(program).map((leaf, at) => [found[at].start, leaf]);
+}
+
+/**
  * The segments of the printed leaves: those with an origin lead to it, the first after them to
  * nowhere.
  * @param {(leaf: object) => number[] | null} origin source, line, column and name
@@ -227,14 +237,14 @@ function readInputMap(inputMap, code) {
  * @param {object} parts.program the tree that was printed
  * @param {number[]} parts.kept the numbers of the answer
  * @param {string} parts.text what was printed
- * @param {[number, object][]} parts.positions where in it each leaf begins
+ * @param {object} parts.tree what the parser makes of that: the same tree, with its places
  * @param {string} parts.head what stands before it: whole lines
  * @param {string} [parts.file] the name of the source
  * @param {object} [parts.inputMap] the map of `code`: then the map leads to where that leads
  * @returns {{map: object | null, warnings: object[]}} a map of version 3; null where none can be
  *   made
  */
-function sourceMap({ code, ast, program, kept, text, positions, head = "", file, inputMap }) {
+function sourceMap({ code, ast, program, kept, text, tree, head = "", file, inputMap }) {
   let before;
   try {
     before = readInputMap(inputMap, code);
@@ -249,7 +259,7 @@ function sourceMap({ code, ast, program, kept, text, positions, head = "", file,
     if (before === null) return [0, line - 1, column];
     return before.trace({ line, column }, source.end - source.start);
   };
-  const lines = segmentsOf(text, positions, origin);
+  const lines = segmentsOf(text, positionsOf(program, tree), origin);
   const map = direct({ code, file, lines, head });
   if (!before) return { map, warnings: [] };
   const { sources, sourcesContent, sourceRoot, names = [] } = inputMap;

@@ -1,7 +1,7 @@
 "use strict";
 
 // The words of the program, by the options that stand for them.
-const NUMBERS = { passes: "passes", maxDepth: "max-depth" };
+const NUMBERS = { passes: "passes", maxDepth: "max-depth", edition: "edition" };
 const TURNED_OFF = { sequences: "no-sequences", joinVars: "no-join-vars" };
 const TURNED_ON = {
   keepFunctionNames: "keep-function-names",

@@ -117,6 +117,8 @@ test("the words of the program are handed on", () => {
   assert.equal(run(["-q", "--keep-function-names"], "f(function g() {});").out, "f(function g(){})\n");
   assert.equal(run(["-q", "--keep-class-names"], "f(class G {});").out, "f(class G{})\n");
   assert.equal(run(["-q", "--passes=1"], "if (a) { if (b) c(); }").status, 0);
+  assert.equal(run(["-q", "--edition=2020"], "a || (a = b);").out, "a||(a=b)\n");
+  assert.equal(run(["-q", "--edition=2021"], "a || (a = b);").out, "a||=b\n");
 });
 
 test("a module is told by --module, by its name, or because it is no script", () => {
@@ -148,6 +150,7 @@ const WRONG = [
   [["--max-depth=0"], "an option is none that the program knows"],
   [["--source-map"], "--source-map wants -o OUT"],
   [["--program", "/none", "-"], "there is no program /none: build it by `rt run` in crates/mini_app, or name it in MINI_APP"],
+  [["--printer", "/none", "-"], "there is no program /none: build it by `rt run` in crates/mini_text, or name it in MINI_TEXT"],
 ];
 
 test("a wrong call ends with 2", () => {
@@ -166,10 +169,12 @@ test("so does one where the parser isn't there", () => {
   assert.equal(stderr.startsWith("acorn, the parser, isn't here: run `npm install` in js/"), !isThere);
 });
 
-test("MINI_APP names the program", () => {
-  const { status, said } = run([], "a", { MINI_APP: "/none" });
-  assert.equal(status, 2);
-  assert.match(said, /^there is no program \/none/);
+test("MINI_APP and MINI_TEXT name the programs", () => {
+  for (const name of ["MINI_APP", "MINI_TEXT"]) {
+    const { status, said } = run([], "a", { [name]: "/none" });
+    assert.equal(status, 2);
+    assert.match(said, new RegExp(`^there is no program /none: .*${name}\n`));
+  }
 });
 
 test("--help and --version", () => {

@@ -59,6 +59,8 @@ test("so are those of modules", () => {
 test("what has no meaning is no difference", () => {
   assert.equal(place("a; ; b", "a;b"), null);
   assert.equal(place("if (a) { b }", "if(a)b"), null);
+  assert.equal(place("if (a) { while (b) if (c) d } else e", "if(a)while(b){if(c)d}else e"), null);
+  assert.equal(place("if (a) { if (b) c; else for (;;) if (d) e } else f", "if(a)if(b)c;else for(;;){if(d)e}else f"), null);
   assert.equal(place("x = 0x10 + 1e3 + 'a'", 'x=16+1000+"a"'), null);
   assert.equal(place("(a)(b)", "a(b)"), null);
   assert.equal(place("for (;;) {}", "for(;;){}"), null);
@@ -66,6 +68,7 @@ test("what has no meaning is no difference", () => {
 
 test("braces elsewhere are one, and so is an empty body", () => {
   assert.equal(place("while (a) { b }", "while(a)b"), "/body/0/body");
+  assert.equal(place("if (a) while (b) { let c; }", "if (a) while (b) c;"), "/body/0/consequent/body");
   assert.equal(place("if (a) b; else { c }", "if(a)b;else c"), "/body/0/alternate");
   assert.equal(place("if (a) ; else b", "if(a){}else b"), "/body/0/consequent");
 });

@@ -4,19 +4,20 @@ const test = require("node:test");
 const { minify } = require("../index.js");
 const { halves, joined } = require("../src/halves.js");
 const { numbered } = require("../src/numbered.js");
+const { difference } = require("../src/guard.js");
 const { parse } = require("../src/parser.js");
-const { print } = require("../src/print.js");
 
 const ofScript = (code) => parse(code, { module: false }).ast;
-const halvesOf = (code) => halves(ofScript(code))?.map((part) => print(part)) ?? null;
+const textIn = (code) => (part) => part.body.map(({ start, end }) => code.slice(start, end)).join(" ");
+const halvesOf = (code) => halves(ofScript(code))?.map(textIn(code)) ?? null;
 
 test("a script is parted in the middle of its text, and both halves have the directives", () => {
-  assert.deepEqual(halvesOf("a(); b(); c(); d();"), ["a();b()", "c();d()"]);
+  assert.deepEqual(halvesOf("a(); b(); c(); d();"), ["a(); b();", "c(); d();"]);
   assert.deepEqual(halvesOf("'use strict'; a(function () { let b; }); c();"), [
-    '"use strict";a(function(){let b})',
-    '"use strict";c()',
+    "'use strict'; a(function () { let b; });",
+    "'use strict'; c();",
   ]);
-  assert.deepEqual(halvesOf("a(1, 2, 3, 4, 5, 6, 7); b(); c();"), ["a(1,2,3,4,5,6,7)", "b();c()"]);
+  assert.deepEqual(halvesOf("a(1, 2, 3, 4, 5, 6, 7); b(); c();"), ["a(1, 2, 3, 4, 5, 6, 7);", "b(); c();"]);
 });
 
 test("none that declares something outside functions is, and no module", () => {
@@ -29,9 +30,14 @@ test("none that declares something outside functions is, and no module", () => {
 test("the numbers of the halves are those of the whole", () => {
   const whole = ofScript("'use strict'; a(function () { b(/c/); }); d(() => e`f`); g(class {});");
   const parts = halves(whole);
-  const answers = parts.map((program) => ({ program, kept: numbered(program).map((_, at) => at), passes: 1, settled: true }));
-  const { program, kept } = joined(parts[0], ...answers);
-  assert.equal(print(program), print(whole));
+  const texts = ["'use strict';a(function(){b(/c/)})", "'use strict';d(()=>e`f`),g(class{})"];
+  const answers = texts.map((text) => {
+    const tree = ofScript(text);
+    return { program: tree, text, tree, kept: numbered(tree).map((_, at) => at), passes: 1, settled: true };
+  });
+  const { program, text, kept } = joined(parts[0], ...answers);
+  assert.equal(text, "'use strict';a(function(){b(/c/)});d(()=>e`f`),g(class{})");
+  assert.equal(difference(program, ofScript(text)), null);
   assert.deepEqual(kept, numbered(whole).map((_, at) => at));
 });
 

@@ -32,6 +32,8 @@ test("what the parser refuses has its place, too", () => {
 test("a program that isn't there, and one that is none", () => {
   assert.equal(minify("a", { program: "/none" }).refused.code, "NoProgram");
   assert.equal(minify("a", { program: __dirname }).refused.code, "NoProgram");
+  assert.equal(minify("a", { printer: "/none" }).refused.code, "NoProgram");
+  assert.match(minify("a", { printer: "/none" }).refused.message, /in crates\/mini_text, or name it in MINI_TEXT$/);
   assert.equal(minify("a", { passes: "x" }).refused.code, "BadWords");
 });
 

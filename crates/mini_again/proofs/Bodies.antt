@@ -6,8 +6,9 @@ use Rattle.mini_kept.specs.Without.{BodySets}
 use Rattle.mini_model.specs.declared.place.Position.{Position}
 use Rattle.mini_model.specs.declared.place.Position.TheVariants.{Stmt, Elsewhere}
 use Rattle.mini_model.specs.Tree.{Tree}
+use Rattle.mini_rows.specs.Editions.{SteadyRowsIn}
 use Rattle.mini_rows.specs.PastBlocks.{PastBlocks}
-use Rattle.mini_rows.specs.Steady.{OwnRows, SteadyRow, LexicalRows}
+use Rattle.mini_rows.specs.Steady.{OwnRows, LexicalRows}
 use Rattle.mini_rows.specs.Switches.{Switches, liberties}
 use Rattle.mini_again.specs.Again.{Renaming, again, sets_with_others, with_others_in}
 use Rattle.mini_again.specs.Families.{OwnSurvives, BodiesSurvive, OwnCodeRow, PastCodeRow, InsideCodeRow, BodyRewrites, BodyRewritesSurvive, NothingIsLeftInBodies}
@@ -21,7 +22,7 @@ use Rattle.mini_again.proofs.PastBlocksAgain.{past_block_row_again, past_stateme
 use Rattle.mini_again.proofs.PastInsideAgain.{past_inside_again}
 use Rattle.mini_again.proofs.PastModulesAgain.{past_module_again}
 use Rattle.mini_again.proofs.PastStaticsAgain.{past_static_again}
-use Rattle.mini_again.proofs.SteadyAgain.{steady_row_again}
+use Rattle.mini_again.proofs.SteadyAgain.{steady_rows_again}
 
 past_blocks_again : (o : Switches) → OwnSurvives (PastBlocks o)
 past_blocks_again o ρ V (Stmt q) n w r = past_statement_row_again ρ o V n w r
@@ -48,7 +49,7 @@ inside_again ρ S W p n w (inl r) = inl (inside_contracts_again ρ W p n w r)
 inside_again ρ S W p n w (inr r) = inr (past_inside_again ρ S W p n w r)
 
 pub body_rewrites_survive : BodyRewritesSurvive
-body_rewrites_survive ρ S W p n w (inl (inl r)) = inl (inl (own_again SteadyRow steady_row_again ρ S p n w r))
+body_rewrites_survive ρ S W p n w (inl (inl r)) = inl (inl (own_again (SteadyRowsIn W.switches.edition) (steady_rows_again W.switches.edition) ρ S p n w r))
 body_rewrites_survive ρ S W p n w (inl (inr r)) = inl (inr (own_again LexicalRows lexical_rows_again ρ S p n w r))
 body_rewrites_survive ρ S W p n w (inr (inl r)) = inr (inl (past_again ρ S W p n w r))
 body_rewrites_survive ρ S W p n w (inr (inr r)) = inr (inr (inside_again ρ S W p n w r))

@@ -18,9 +18,10 @@ use Rattle.mini_model.specs.declared.operator.LogicalOperator.{LogicalOperator}
 use Rattle.mini_model.specs.declared.place.Position.{Position}
 use Rattle.mini_model.specs.declared.place.Position.TheVariants.{Expr}
 use Rattle.mini_model.specs.declared.seat.Seat.{Seat}
+use Rattle.mini_rows.specs.Editions.{LighterIn, ChoiceIn}
 use Rattle.mini_rows.specs.Choices.{AreNullish, CallRow, ChoiceRow, ChosenIndexedRow, ChosenMemberRow, ChosenRow, HeldRow, Key, LighterRow, Named, Numbered, OwnRow, Row13Both, Row21Zero, Row35, Row35Member, Row37, Row37After, Row38, Row38Last, Row39, Row41And, Row41Or, Row42And, Row42Or, Row43And, Row43AndThen, Row43Or, Row43OrThen, Row44, Row45, Row45Indexed, Row45Member, Row46Equal, Row46Unequal, Row49, Row57, Row57Null, Spelled, ZeroRow, argument, asks_object, assign, ended, held, is_grouped, joined, joining, member_on, null_compared, Shorter, TestedBranch, SharedBranch, OptionalChain, JoinedCall, ChainLink, ChainEnd, BothSides, ChosenIndexed, ZeroFirst, Rotated, Decided, Combined, NullishIfEqual, NullishIfUnequal, Chosen, LooseNull, LooseNullAfter, ObjectTest, ObjectTestAfter, CombinedMember, ChosenMember, DecidedLast, OrTest, AndTest, AndBoth, OrEither, LastAfterOr, LastAfterAnd, AndThenOr, OrThenAnd, Alike}
 use Rattle.std.proofs.Common.{ap, inl, inr}
-use Rattle.std.specs.Prelude.{Bool, None, Option, Some, false, not, refl, true, ◌≡◌}
+use Rattle.std.specs.Prelude.{ℕ, Bool, None, Option, Some, false, not, refl, true, ◌≡◌}
 use Rattle.mini_model.specs.declared.shape.Shape.TheVariants as shape
 
 pub are_nullish_again : (ρ : Renaming) (a b : Tree) → AreNullish a b → AreNullish (again ρ a) (again ρ b)
@@ -393,3 +394,19 @@ choice_row_again ρ (Expr s) n w (BothSides r) = BothSides (row13_both_again ρ 
 choice_row_again ρ (Expr s) n w (ChosenIndexed r) = ChosenIndexed (row45_indexed_again ρ s n w r)
 choice_row_again ρ (Expr s) n w (ZeroFirst r) = ZeroFirst (row21_zero_again ρ n w r)
 choice_row_again ρ p0 n w r = absurd r
+
+-- the edition that has the form of what it writes has that of what is written again
+
+lighter_in_again : (e : ℕ) (ρ : Renaming) (s : Seat) (n w : Tree) (r : LighterRow s n w) → LighterIn e s n w r → LighterIn e s (again ρ n) (again ρ w) (lighter_row_again ρ s n w r)
+unfolding lighter_row_again
+lighter_in_again e ρ s n w (Decided r) a = a
+lighter_in_again e ρ s n w (DecidedLast r) a = a
+lighter_in_again e ρ s n w (NullishIfEqual r) a = a
+lighter_in_again e ρ s n w (NullishIfUnequal r) a = a
+lighter_in_again e ρ s n w r a = tt
+
+pub choice_in_again : (e : ℕ) (ρ : Renaming) (p : Position) (n w : Tree) (r : ChoiceRow p n w) → ChoiceIn e p n w r → ChoiceIn e p (again ρ n) (again ρ w) (choice_row_again ρ p n w r)
+unfolding choice_row_again
+choice_in_again e ρ (Expr s) n w (Shorter r) a = lighter_in_again e ρ s n w r a
+choice_in_again e ρ (Expr s) n w (OptionalChain r) a = a
+choice_in_again e ρ p n w r a = tt

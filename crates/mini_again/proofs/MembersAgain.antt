@@ -122,7 +122,7 @@ row45_kept_again ρ V s n w r = record {
   written = simp (← (object_again ρ r.of), ← (member_at_again ρ (object r.of) r.index)) at (ap (again ρ) r.written);
 }
 
-pub member_row_again : (ρ : Renaming) (V : Assured) (s : Seat) (n w : Tree) → MemberRow (assured_with_others ρ V) s n w → MemberRow V s (again ρ n) (again ρ w)
+unfoldable pub member_row_again : (ρ : Renaming) (V : Assured) (s : Seat) (n w : Tree) → MemberRow (assured_with_others ρ V) s n w → MemberRow V s (again ρ n) (again ρ w)
 member_row_again ρ V s n w (inl r) = inl (row38_member_again ρ V n w r)
 member_row_again ρ V s n w (inr (inl r)) = inr (inl (row38_member_last_again ρ V s n w r))
 member_row_again ρ V s n w (inr (inr (inl r))) = inr (inr (inl (row35_this_again ρ V n w r)))

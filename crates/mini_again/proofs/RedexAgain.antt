@@ -3,7 +3,7 @@ use Rattle.mini_again.proofs.ArrowsAgain.{arrow_row_again}
 use Rattle.mini_again.proofs.BooleansAgain.{boolean_row_again}
 use Rattle.mini_again.proofs.BranchesAgain.{branch_row_again}
 use Rattle.mini_again.proofs.CatchesAgain.{catch_contracts_again}
-use Rattle.mini_again.proofs.ChoicesAgain.{choice_row_again}
+use Rattle.mini_again.proofs.ChoicesAgain.{choice_row_again, choice_in_again}
 use Rattle.mini_again.proofs.ConstantsAgain.{constant_row_again}
 use Rattle.mini_again.proofs.DeMorganAgain.{de_morgan_row_again}
 use Rattle.mini_again.proofs.DeclarationsAgain.{declaration_row_again}
@@ -23,7 +23,7 @@ use Rattle.mini_again.proofs.SpellingsAgain.{spelling_row_again}
 use Rattle.mini_again.proofs.TemplatesAgain.{template_row_again}
 use Rattle.mini_again.proofs.TurnsAgain.{turn_row_again}
 use Rattle.mini_again.proofs.UnusedAgain.{unused_contracts_again}
-use Rattle.mini_again.proofs.WritesAgain.{write_contracts_again}
+use Rattle.mini_again.proofs.WritesAgain.{writes_in_again}
 use Rattle.mini_again.specs.Again.{Renaming, again, with_others_in}
 use Rattle.mini_laws.specs.Value.{VariableSet}
 use Rattle.mini_model.specs.Tree.{Tree}
@@ -38,7 +38,7 @@ row_again ρ o p n w (AsSpelling r) = AsSpelling (spelling_row_again ρ p n w r)
 row_again ρ o p n w (AsBranch r) = AsBranch (branch_row_again ρ p n w r)
 row_again ρ o p n w (AsList r) = AsList (list_row_again ρ o p n w r)
 row_again ρ o p n w (AsKey r) = AsKey (key_row_again ρ p n w r)
-row_again ρ o p n w (AsChoice r) = AsChoice (choice_row_again ρ p n w r)
+row_again ρ o p n w (AsChoice r e) = AsChoice (choice_row_again ρ p n w r) (choice_in_again o.edition ρ p n w r e)
 row_again ρ o p n w (AsDeclaration r) = AsDeclaration (declaration_row_again ρ p n w r)
 row_again ρ o p n w (AsFolding r) = AsFolding (folding_row_again ρ p n w r)
 row_again ρ o p n w (AsTurn r) = AsTurn (turn_row_again ρ p n w r)
@@ -63,6 +63,6 @@ pub rewrites_again : (ρ : Renaming) (o : Switches) (W : VariableSet) (p : Posit
 rewrites_again ρ o W p n w (inl r) = inl (contracts_again ρ o p n w r)
 rewrites_again ρ o W p n w (inr (inl r)) = inr (inl (unused_contracts_again ρ (liberties o W) p n w r))
 rewrites_again ρ o W p n w (inr (inr (inl r))) = inr (inr (inl (name_contracts_again ρ o p n w r)))
-rewrites_again ρ o W p n w (inr (inr (inr (inl r)))) = inr (inr (inr (inl (catch_contracts_again ρ p n w r))))
-rewrites_again ρ o W p n w (inr (inr (inr (inr (inl r))))) = inr (inr (inr (inr (inl (write_contracts_again ρ W p n w r)))))
+rewrites_again ρ o W p n w (inr (inr (inr (inl r)))) = inr (inr (inr (inl (catch_contracts_again ρ p n w r.0, r.1))))
+rewrites_again ρ o W p n w (inr (inr (inr (inr (inl r))))) = inr (inr (inr (inr (inl (writes_in_again o.edition ρ W p n w r)))))
 rewrites_again ρ o W p n w (inr (inr (inr (inr (inr r))))) = inr (inr (inr (inr (inr (let_contracts_again ρ W p n w r)))))

@@ -15,10 +15,11 @@ use Rattle.mini_rows.specs.Chains.{chain, spine}
 use Rattle.mini_rows.specs.Choices.{assign, joining, loosely, strictly}
 use Rattle.mini_rows.specs.Lists.{resolved}
 use Rattle.mini_rows.specs.Spellings.{binary}
+use Rattle.mini_rows.specs.Editions.{WriteIn, WritesIn}
 use Rattle.mini_rows.specs.Writes.{Row34, Row37Assigned, Row46Assigned, Row46AssignedChain, WriteContracts, WriteRow, if_null}
 use Rattle.mini_terms.specs.Exact.{by_value, is_guarded}
 use Rattle.std.proofs.Common.{ap, inl, inr}
-use Rattle.std.specs.Prelude.{Bool, false, map, refl, true, ◌≡◌}
+use Rattle.std.specs.Prelude.{ℕ, Bool, false, map, refl, true, ◌≡◌}
 
 pub row34_again : (ρ : Renaming) (W : VariableSet) (n w : Tree) → Row34 (with_others_in ρ W) n w → Row34 W (again ρ n) (again ρ w)
 row34_again ρ W n w r = record {
@@ -92,3 +93,16 @@ write_contracts_again ρ W p n w r = record {
   row = write_row_again ρ W p n w r.row;
   lighter = simp (weight_again ρ p w, weight_again ρ p n) r.lighter;
 }
+
+-- the edition that has the form of what it writes has that of what is written again
+pub write_in_again : (e : ℕ) (ρ : Renaming) (W : VariableSet) (p : Position) (n w : Tree) (r : WriteRow (with_others_in ρ W) p n w) → WriteIn e (with_others_in ρ W) p n w r → WriteIn e W p (again ρ n) (again ρ w) (write_row_again ρ W p n w r)
+unfolding write_row_again
+write_in_again e ρ W (Expr s) n w (inl r) a = a
+write_in_again e ρ W (Expr s) n w (inr (inl r)) a = a
+write_in_again e ρ W (Expr s) n w (inr (inr (inl r))) a = tt
+write_in_again e ρ W (Expr s) n w (inr (inr (inr r))) a = a
+write_in_again e ρ W p n w r a = absurd r
+
+pub writes_in_again : (e : ℕ) (ρ : Renaming) (W : VariableSet) (p : Position) (n w : Tree) → WritesIn e (with_others_in ρ W) p n w → WritesIn e W p (again ρ n) (again ρ w)
+unfolding write_contracts_again
+writes_in_again e ρ W p n w r = (write_contracts_again ρ W p n w r.0, write_in_again e ρ W p n w r.0.row r.1)

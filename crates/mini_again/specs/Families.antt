@@ -14,6 +14,7 @@ use Rattle.mini_rows.specs.Redex.{Rewrites, HasNoRedex}
 use Rattle.mini_kept.specs.Without.{Assured, BodySets}
 use Rattle.mini_laws.specs.Writable.{writable_in}
 use Rattle.mini_model.specs.Rewriting.{Everywhere}
+use Rattle.mini_rows.specs.Editions.{SteadyRowsIn}
 use Rattle.mini_rows.specs.Inside.{InsideContracts}
 use Rattle.mini_rows.specs.OwnArrows.{OwnCode}
 use Rattle.mini_rows.specs.OwnParts.{OwnPart}
@@ -24,7 +25,7 @@ use Rattle.mini_rows.specs.PastBlocks.{PastBlocks}
 use Rattle.mini_rows.specs.PastInside.{PastInside}
 use Rattle.mini_rows.specs.PastModules.{PastModule}
 use Rattle.mini_rows.specs.PastStatics.{PastStatic}
-use Rattle.mini_rows.specs.Steady.{OwnRows, SteadyRow, LexicalRows}
+use Rattle.mini_rows.specs.Steady.{OwnRows, LexicalRows}
 use Rattle.mini_rows.specs.Switches.{Switches, Liberties, liberties}
 use Rattle.mini_again.specs.Again.{Renaming, again, other_number, with_others_in, assured_with_others, sets_with_others, liberties_with_others_in}
 
@@ -71,7 +72,7 @@ InsideCodeRow S W p n w = InsideContracts W p n w ⊎ PastInside S W p n w
 -- a row that rests on what is known of the body around: of members, of `this`, of lexical names, of
 -- names that are read past others, or of a `var` further inside
 abbrev pub BodyRewrites : BodySets → Liberties → Position → Tree → Tree → Type 0
-BodyRewrites S W p n w = (OwnCodeRow SteadyRow S p n w ⊎ OwnCodeRow LexicalRows S p n w) ⊎ (PastCodeRow S W p n w ⊎ InsideCodeRow S W p n w)
+BodyRewrites S W p n w = (OwnCodeRow (SteadyRowsIn W.switches.edition) S p n w ⊎ OwnCodeRow LexicalRows S p n w) ⊎ (PastCodeRow S W p n w ⊎ InsideCodeRow S W p n w)
 
 -- what such a row writes for a node it writes for the node that is read again
 abbrev pub BodyRewritesSurvive : Type 0

@@ -55,7 +55,7 @@ enum NumberCase {
     Nested,
 }
 
-const CASES: [(&str, Case); 31] = [
+const CASES: [(&str, Case); 32] = [
     ("#", Case::Title),
     ("tell", Case::Program(Task::Tell)),
     ("numbers", Case::Program(Task::Numbers)),
@@ -63,6 +63,7 @@ const CASES: [(&str, Case); 31] = [
     ("minify", Case::Program(Task::Minify)),
     ("answer", Case::Program(Task::Answer)),
     ("shake", Case::Program(Task::Shake)),
+    ("edition", Case::Program(Task::Edition)),
     ("lighter", Case::Lighter),
     ("again", Case::Again),
     ("echo", Case::Echo),

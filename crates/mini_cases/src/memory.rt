@@ -205,6 +205,7 @@ pub fn choose(alloc: Global, text: &str, out: &mut Answer) {
             out.word(&found.keep_names.class);
             out.word(&found.pure_coercion);
             out.word(&found.known_calls);
+            out.word(&found.edition);
         }
         None => out.text("None"),
     }

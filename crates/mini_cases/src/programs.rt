@@ -29,6 +29,8 @@ pub enum Task {
     Answer,
     /// The same where dead items go besides.
     Shake,
+    /// The same as `Answer` where no form newer than an edition is written.
+    Edition,
 }
 
 // How deep the nodes of a value may nest where a case says nothing of it.
@@ -57,6 +59,7 @@ fn answer_value(alloc: Global, task: Task, number: u32, value: &Value, out: &mut
         Task::Minify => minify(alloc, &passes_of(number), value, false, out),
         Task::Answer => minify(alloc, &passes_of(number), value, true, out),
         Task::Shake => shake(alloc, &passes_of(number), value, out),
+        Task::Edition => minify(alloc, &edition_of(number), value, true, out),
     }
 }
 
@@ -142,6 +145,15 @@ fn tell_minified(found: &Minified, with_numbers: bool, out: &mut Answer) {
 fn passes_of(passes: u32) -> CompressOptions {
     CompressOptions {
         passes,
+        ..CompressOptions::new()
+    }
+}
+
+// A year that 16 bits don't hold is later than any.
+fn edition_of(year: u32) -> CompressOptions {
+    let edition = if year < 65_535 { year as u16 } else { 65_535 };
+    CompressOptions {
+        edition,
         ..CompressOptions::new()
     }
 }

@@ -6,3 +6,4 @@ pub mod Plain
 pub mod Told
 pub mod Steps
 pub mod Words
+pub mod BothEnds

@@ -83,7 +83,9 @@ check_task o = record { answers = IsChecked o; refuses = IsRejected o }
 -- The program has no early error, and each entry of a log in turn has a step. No row has a step at
 -- any path of the last program, unless the log has 4,294,967,295 entries. The last program keeps
 -- all that the first one has to keep, and is lighter by at least the number of entries. The first
--- one and the log are written, and that is accepted as the first one, but for numbers.
+-- one and the log are written, and that is accepted as the first one, but for numbers. A check of
+-- what is written says Yes and gives the last program, wherever the program is read: the options are
+-- to agree on `sequences`, and to let it nest so deep.
 pub record IsLogged (o : CompressOptions) (first : Tree) (text : List ℕ) : Type 0 where
   pub free : early_fault first ≡ None
   pub log : List LogEntry
@@ -93,6 +95,7 @@ pub record IsLogged (o : CompressOptions) (first : Tree) (text : List ℕ) : Typ
   pub complete : length log < 4294967295 → NoStepLeft o.sequences (writable first) last
   pub written : text ≡ line_of (certificate_data first log)
   pub accepted : (u : Tree) × Accepts (program_data first) u × (bare u ≡ bare first)
+  pub agreed : (p : CompressOptions) (u : Tree) → p.sequences ≡ o.sequences → tree_at p.max_depth (program_data first) ≡ Ok u → IsChecked p (certificate_data first log) (line_of (last_data last))
 
 -- the value is a program of which this holds
 pub record IsProgramOf (o : CompressOptions) (d : Data) (P : Tree → Type 0) : Type 0 where

@@ -1,6 +1,7 @@
 -- Which JSON is which log of rewrites: a list of entries `[row, path]`. A row is named by its
 -- number, and a path is the list of the indices that lead from the program to a node.
-use Rattle.std.specs.Prelude.{ℕ, suc, ◌^◌, nat_lt, List, [], ◌∷◌, map, codes, if◌then◌else◌, Option, Some, None, option_map, option_and_then, Result, Ok, Err}
+use Rattle.std.specs.Prelude.{ℕ, suc, ◌<◌, ◌^◌, nat_lt, List, [], ◌∷◌, map, codes, if◌then◌else◌, Option, Some, None, option_map, option_and_then, Result, Ok, Err}
+use Rattle.std.specs.List.{AllByRecursion}
 use Rattle.serde_json.specs.Data.{Data, unsigned, number, array, Items, no_items, item}
 use Rattle.serde_json.specs.Find.{as_array, as_number, as_u64}
 use Rattle.serde_json.specs.View.{items_of}
@@ -71,3 +72,18 @@ entry_data x = array (item (number (unsigned x.row)) (item (numbers_data x.at) n
 
 abbrev pub log_data : List LogEntry → Data
 log_data log = array (items_of (map entry_data log))
+
+-- its numbers are all below 2^32, as they are read
+abbrev pub AreSmall : List ℕ → Type 0
+AreSmall ns = AllByRecursion (λ n. n < 2 ^ 32) ns
+
+abbrev pub HasSmall : LogEntry → Type 0
+HasSmall x = (x.row < 2 ^ 32) × AreSmall x.at
+
+abbrev pub HaveSmall : List LogEntry → Type 0
+HaveSmall log = AllByRecursion HasSmall log
+
+-- that is what was written of it, and it is small
+pub record WrittenSmall (P : Type 0) (log : List LogEntry) : Type 0 where
+  pub is : P
+  pub small : HaveSmall log

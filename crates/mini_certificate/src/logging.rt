@@ -1,8 +1,10 @@
 // A certificate is made of a program.
 
 ghost use Rattle.std.specs.Prelude.{◌≡◌, ◌+◌, ◌<◌, ◌^◌, None, Some, length, string_bytes, IfSome, IfOk, IfErr, OnOk};
+ghost use Rattle.serde_json.specs.Data.{Data};
 ghost use Rattle.serde_json.specs.View.{view};
 ghost use Rattle.mini_model.specs.Faults.{fault_of};
+ghost use Rattle.mini_accept.specs.Accept.{Accepts};
 ghost use Rattle.mini_accept.specs.WellShaped.{IsWellShaped};
 ghost use Rattle.mini_laws.specs.References.{references};
 ghost use Rattle.mini_laws.specs.Resolved.{symbols, resolved_program};
@@ -19,6 +21,7 @@ use crate::written::{program_value, tell_certificate};
 use mini_checker::Log;
 use mini_cli::{Answering, Refusal, refuse_unread};
 use mini_context::{TraverseCtx, resolve};
+use mini_log::laws::accepted_logs_keep;
 use mini_logged::log_rows;
 use mini_model::MinifyError;
 use mini_node::{Node, discard};
@@ -47,6 +50,7 @@ fn log_tree(alloc: Global, tree: &mut Node, options: &CompressOptions) -> Result
     requires shaped { IsWellShaped tree.old }
     requires symbols { symbols variant.Read tree.old < 2 ^ 32 }
     requires references { length (references variant.Read tree.old) + 1 < 2 ^ 32 }
+    requires read { ((d : Data) × Accepts d tree.old) }
     ensures answered { IfOk result (λ text. IsLogged options.now tree.old (string_bytes text)) }
     ensures refused { IfErr result (λ e. IfTold e (HasEarlyError tree.old)) }
 {
@@ -54,6 +58,7 @@ fn log_tree(alloc: Global, tree: &mut Node, options: &CompressOptions) -> Result
         Ok(program) => program,
         Err(_) => return Err(Refusal::OutOfMemory),
     };
+    accepted_logs_keep();
     match make_steps(alloc, tree, options) {
         Ok(log) => tell_certificate(alloc, program, &log),
         Err(error) => Err(refuse_unread(alloc, &error)),
@@ -65,6 +70,7 @@ fn log_read(alloc: Global, tree: Node, options: &CompressOptions) -> Result<Stri
     requires shaped { IsWellShaped tree }
     requires symbols { symbols variant.Read tree < 2 ^ 32 }
     requires references { length (references variant.Read tree) + 1 < 2 ^ 32 }
+    requires read { ((d : Data) × Accepts d tree) }
     ensures answered { IfOk result (λ text. IsLogged options.now tree (string_bytes text)) }
     ensures refused { IfErr result (λ e. IfTold e (HasEarlyError tree)) }
 {

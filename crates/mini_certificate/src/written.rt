@@ -21,7 +21,7 @@ use std::alloc::{AllocError, Global};
 // ---- logs
 
 fn numbers_value(alloc: Global, numbers: &Numbers) -> Result<Value, AllocError>
-    ensures { IfOk result (λ value. view value ≡ logs.numbers_data numbers.now) }
+    ensures { IfOk result (λ value. (view value ≡ logs.numbers_data numbers.now) × logs.AreSmall numbers.now) }
 {
     let mut values: Vec<Value> = Vec::new(alloc);
     for number in numbers.as_slice() {
@@ -31,7 +31,7 @@ fn numbers_value(alloc: Global, numbers: &Numbers) -> Result<Value, AllocError>
 }
 
 fn entry_value(alloc: Global, entry: &LogEntry) -> Result<Value, AllocError>
-    ensures { IfOk result (λ value. view value ≡ logs.entry_data entry.now) }
+    ensures { IfOk result (λ value. (view value ≡ logs.entry_data entry.now) × logs.HasSmall entry.now) }
 {
     let path = numbers_value(alloc, &entry.at)?;
     let mut values: Vec<Value> = Vec::new(alloc);
@@ -43,7 +43,7 @@ fn entry_value(alloc: Global, entry: &LogEntry) -> Result<Value, AllocError>
 /// The list of the entries of a log, each `[row, [index, ..]]`. The only error is that memory runs
 /// out.
 pub fn log_value(alloc: Global, log: &Log) -> Result<Value, AllocError>
-    ensures { IfOk result (λ value. view value ≡ logs.log_data log.now) }
+    ensures { IfOk result (λ value. logs.WrittenSmall (view value ≡ logs.log_data log.now) log.now) }
 {
     let mut values: Vec<Value> = Vec::new(alloc);
     for entry in log.as_slice() {
@@ -84,7 +84,7 @@ fn last_value(alloc: Global, program: &Node) -> Result<Value, AllocError>
 }
 
 fn certificate_value(alloc: Global, program: Value, log: &Log) -> Result<Value, AllocError>
-    ensures { IfOk result (λ value. view value ≡ object (member (codes "log") (logs.log_data log.now) (member (codes "program") (view program) no_members))) }
+    ensures { IfOk result (λ value. logs.WrittenSmall (view value ≡ object (member (codes "log") (logs.log_data log.now) (member (codes "program") (view program) no_members))) log.now) }
 {
     let entries = log_value(alloc, log)?;
     let mut members = Map::new(alloc);
@@ -114,7 +114,7 @@ fn last_line(alloc: Global, program: &Node) -> Result<String, AllocError>
 
 fn certificate_line(alloc: Global, program: Value, log: &Log) -> Result<String, AllocError>
     requires { has_float (view program) ≡ false }
-    ensures { IfOk result (λ text. string_bytes text ≡ line_of (object (member (codes "log") (logs.log_data log.now) (member (codes "program") (view program) no_members)))) }
+    ensures { IfOk result (λ text. logs.WrittenSmall (string_bytes text ≡ line_of (object (member (codes "log") (logs.log_data log.now) (member (codes "program") (view program) no_members)))) log.now) }
 {
     let value = certificate_value(alloc, program, log)?;
     line(alloc, &value)
@@ -135,7 +135,7 @@ pub fn tell_last(alloc: Global, program: &Node) -> Result<String, Refusal>
 /// `{"log":[[23,[0,0,1]]],"program":..}`.
 pub fn tell_certificate(alloc: Global, program: Value, log: &Log) -> Result<String, Refusal>
     requires { has_float (view program) ≡ false }
-    ensures text { IfOk result (λ text. string_bytes text ≡ line_of (object (member (codes "log") (logs.log_data log.now) (member (codes "program") (view program) no_members)))) }
+    ensures text { IfOk result (λ text. logs.WrittenSmall (string_bytes text ≡ line_of (object (member (codes "log") (logs.log_data log.now) (member (codes "program") (view program) no_members)))) log.now) }
     ensures memory { IfErr result (λ e. IfTold e (λ line. ⊥)) }
 {
     match certificate_line(alloc, program, log) {

@@ -1,6 +1,6 @@
 -- What is written for a logical expression whose right side is always evaluated is what a row says.
 use borrow.Author.Tests.{ltb-true}
-use Rattle.std.proofs.Common.{◌≡◌, ◌<◌, ◌^◌, arith, true≢false, Bool, true, false, Option, Some, None, refl, sym, ap, ◌∙◌, inl, inr}
+use Rattle.std.proofs.Common.{◌≡◌, ℕ, ◌<◌, ◌^◌, arith, true≢false, Bool, true, false, Option, Some, None, refl, sym, ap, ◌∙◌, inl, inr}
 use Rattle.std.specs.Prelude.{is_some, if◌then◌else◌}
 use Rattle.std.proofs.lemmas.Bool.{and_parts}
 use Rattle.mini_model.specs.declared.operator.LogicalOperator.{LogicalOperator}
@@ -12,7 +12,8 @@ use Rattle.mini_node.specs.Children.{part}
 use Rattle.mini_node.specs.Kinds.{logical_operator}
 use Rattle.mini_node.specs.Made.{logical_is}
 use Rattle.mini_terms.specs.Folds.{goes_on}
-use Rattle.mini_rows.specs.Choices.{pair, Row13Both, ChoiceContracts, BothSides}
+use Rattle.mini_rows.specs.Editions.{ChoicesIn}
+use Rattle.mini_rows.specs.Choices.{pair, Row13Both, BothSides}
 use Rattle.mini_choices.specs.MinimizeConditionalBranches.{is_lighter}
 use Rattle.mini_choices.specs.EvaluateBothSides as both
 use Rattle.mini_choices.proofs.Trials.{both_true, Falls, tries, lighter_test}
@@ -32,8 +33,8 @@ both_falls s n w = tries (Falls (λ s n w. Row13Both n w) s n) w (both.evaluates
         let (known, less) = and_parts (both.goes_on_in (logical_operator n) (part n 0)) (is_lighter s (both.both_sides n) n) h in
         (known_row n known, omega (arith, ltb-true _ _ less))
 
-pub both_row : (s : Seat) (n w : Tree) → both.written s n ≡ Some w → ChoiceContracts (Expr s) n w
-both_row s n w e = let (r, less) = both_falls s n w e in record { row = BothSides r; lighter = less }
+pub both_row : (edition : ℕ) (s : Seat) (n w : Tree) → both.written s n ≡ Some w → ChoicesIn edition (Expr s) n w
+both_row edition s n w e = let (r, less) = both_falls s n w e in (record { row = BothSides r; lighter = less }, tt)
 
 there : (b : Bool) (t : Tree) → b ≡ true → is_some (if b then Some t else None) ≡ true
 there true t e = refl

@@ -1,5 +1,5 @@
 -- What is written for an optional chain over what is known to be null or undefined is what a row says, and what a row reads is written.
-use Rattle.std.proofs.Common.{◌≡◌, ◌⊎◌, Bool, true, false, List, [], ◌∷◌, Option, Some, None, refl, sym, ap, subst, ◌∙◌, inl, inr, true≢false, ltb-true, arith, ◌<◌, ◌^◌}
+use Rattle.std.proofs.Common.{◌≡◌, ℕ, ◌⊎◌, Bool, true, false, List, [], ◌∷◌, Option, Some, None, refl, sym, ap, subst, ◌∙◌, inl, inr, true≢false, ltb-true, arith, ◌<◌, ◌^◌}
 use Rattle.std.specs.Prelude.{◌&&◌, ◌||◌, not, is_some, if◌then◌else◌}
 use Rattle.std.proofs.lemmas.Bool.{and_parts}
 use Rattle.mini_model.specs.declared.place.Position.TheVariants.{Expr}
@@ -14,7 +14,8 @@ use Rattle.mini_rows.specs.Chains.{is_calm, Link, a_member, a_computed, a_call, 
 use Rattle.mini_rows.specs.ChainLinks.{Marked, marked, links_over, are_calm_over, ChainRow}
 use Rattle.mini_rows.specs.ChainEnds.{is_nothing, key_of, keys_over, enclose, Row10, Row10Then, EndRow}
 use Rattle.mini_rows.proofs.ChainLinkLawful.{chains_fall}
-use Rattle.mini_rows.specs.Choices.{pair, ChoiceRow, ChoiceContracts, ChainEnd, ChainLink}
+use Rattle.mini_rows.specs.Editions.{ChoicesIn}
+use Rattle.mini_rows.specs.Choices.{pair, ChainEnd, ChainLink}
 use Rattle.mini_rows.specs.Lists.{encloses}
 use Rattle.mini_rows.specs.Spellings.{void_zero}
 use Rattle.mini_choices.specs.MinimizeConditionalBranches.{is_lighter}
@@ -238,12 +239,12 @@ folded_falls s n w e =
     linked_row : folded_written s n ≡ Some w → Falls FoldedRow s n w
     linked_row e = let r = links_are_row s n w e in (inr r, chains_fall s n w r)
 
-pub folded_row : (s : Seat) (n w : Tree) → written s n ≡ Some w → ChoiceContracts (Expr s) n w
-folded_row s n w e = let (r, less) = folded_falls s n w e in record { row = of r; lighter = less }
+pub folded_row : (edition : ℕ) (s : Seat) (n w : Tree) → written s n ≡ Some w → ChoicesIn edition (Expr s) n w
+folded_row edition s n w e = let (r, less) = folded_falls s n w e in of r less
   where
-    of : FoldedRow s n w → ChoiceRow (Expr s) n w
-    of (inl r) = ChainEnd r
-    of (inr r) = ChainLink r
+    of : FoldedRow s n w → weight (Expr s) w < weight (Expr s) n → ChoicesIn edition (Expr s) n w
+    of (inl r) less = (record { row = ChainEnd r; lighter = less }, tt)
+    of (inr r) less = (record { row = ChainLink r; lighter = less }, tt)
 
 -- ---- and what a row reads is written
 

@@ -1,6 +1,6 @@
 -- What the rewrites of choices write is what a row says, and where they write nothing no row reads the expression.
 use borrow.Author.Tests.{ltb-true}
-use Rattle.std.proofs.Common.{◌≡◌, ◌<◌, ◌^◌, arith, true≢false, Bool, true, false, Option, Some, None, refl, sym, ap, subst, ◌∙◌, inl, inr}
+use Rattle.std.proofs.Common.{◌≡◌, ℕ, ◌<◌, ◌≤◌, ◌^◌, arith, true≢false, Bool, true, false, Option, Some, None, refl, sym, ap, subst, ◌∙◌, inl, inr}
 use Rattle.std.specs.Prelude.{◌⊎◌, ◌&&◌, ◌||◌, not, nat_eq, is_none, is_some, unwrap_or, if◌then◌else◌}
 use Rattle.std.proofs.lemmas.Bool.{and_parts}
 use Rattle.mini_model.specs.declared.name.Name.{Name}
@@ -24,7 +24,9 @@ use Rattle.mini_node.specs.Made.{assignment_is, logical_is, binary_is, condition
 use Rattle.mini_node.proofs.Equality.{tree_same, tree_itself}
 use Rattle.mini_terms.specs.Exact.{kept_by_value}
 use Rattle.mini_rows.specs.Lists.{sequence}
-use Rattle.mini_rows.specs.Choices.{argument, assign, is_grouped, joined, strictly, joining, asks_object, null_compared, ended, deciding, may_choose, Row39, Row38, Row35, Row35Member, Row45, Row45Member, Key, member_of, Row46Equal, Row46Unequal, Row13Both, Row21Zero, Row41Or, Row41And, LighterRow, OwnRow, ChoiceRow, ChoiceContracts, ChosenRow, ChosenMemberRow, Shorter, TestedBranch, SharedBranch, OptionalChain, JoinedCall, ChainLink, ChainEnd, BothSides, ChosenIndexed, ZeroFirst, Rotated, Decided, Combined, NullishIfEqual, NullishIfUnequal, Chosen, LooseNull, LooseNullAfter, ObjectTest, ObjectTestAfter, CombinedMember, ChosenMember, DecidedLast, OrTest, AndTest}
+use Rattle.mini_rows.specs.Editions.{LighterIn, ChoiceIn, ChoicesIn}
+use Rattle.mini_tree.specs.declared.options.CompressOptions.{CompressOptions}
+use Rattle.mini_rows.specs.Choices.{argument, assign, is_grouped, joined, strictly, joining, asks_object, null_compared, ended, deciding, may_choose, Row39, Row38, Row35, Row35Member, Row45, Row45Member, Key, member_of, Row46Equal, Row46Unequal, Row13Both, Row21Zero, Row41Or, Row41And, LighterRow, OwnRow, ChoiceRow, ChosenRow, ChosenMemberRow, Shorter, TestedBranch, SharedBranch, OptionalChain, JoinedCall, ChainLink, ChainEnd, BothSides, ChosenIndexed, ZeroFirst, Rotated, Decided, Combined, NullishIfEqual, NullishIfUnequal, Chosen, LooseNull, LooseNullAfter, ObjectTest, ObjectTestAfter, CombinedMember, ChosenMember, DecidedLast, OrTest, AndTest}
 use Rattle.mini_rows.proofs.ChoiceCalls.{calls_lighter}
 use Rattle.mini_rows.proofs.ChoiceIndexed.{indexed_lighter}
 use Rattle.mini_rows.proofs.ChoiceWeights as choice_weights
@@ -59,8 +61,9 @@ use Rattle.mini_choices.proofs.Spines.{logical_kind_is, spine_of, leftmost_joine
 use Rattle.mini_choices.proofs.HeldBranches.{held_row, held_passes}
 use Rattle.mini_choices.proofs.Calls.{called_row, called_passes}
 use Rattle.mini_choices.proofs.AssignedIndexed.{indexed_row, indexed_passes}
-use Rattle.mini_choices.specs.OwnRows.{SharedRow}
-use Rattle.mini_choices.specs.Choices.{first_of, operands_written, written, Gives, Rests, WrittenIsRow, UnwrittenRests}
+use Rattle.mini_choices.specs.OwnRows.{SharedRow, OlderRow}
+use Rattle.mini_choices.proofs.Since.{since_is, since_passes, in_edition, newer_passes, either_passes}
+use Rattle.mini_choices.specs.Choices.{first_of, decided_in, decided_last_in, chains_in, branches_in, operands_written, written, Gives, Rests, WrittenIsRow, UnwrittenRests}
 use Rattle.mini_terms.specs.Effects.{ef}
 
 -- ---- 39
@@ -254,7 +257,7 @@ unequal_row n k =
 
 -- ---- 41
 
-own_or_row : (s : Seat) (n : Tree) → branches.is_own_consequent s n ≡ true → Falls SharedRow s n (logical Or (part n 0) (part n 2))
+own_or_row : (s : Seat) (n : Tree) → branches.is_own_consequent s n ≡ true → Falls OlderRow s n (logical Or (part n 0) (part n 2))
 own_or_row s n k =
     let (chooses, rest) = and_parts (is_conditional n) (is_same_name (part n 0) (part n 1) && branches.is_lighter s (logical Or (part n 0) (part n 2)) n) k in
     let (same, less) = and_parts (is_same_name (part n 0) (part n 1)) (branches.is_lighter s (logical Or (part n 0) (part n 2)) n) rest in
@@ -265,9 +268,9 @@ own_or_row s n k =
       shape = conditional_is n chooses ∙ (λ i. conditional (one.first i) (one.second i) (part n 2));
       written = ap (λ t. logical Or t (part n 2)) one.first;
     } in
-    (inr (inl (OrTest row)), omega (arith, ltb-true _ _ less))
+    (inl (OrTest row), omega (arith, ltb-true _ _ less))
 
-own_and_row : (s : Seat) (n : Tree) → branches.is_own_alternate s n ≡ true → Falls SharedRow s n (logical And (part n 0) (part n 1))
+own_and_row : (s : Seat) (n : Tree) → branches.is_own_alternate s n ≡ true → Falls OlderRow s n (logical And (part n 0) (part n 1))
 own_and_row s n k =
     let (chooses, rest) = and_parts (is_conditional n) (is_same_name (part n 0) (part n 2) && branches.is_lighter s (logical And (part n 0) (part n 1)) n) k in
     let (same, less) = and_parts (is_same_name (part n 0) (part n 2)) (branches.is_lighter s (logical And (part n 0) (part n 1)) n) rest in
@@ -278,50 +281,73 @@ own_and_row s n k =
       shape = conditional_is n chooses ∙ (λ i. conditional (one.first i) (part n 1) (one.second i));
       written = ap (λ t. logical And t (part n 1)) one.first;
     } in
-    (inr (inl (AndTest row)), omega (arith, ltb-true _ _ less))
+    (inl (AndTest row), omega (arith, ltb-true _ _ less))
 
 -- ---- a conditional
 
--- one that is lighter in every seat
-sure : (s : Seat) (n w : Tree) → LighterRow s n w → ChoiceContracts (Expr s) n w
-sure s n w r = record { row = Shorter r; lighter = choice_weights.lighter s n w r }
+-- one that is lighter in every seat, and that the edition has
+abbrev Found : ℕ → Seat → Tree → Tree → Type 0
+Found e s n w = (r : LighterRow s n w) × LighterIn e s n w r
+
+sure : (e : ℕ) (s : Seat) (n w : Tree) → Found e s n w → ChoicesIn e (Expr s) n w
+sure e s n w (r, a) = (record { row = Shorter r; lighter = choice_weights.lighter s n w r }, a)
 
 -- where it is one of these
-of_shared : (s : Seat) (n w : Tree) → SharedRow s n w → ChoiceRow (Expr s) n w
-of_shared s n w (inl (inl r)) = Shorter (NullishIfEqual r)
-of_shared s n w (inl (inr r)) = Shorter (NullishIfUnequal r)
-of_shared s n w (inr (inl r)) = TestedBranch r
-of_shared s n w (inr (inr (inl (inl r)))) = Shorter (Chosen r)
-of_shared s n w (inr (inr (inl (inr (inl r))))) = Shorter (ChosenMember r)
-of_shared s n w (inr (inr (inl (inr (inr r))))) = ChosenIndexed r
-of_shared s n w (inr (inr (inr r))) = JoinedCall r
+
+of_older : (e : ℕ) (s : Seat) (n w : Tree) → OlderRow s n w → weight (Expr s) w < weight (Expr s) n → ChoicesIn e (Expr s) n w
+of_older e s n w (inl r) less = (record { row = TestedBranch r; lighter = less }, tt)
+of_older e s n w (inr (inl (inl r))) less = (record { row = Shorter (Chosen r); lighter = less }, tt)
+of_older e s n w (inr (inl (inr (inl r)))) less = (record { row = Shorter (ChosenMember r); lighter = less }, tt)
+of_older e s n w (inr (inl (inr (inr r)))) less = (record { row = ChosenIndexed r; lighter = less }, tt)
+of_older e s n w (inr (inr r)) less = (record { row = JoinedCall r; lighter = less }, tt)
+
+of_shared : (e : ℕ) → 2020 ≤ e → (s : Seat) (n w : Tree) → SharedRow s n w → weight (Expr s) w < weight (Expr s) n → ChoicesIn e (Expr s) n w
+of_shared e late s n w (inl (inl r)) less = (record { row = Shorter (NullishIfEqual r); lighter = less }, late)
+of_shared e late s n w (inl (inr r)) less = (record { row = Shorter (NullishIfUnequal r); lighter = less }, late)
+of_shared e late s n w (inr r) less = of_older e s n w r less
 
 module _ (s : Seat) (n w : Tree) where
   -- one that is lighter in every seat, as all are but those of `OwnRow`
-  surely : (u : Tree) → Row46Equal n u ⊎ (Row46Unequal n u ⊎ (Row45 s n u ⊎ Row45Member s n u)) → Falls SharedRow s n u
-  surely u (inl r) = (inl (inl r), choice_weights.lighter s n u (NullishIfEqual r))
-  surely u (inr (inl r)) = (inl (inr r), choice_weights.lighter s n u (NullishIfUnequal r))
-  surely u (inr (inr (inl r))) = (inr (inr (inl (inl r))), choice_weights.lighter s n u (Chosen r))
-  surely u (inr (inr (inr r))) = (inr (inr (inl (inr (inl r)))), choice_weights.lighter s n u (ChosenMember r))
+  surely : (u : Tree) → Row45 s n u ⊎ Row45Member s n u → Falls OlderRow s n u
+  surely u (inl r) = (inr (inl (inl r)), choice_weights.lighter s n u (Chosen r))
+  surely u (inr r) = (inr (inl (inr (inl r))), choice_weights.lighter s n u (ChosenMember r))
+
+  older_falls : branches.consequent_written s n ≡ Some w → Falls OlderRow s n w
+  older_falls =
+      tries (Falls OlderRow s n) w (branches.is_own_consequent s n) (logical Or (part n 0) (part n 2)) (branches.alternate_written s n) (own_or_row s n)
+      (tries (Falls OlderRow s n) w (branches.is_own_alternate s n) (logical And (part n 0) (part n 1)) (branches.assignment_written s n) (own_and_row s n)
+      (tries (Falls OlderRow s n) w (branches.is_seated s && branches.assigns_either true n) (branches.assigned n) (branches.indexed_written s n) (λ h. surely (branches.assigned n) (chosen_row true s n h))
+      (tries (Falls OlderRow s n) w (branches.is_seated s && branches.indexes_either true n) (branches.assigned n) (branches.called_written n) index_row
+      (tries (Falls OlderRow s n) w (calls_either true n) (called n) None call_row (λ e. absurd (cc e))))))
+    where
+      index_row : branches.is_seated s && branches.indexes_either true n ≡ true → Falls OlderRow s n (branches.assigned n)
+      index_row h = let r = indexed_row true s n h in (inr (inl (inr (inr r))), indexed_lighter s n (branches.assigned n) r)
+
+      call_row : calls_either true n ≡ true → Falls OlderRow s n (called n)
+      call_row h = let r = called_row true n h in (inr (inr r), calls_lighter s n (called n) r)
 
   pub branch_falls : branches.written s n ≡ Some w → Falls SharedRow s n w
   branch_falls =
-      tries (Falls SharedRow s n) w (branches.is_own_if_equal n) (logical Coalesce (part n 2) (part n 1)) (branches.unequal_written s n) (λ h. surely (logical Coalesce (part n 2) (part n 1)) (inl (equal_row n h)))
-      (tries (Falls SharedRow s n) w (branches.is_own_if_unequal n) (logical Coalesce (part n 1) (part n 2)) (branches.consequent_written s n) (λ h. surely (logical Coalesce (part n 1) (part n 2)) (inr (inl (unequal_row n h))))
-      (tries (Falls SharedRow s n) w (branches.is_own_consequent s n) (logical Or (part n 0) (part n 2)) (branches.alternate_written s n) (own_or_row s n)
-      (tries (Falls SharedRow s n) w (branches.is_own_alternate s n) (logical And (part n 0) (part n 1)) (branches.assignment_written s n) (own_and_row s n)
-      (tries (Falls SharedRow s n) w (branches.is_seated s && branches.assigns_either true n) (branches.assigned n) (branches.indexed_written s n) (λ h. surely (branches.assigned n) (inr (inr (chosen_row true s n h))))
-      (tries (Falls SharedRow s n) w (branches.is_seated s && branches.indexes_either true n) (branches.assigned n) (branches.called_written n) index_row
-      (tries (Falls SharedRow s n) w (calls_either true n) (called n) None call_row (λ e. absurd (cc e))))))))
+      tries (Falls SharedRow s n) w (branches.is_own_if_equal n) (logical Coalesce (part n 2) (part n 1)) (branches.unequal_written s n) if_equal
+      (tries (Falls SharedRow s n) w (branches.is_own_if_unequal n) (logical Coalesce (part n 1) (part n 2)) (branches.consequent_written s n) if_unequal older)
     where
-      index_row : branches.is_seated s && branches.indexes_either true n ≡ true → Falls SharedRow s n (branches.assigned n)
-      index_row h = let r = indexed_row true s n h in (inr (inr (inl (inr (inr r)))), indexed_lighter s n (branches.assigned n) r)
+      if_equal : branches.is_own_if_equal n ≡ true → Falls SharedRow s n (logical Coalesce (part n 2) (part n 1))
+      if_equal h = let r = equal_row n h in (inl (inl r), choice_weights.lighter s n (logical Coalesce (part n 2) (part n 1)) (NullishIfEqual r))
 
-      call_row : calls_either true n ≡ true → Falls SharedRow s n (called n)
-      call_row h = let r = called_row true n h in (inr (inr (inr r)), calls_lighter s n (called n) r)
+      if_unequal : branches.is_own_if_unequal n ≡ true → Falls SharedRow s n (logical Coalesce (part n 1) (part n 2))
+      if_unequal h = let r = unequal_row n h in (inl (inr r), choice_weights.lighter s n (logical Coalesce (part n 1) (part n 2)) (NullishIfUnequal r))
 
-  branch_row : branches.written s n ≡ Some w → ChoiceContracts (Expr s) n w
-  branch_row e = let (r, less) = branch_falls e in record { row = of_shared s n w r; lighter = less }
+      older : branches.consequent_written s n ≡ Some w → Falls SharedRow s n w
+      older h = let (r, less) = older_falls h in (inr r, less)
+
+  branch_row : (e : ℕ) → branches_in e s n ≡ Some w → ChoicesIn e (Expr s) n w
+  branch_row e = in_edition 2020 e (branches.written s n) (branches.consequent_written s n) w newer older
+    where
+      newer : 2020 ≤ e → branches.written s n ≡ Some w → ChoicesIn e (Expr s) n w
+      newer late h = let (r, less) = branch_falls h in of_shared e late s n w r less
+
+      older : branches.consequent_written s n ≡ Some w → ChoicesIn e (Expr s) n w
+      older h = let (r, less) = older_falls h in of_older e s n w r less
 
 module _ (s : Seat) (t : Tree) where
   pub by_equal : branches.is_own_if_equal t ≡ true → is_some (branches.written s t) ≡ true
@@ -336,26 +362,42 @@ module _ (s : Seat) (t : Tree) where
   after_unequal : is_some (branches.consequent_written s t) ≡ true → is_some (branches.written s t) ≡ true
   after_unequal h = after_equal (later_true (branches.is_own_if_unequal t) (logical Coalesce (part t 1) (part t 2)) (branches.consequent_written s t) h)
 
-  pub by_consequent : branches.is_own_consequent s t ≡ true → is_some (branches.written s t) ≡ true
-  by_consequent h = after_unequal (first_true (branches.is_own_consequent s t) (logical Or (part t 0) (part t 2)) (branches.alternate_written s t) h)
+  -- where what is written is no `??`
+  older_consequent : branches.is_own_consequent s t ≡ true → is_some (branches.consequent_written s t) ≡ true
+  older_consequent h = first_true (branches.is_own_consequent s t) (logical Or (part t 0) (part t 2)) (branches.alternate_written s t) h
 
-  after_consequent : is_some (branches.alternate_written s t) ≡ true → is_some (branches.written s t) ≡ true
-  after_consequent h = after_unequal (later_true (branches.is_own_consequent s t) (logical Or (part t 0) (part t 2)) (branches.alternate_written s t) h)
+  after_consequent : is_some (branches.alternate_written s t) ≡ true → is_some (branches.consequent_written s t) ≡ true
+  after_consequent h = later_true (branches.is_own_consequent s t) (logical Or (part t 0) (part t 2)) (branches.alternate_written s t) h
 
-  pub by_alternate : branches.is_own_alternate s t ≡ true → is_some (branches.written s t) ≡ true
-  by_alternate h = after_consequent (first_true (branches.is_own_alternate s t) (logical And (part t 0) (part t 1)) (branches.assignment_written s t) h)
+  older_alternate : branches.is_own_alternate s t ≡ true → is_some (branches.consequent_written s t) ≡ true
+  older_alternate h = after_consequent (first_true (branches.is_own_alternate s t) (logical And (part t 0) (part t 1)) (branches.assignment_written s t) h)
 
-  pub by_assignment : branches.is_seated s && branches.assigns_either true t ≡ true → is_some (branches.written s t) ≡ true
-  by_assignment h = after_consequent (later_true (branches.is_own_alternate s t) (logical And (part t 0) (part t 1)) (branches.assignment_written s t) (first_true (branches.is_seated s && branches.assigns_either true t) (branches.assigned t) (branches.indexed_written s t) h))
+  older_assignment : branches.is_seated s && branches.assigns_either true t ≡ true → is_some (branches.consequent_written s t) ≡ true
+  older_assignment h = after_consequent (later_true (branches.is_own_alternate s t) (logical And (part t 0) (part t 1)) (branches.assignment_written s t) (first_true (branches.is_seated s && branches.assigns_either true t) (branches.assigned t) (branches.indexed_written s t) h))
 
-  after_assignment : is_some (branches.indexed_written s t) ≡ true → is_some (branches.written s t) ≡ true
+  after_assignment : is_some (branches.indexed_written s t) ≡ true → is_some (branches.consequent_written s t) ≡ true
   after_assignment h = after_consequent (later_true (branches.is_own_alternate s t) (logical And (part t 0) (part t 1)) (branches.assignment_written s t) (later_true (branches.is_seated s && branches.assigns_either true t) (branches.assigned t) (branches.indexed_written s t) h))
 
+  older_indexed : branches.is_seated s && branches.indexes_either true t ≡ true → is_some (branches.consequent_written s t) ≡ true
+  older_indexed h = after_assignment (first_true (branches.is_seated s && branches.indexes_either true t) (branches.assigned t) (branches.called_written t) h)
+
+  older_called : calls_either true t ≡ true → is_some (branches.consequent_written s t) ≡ true
+  older_called h = after_assignment (later_true (branches.is_seated s && branches.indexes_either true t) (branches.assigned t) (branches.called_written t) (first_true (calls_either true t) (called t) None h))
+
+  pub by_consequent : branches.is_own_consequent s t ≡ true → is_some (branches.written s t) ≡ true
+  by_consequent h = after_unequal (older_consequent h)
+
+  pub by_alternate : branches.is_own_alternate s t ≡ true → is_some (branches.written s t) ≡ true
+  by_alternate h = after_unequal (older_alternate h)
+
+  pub by_assignment : branches.is_seated s && branches.assigns_either true t ≡ true → is_some (branches.written s t) ≡ true
+  by_assignment h = after_unequal (older_assignment h)
+
   pub by_indexed : branches.is_seated s && branches.indexes_either true t ≡ true → is_some (branches.written s t) ≡ true
-  by_indexed h = after_assignment (first_true (branches.is_seated s && branches.indexes_either true t) (branches.assigned t) (branches.called_written t) h)
+  by_indexed h = after_unequal (older_indexed h)
 
   pub by_called : calls_either true t ≡ true → is_some (branches.written s t) ≡ true
-  by_called h = after_assignment (later_true (branches.is_seated s && branches.indexes_either true t) (branches.assigned t) (branches.called_written t) (first_true (calls_either true t) (called t) None h))
+  by_called h = after_unequal (older_called h)
 
 or_true : (a b : Bool) → b ≡ true → (a || b) ≡ true
 or_true true b e = refl
@@ -381,70 +423,78 @@ either_some : (a b : Option Tree) (w : Tree) → first_of a b ≡ Some w → (a 
 either_some (Some a) b w e = inl e
 either_some None b w e = inr e
 
-row_of : (s : Seat) (n w : Tree) → written s n ≡ Some w → ChoiceContracts (Expr s) n w
-row_of s (node (shape.LogicalExpression o) xs m ts) w e = side_row (either_some (both.written s (node (shape.LogicalExpression o) xs m ts)) (first_of (decide_last.written s (node (shape.LogicalExpression o) xs m ts)) (operands_written (node (shape.LogicalExpression o) xs m ts))) w e)
+row_of : (e : ℕ) (s : Seat) (n w : Tree) → written e s n ≡ Some w → ChoicesIn e (Expr s) n w
+row_of e s (node (shape.LogicalExpression o) xs m ts) w h = side_row (either_some (both.written s (node (shape.LogicalExpression o) xs m ts)) (first_of (decided_last_in e s (node (shape.LogicalExpression o) xs m ts)) (operands_written e (node (shape.LogicalExpression o) xs m ts))) w h)
   where
-    comparisons_row : (nullish.written (node (shape.LogicalExpression o) xs m ts) ≡ Some w) ⊎ (object_test.written (node (shape.LogicalExpression o) xs m ts) ≡ Some w) → LighterRow s (node (shape.LogicalExpression o) xs m ts) w
-    comparisons_row (inl e) = comparison_row (LighterRow s) (λ n w r. LooseNull r) (λ n w r. LooseNullAfter r) _ w e
-    comparisons_row (inr e) = object_row (LighterRow s) (λ n w r. ObjectTest r) (λ n w r. ObjectTestAfter r) _ w e
+    comparisons_row : (nullish.written (node (shape.LogicalExpression o) xs m ts) ≡ Some w) ⊎ (object_test.written (node (shape.LogicalExpression o) xs m ts) ≡ Some w) → Found e s (node (shape.LogicalExpression o) xs m ts) w
+    comparisons_row (inl h) = comparison_row (Found e s) (λ n w r. (LooseNull r, tt)) (λ n w r. (LooseNullAfter r, tt)) _ w h
+    comparisons_row (inr h) = object_row (Found e s) (λ n w r. (ObjectTest r, tt)) (λ n w r. (ObjectTestAfter r, tt)) _ w h
 
-    others_row : (decide.written (node (shape.LogicalExpression o) xs m ts) ≡ Some w) ⊎ (first_of (nullish.written (node (shape.LogicalExpression o) xs m ts)) (object_test.written (node (shape.LogicalExpression o) xs m ts)) ≡ Some w) → LighterRow s (node (shape.LogicalExpression o) xs m ts) w
-    others_row (inl e) = Decided (decided_row _ w e)
-    others_row (inr e) = comparisons_row (either_some (nullish.written (node (shape.LogicalExpression o) xs m ts)) (object_test.written (node (shape.LogicalExpression o) xs m ts)) w e)
+    others_row : (decided_in e (node (shape.LogicalExpression o) xs m ts) ≡ Some w) ⊎ (first_of (nullish.written (node (shape.LogicalExpression o) xs m ts)) (object_test.written (node (shape.LogicalExpression o) xs m ts)) ≡ Some w) → Found e s (node (shape.LogicalExpression o) xs m ts) w
+    others_row (inl h) = let (late, is) = since_is 2021 e (decide.written (node (shape.LogicalExpression o) xs m ts)) w h in (Decided (decided_row _ w is), late)
+    others_row (inr h) = comparisons_row (either_some (nullish.written (node (shape.LogicalExpression o) xs m ts)) (object_test.written (node (shape.LogicalExpression o) xs m ts)) w h)
 
-    logical_row : (rotate.written (node (shape.LogicalExpression o) xs m ts) ≡ Some w) ⊎ (first_of (decide.written (node (shape.LogicalExpression o) xs m ts)) (first_of (nullish.written (node (shape.LogicalExpression o) xs m ts)) (object_test.written (node (shape.LogicalExpression o) xs m ts))) ≡ Some w) → LighterRow s (node (shape.LogicalExpression o) xs m ts) w
-    logical_row (inl e) = Rotated (rotated_row _ w e)
-    logical_row (inr e) = others_row (either_some (decide.written (node (shape.LogicalExpression o) xs m ts)) (first_of (nullish.written (node (shape.LogicalExpression o) xs m ts)) (object_test.written (node (shape.LogicalExpression o) xs m ts))) w e)
+    logical_row : (rotate.written (node (shape.LogicalExpression o) xs m ts) ≡ Some w) ⊎ (first_of (decided_in e (node (shape.LogicalExpression o) xs m ts)) (first_of (nullish.written (node (shape.LogicalExpression o) xs m ts)) (object_test.written (node (shape.LogicalExpression o) xs m ts))) ≡ Some w) → Found e s (node (shape.LogicalExpression o) xs m ts) w
+    logical_row (inl h) = (Rotated (rotated_row _ w h), tt)
+    logical_row (inr h) = others_row (either_some (decided_in e (node (shape.LogicalExpression o) xs m ts)) (first_of (nullish.written (node (shape.LogicalExpression o) xs m ts)) (object_test.written (node (shape.LogicalExpression o) xs m ts))) w h)
 
-    operands_row : operands_written (node (shape.LogicalExpression o) xs m ts) ≡ Some w → LighterRow s (node (shape.LogicalExpression o) xs m ts) w
-    operands_row e = logical_row (either_some (rotate.written (node (shape.LogicalExpression o) xs m ts)) (first_of (decide.written (node (shape.LogicalExpression o) xs m ts)) (first_of (nullish.written (node (shape.LogicalExpression o) xs m ts)) (object_test.written (node (shape.LogicalExpression o) xs m ts)))) w e)
+    operands_row : operands_written e (node (shape.LogicalExpression o) xs m ts) ≡ Some w → Found e s (node (shape.LogicalExpression o) xs m ts) w
+    operands_row h = logical_row (either_some (rotate.written (node (shape.LogicalExpression o) xs m ts)) (first_of (decided_in e (node (shape.LogicalExpression o) xs m ts)) (first_of (nullish.written (node (shape.LogicalExpression o) xs m ts)) (object_test.written (node (shape.LogicalExpression o) xs m ts)))) w h)
 
-    last_or_row : (decide_last.written s (node (shape.LogicalExpression o) xs m ts) ≡ Some w) ⊎ (operands_written (node (shape.LogicalExpression o) xs m ts) ≡ Some w) → LighterRow s (node (shape.LogicalExpression o) xs m ts) w
-    last_or_row (inl e) = DecidedLast (last_row s _ w e)
-    last_or_row (inr e) = operands_row e
+    last_or_row : (decided_last_in e s (node (shape.LogicalExpression o) xs m ts) ≡ Some w) ⊎ (operands_written e (node (shape.LogicalExpression o) xs m ts) ≡ Some w) → Found e s (node (shape.LogicalExpression o) xs m ts) w
+    last_or_row (inl h) = let (late, is) = since_is 2021 e (decide_last.written s (node (shape.LogicalExpression o) xs m ts)) w h in (DecidedLast (last_row s _ w is), late)
+    last_or_row (inr h) = operands_row h
 
-    side_row : (both.written s (node (shape.LogicalExpression o) xs m ts) ≡ Some w) ⊎ (first_of (decide_last.written s (node (shape.LogicalExpression o) xs m ts)) (operands_written (node (shape.LogicalExpression o) xs m ts)) ≡ Some w) → ChoiceContracts (Expr s) (node (shape.LogicalExpression o) xs m ts) w
-    side_row (inl e) = both_row s _ w e
-    side_row (inr e) = sure s _ w (last_or_row (either_some (decide_last.written s (node (shape.LogicalExpression o) xs m ts)) (operands_written (node (shape.LogicalExpression o) xs m ts)) w e))
-row_of s (node (shape.AssignmentExpression o) xs m ts) w e = assigned_row (combined_row _ w e)
+    side_row : (both.written s (node (shape.LogicalExpression o) xs m ts) ≡ Some w) ⊎ (first_of (decided_last_in e s (node (shape.LogicalExpression o) xs m ts)) (operands_written e (node (shape.LogicalExpression o) xs m ts)) ≡ Some w) → ChoicesIn e (Expr s) (node (shape.LogicalExpression o) xs m ts) w
+    side_row (inl h) = both_row e s _ w h
+    side_row (inr h) = sure e s _ w (last_or_row (either_some (decided_last_in e s (node (shape.LogicalExpression o) xs m ts)) (operands_written e (node (shape.LogicalExpression o) xs m ts)) w h))
+row_of e s (node (shape.AssignmentExpression o) xs m ts) w h = assigned_row (combined_row _ w h)
   where
-    assigned_row : Row35 (node (shape.AssignmentExpression o) xs m ts) w ⊎ Row35Member (node (shape.AssignmentExpression o) xs m ts) w → ChoiceContracts (Expr s) (node (shape.AssignmentExpression o) xs m ts) w
-    assigned_row (inl r) = sure s _ w (Combined r)
-    assigned_row (inr r) = sure s _ w (CombinedMember r)
-row_of s (node shape.ConditionalExpression xs m ts) w e = any_row (either_some (chains.written s (node shape.ConditionalExpression xs m ts)) (first_of (held.written s (node shape.ConditionalExpression xs m ts)) (branches.written s (node shape.ConditionalExpression xs m ts))) w e)
+    assigned_row : Row35 (node (shape.AssignmentExpression o) xs m ts) w ⊎ Row35Member (node (shape.AssignmentExpression o) xs m ts) w → ChoicesIn e (Expr s) (node (shape.AssignmentExpression o) xs m ts) w
+    assigned_row (inl r) = sure e s _ w (Combined r, tt)
+    assigned_row (inr r) = sure e s _ w (CombinedMember r, tt)
+row_of e s (node shape.ConditionalExpression xs m ts) w h = any_row (either_some (chains_in e s (node shape.ConditionalExpression xs m ts)) (first_of (held.written s (node shape.ConditionalExpression xs m ts)) (branches_in e s (node shape.ConditionalExpression xs m ts))) w h)
   where
-    conditional_row : (held.written s (node shape.ConditionalExpression xs m ts) ≡ Some w) ⊎ (branches.written s (node shape.ConditionalExpression xs m ts) ≡ Some w) → ChoiceContracts (Expr s) (node shape.ConditionalExpression xs m ts) w
-    conditional_row (inl e) = held_row s _ w e
-    conditional_row (inr e) = branch_row s _ w e
+    conditional_row : (held.written s (node shape.ConditionalExpression xs m ts) ≡ Some w) ⊎ (branches_in e s (node shape.ConditionalExpression xs m ts) ≡ Some w) → ChoicesIn e (Expr s) (node shape.ConditionalExpression xs m ts) w
+    conditional_row (inl h) = held_row e s _ w h
+    conditional_row (inr h) = branch_row s _ w e h
 
-    any_row : (chains.written s (node shape.ConditionalExpression xs m ts) ≡ Some w) ⊎ (first_of (held.written s (node shape.ConditionalExpression xs m ts)) (branches.written s (node shape.ConditionalExpression xs m ts)) ≡ Some w) → ChoiceContracts (Expr s) (node shape.ConditionalExpression xs m ts) w
-    any_row (inl e) = chain_row s _ w e
-    any_row (inr e) = conditional_row (either_some (held.written s (node shape.ConditionalExpression xs m ts)) (branches.written s (node shape.ConditionalExpression xs m ts)) w e)
-row_of s (node shape.ChainExpression xs m ts) w e = folded_row s (node shape.ChainExpression xs m ts) w e
-row_of s (node shape.SequenceExpression xs m ts) w e = zero_row s (node shape.SequenceExpression xs m ts) w e
-row_of s (node h xs m ts) w e = absurd (cc e)
+    any_row : (chains_in e s (node shape.ConditionalExpression xs m ts) ≡ Some w) ⊎ (first_of (held.written s (node shape.ConditionalExpression xs m ts)) (branches_in e s (node shape.ConditionalExpression xs m ts)) ≡ Some w) → ChoicesIn e (Expr s) (node shape.ConditionalExpression xs m ts) w
+    any_row (inl h) = let (late, is) = since_is 2020 e (chains.written s (node shape.ConditionalExpression xs m ts)) w h in chain_row e late s _ w is
+    any_row (inr h) = conditional_row (either_some (held.written s (node shape.ConditionalExpression xs m ts)) (branches_in e s (node shape.ConditionalExpression xs m ts)) w h)
+row_of e s (node shape.ChainExpression xs m ts) w h = folded_row e s (node shape.ChainExpression xs m ts) w h
+row_of e s (node shape.SequenceExpression xs m ts) w h = zero_row e s (node shape.SequenceExpression xs m ts) w h
+row_of e s (node h xs m ts) w k = absurd (cc k)
 
 pub written_is_row : WrittenIsRow
-written_is_row s n w e = row_of s n w e
+written_is_row e s n w h = row_of e s n w h
 
-in_branches : (s : Seat) (t : Tree) → is_some (branches.written s t) ≡ true → is_some (first_of (chains.written s t) (first_of (held.written s t) (branches.written s t))) ≡ true
-in_branches s t h = second_there (chains.written s t) (first_of (held.written s t) (branches.written s t)) (second_there (held.written s t) (branches.written s t) h)
+in_branches : (e : ℕ) (s : Seat) (t : Tree) → is_some (branches_in e s t) ≡ true → is_some (first_of (chains_in e s t) (first_of (held.written s t) (branches_in e s t))) ≡ true
+in_branches e s t h = second_there (chains_in e s t) (first_of (held.written s t) (branches_in e s t)) (second_there (held.written s t) (branches_in e s t) h)
 
-held_there : (s : Seat) (n : Tree) → is_some (held.written s n) ≡ true → is_some (written s n) ≡ true
-held_there s n h =
+-- of what is no `??`
+in_older : (e : ℕ) (s : Seat) (t : Tree) → is_some (branches.consequent_written s t) ≡ true → is_some (first_of (chains_in e s t) (first_of (held.written s t) (branches_in e s t))) ≡ true
+in_older e s t h = in_branches e s t (either_passes 2020 e (branches.written s t) (branches.consequent_written s t) (after_unequal s t h) h)
+
+-- and of what is
+in_newer : (e : ℕ) (s : Seat) (t : Tree) → 2020 ≤ e → is_some (branches.written s t) ≡ true → is_some (first_of (chains_in e s t) (first_of (held.written s t) (branches_in e s t))) ≡ true
+in_newer e s t late h = in_branches e s t (newer_passes 2020 e (branches.written s t) (branches.consequent_written s t) late h)
+
+held_there : (e : ℕ) (s : Seat) (n : Tree) → is_some (held.written s n) ≡ true → is_some (written e s n) ≡ true
+held_there e s n h =
     let is = conditional_is n (chooses (is_conditional n) h) in
     let t : Tree = conditional (part n 0) (part n 1) (part n 2) in
-    ap (λ t. is_some (written s t)) is ∙ second_there (chains.written s t) (first_of (held.written s t) (branches.written s t)) (first_there (held.written s t) (branches.written s t) (sym (ap (λ t. is_some (held.written s t)) is) ∙ h))
+    ap (λ t. is_some (written e s t)) is ∙ second_there (chains_in e s t) (first_of (held.written s t) (branches_in e s t)) (first_there (held.written s t) (branches_in e s t) (sym (ap (λ t. is_some (held.written s t)) is) ∙ h))
   where
     chooses : (b : Bool) → is_some (if b then held.chosen_written s n else None) ≡ true → b ≡ true
     chooses true e = refl
     chooses false e = e
 
-chain_there : (s : Seat) (n : Tree) → is_some (chains.written s n) ≡ true → is_some (written s n) ≡ true
-chain_there s n h =
+chain_there : (e : ℕ) (s : Seat) (n : Tree) → 2020 ≤ e → is_some (chains.written s n) ≡ true → is_some (written e s n) ≡ true
+chain_there e s n late h =
     let is = conditional_is n (chooses n h) in
     let t : Tree = conditional (part n 0) (part n 1) (part n 2) in
-    ap (λ t. is_some (written s t)) is ∙ first_there (chains.written s t) (first_of (held.written s t) (branches.written s t)) (sym (ap (λ t. is_some (chains.written s t)) is) ∙ h)
+    ap (λ t. is_some (written e s t)) is ∙ first_there (chains_in e s t) (first_of (held.written s t) (branches_in e s t)) (since_passes 2020 e (chains.written s t) late (sym (ap (λ t. is_some (chains.written s t)) is) ∙ h))
   where
     first_of_both : (b c d : Bool) (x y : Tree) → is_some (if b && c then Some x else (if b && d then Some y else None)) ≡ true → b ≡ true
     first_of_both true c d x y e = refl
@@ -453,100 +503,100 @@ chain_there s n h =
     chooses : (t : Tree) → is_some (chains.written s t) ≡ true → is_conditional t ≡ true
     chooses t e = first_of_both (is_conditional t) _ _ (kept_by_value s.guard (chains.chained t (part t 2))) (kept_by_value s.guard (chains.chained t (part t 1))) e
 
-folded_there : (s : Seat) (n : Tree) → is_some (folded.written s n) ≡ true → is_some (written s n) ≡ true
-folded_there s n h = ap (λ t. is_some (written s t)) (chain_is n (of_chain s n h)) ∙ sym (ap (λ t. is_some (folded.written s t)) (chain_is n (of_chain s n h))) ∙ h
+folded_there : (e : ℕ) (s : Seat) (n : Tree) → is_some (folded.written s n) ≡ true → is_some (written e s n) ≡ true
+folded_there e s n h = ap (λ t. is_some (written e s t)) (chain_is n (of_chain s n h)) ∙ sym (ap (λ t. is_some (folded.written s t)) (chain_is n (of_chain s n h))) ∙ h
 
-in_comparisons : (t : Tree) → is_some (first_of (nullish.written t) (object_test.written t)) ≡ true → is_some (first_of (rotate.written t) (first_of (decide.written t) (first_of (nullish.written t) (object_test.written t)))) ≡ true
-in_comparisons t h = second_there (rotate.written t) (first_of (decide.written t) (first_of (nullish.written t) (object_test.written t))) (second_there (decide.written t) (first_of (nullish.written t) (object_test.written t)) h)
+in_comparisons : (e : ℕ) (t : Tree) → is_some (first_of (nullish.written t) (object_test.written t)) ≡ true → is_some (first_of (rotate.written t) (first_of (decided_in e t) (first_of (nullish.written t) (object_test.written t)))) ≡ true
+in_comparisons e t h = second_there (rotate.written t) (first_of (decided_in e t) (first_of (nullish.written t) (object_test.written t))) (second_there (decided_in e t) (first_of (nullish.written t) (object_test.written t)) h)
 
-by_nullish : (t : Tree) → is_some (nullish.written t) ≡ true → is_some (first_of (rotate.written t) (first_of (decide.written t) (first_of (nullish.written t) (object_test.written t)))) ≡ true
-by_nullish t h = in_comparisons t (first_there (nullish.written t) (object_test.written t) h)
+by_nullish : (e : ℕ) (t : Tree) → is_some (nullish.written t) ≡ true → is_some (first_of (rotate.written t) (first_of (decided_in e t) (first_of (nullish.written t) (object_test.written t)))) ≡ true
+by_nullish e t h = in_comparisons e t (first_there (nullish.written t) (object_test.written t) h)
 
-by_object : (t : Tree) → is_some (object_test.written t) ≡ true → is_some (first_of (rotate.written t) (first_of (decide.written t) (first_of (nullish.written t) (object_test.written t)))) ≡ true
-by_object t h = in_comparisons t (second_there (nullish.written t) (object_test.written t) h)
+by_object : (e : ℕ) (t : Tree) → is_some (object_test.written t) ≡ true → is_some (first_of (rotate.written t) (first_of (decided_in e t) (first_of (nullish.written t) (object_test.written t)))) ≡ true
+by_object e t h = in_comparisons e t (second_there (nullish.written t) (object_test.written t) h)
 
-in_operands : (s : Seat) (t : Tree) → is_some (operands_written t) ≡ true → is_some (first_of (both.written s t) (first_of (decide_last.written s t) (operands_written t))) ≡ true
-in_operands s t h = second_there (both.written s t) (first_of (decide_last.written s t) (operands_written t)) (second_there (decide_last.written s t) (operands_written t) h)
+in_operands : (e : ℕ) (s : Seat) (t : Tree) → is_some (operands_written e t) ≡ true → is_some (first_of (both.written s t) (first_of (decided_last_in e s t) (operands_written e t))) ≡ true
+in_operands e s t h = second_there (both.written s t) (first_of (decided_last_in e s t) (operands_written e t)) (second_there (decided_last_in e s t) (operands_written e t) h)
 
-both_there : (s : Seat) (n w : Tree) → Row13Both n w → is_some (both.written s n) ≡ true → is_some (written s n) ≡ true
-both_there s n w r h =
+both_there : (e : ℕ) (s : Seat) (n w : Tree) → Row13Both n w → is_some (both.written s n) ≡ true → is_some (written e s n) ≡ true
+both_there e s n w r h =
     let t : Tree = logical r.operator r.left r.right in
-    ap (λ t. is_some (written s t)) r.shape ∙ first_there (both.written s t) (first_of (decide_last.written s t) (operands_written t)) (sym (ap (λ t. is_some (both.written s t)) r.shape) ∙ h)
+    ap (λ t. is_some (written e s t)) r.shape ∙ first_there (both.written s t) (first_of (decided_last_in e s t) (operands_written e t)) (sym (ap (λ t. is_some (both.written s t)) r.shape) ∙ h)
 
-zero_there : (s : Seat) (n w : Tree) → Row21Zero n w → is_some (behind.written s n) ≡ true → is_some (written s n) ≡ true
-zero_there s n w r h = ap (λ t. is_some (written s t)) r.shape ∙ sym (ap (λ t. is_some (behind.written s t)) r.shape) ∙ h
+zero_there : (e : ℕ) (s : Seat) (n w : Tree) → Row21Zero n w → is_some (behind.written s n) ≡ true → is_some (written e s n) ≡ true
+zero_there e s n w r h = ap (λ t. is_some (written e s t)) r.shape ∙ sym (ap (λ t. is_some (behind.written s t)) r.shape) ∙ h
 
-sure_passes : (s : Seat) (n w : Tree) → LighterRow s n w → is_some (written s n) ≡ true
-sure_passes s n w (Rotated r) =
+sure_passes : (e : ℕ) (s : Seat) (n w : Tree) (r : LighterRow s n w) → LighterIn e s n w r → is_some (written e s n) ≡ true
+sure_passes e s n w (Rotated r) a =
     let t : Tree = logical r.operator r.a (joined r.operator r.b (r.last ▸ r.others)) in
-    ap (λ t. is_some (written s t)) r.shape ∙ in_operands s t (first_there (rotate.written t) (first_of (decide.written t) (first_of (nullish.written t) (object_test.written t))) (rotated_passes r.operator r.a r.b r.last r.others r.ungrouped))
-sure_passes s n w (Decided r) =
+    ap (λ t. is_some (written e s t)) r.shape ∙ in_operands e s t (first_there (rotate.written t) (first_of (decided_in e t) (first_of (nullish.written t) (object_test.written t))) (rotated_passes r.operator r.a r.b r.last r.others r.ungrouped))
+sure_passes e s n w (Decided r) a =
     let t : Tree = logical r.operator (identifier r.name) (assign r.name r.b) in
-    ap (λ t. is_some (written s t)) r.shape ∙ in_operands s t (first_there (decide.written t) (first_of (nullish.written t) (object_test.written t)) (ap is_some (decided_passes r.operator r.name r.b)))
-sure_passes s n w (Combined r) = ap (λ t. is_some (written s t)) r.shape ∙ ap is_some (combined_passes r.operator r.combined r.computes r.name r.b)
-sure_passes s n w (NullishIfEqual r) = ap (λ t. is_some (written s t)) r.shape ∙ in_branches s (conditional (binary Equality (identifier r.name) null_literal) r.b (identifier r.name)) (by_equal s (conditional (binary Equality (identifier r.name) null_literal) r.b (identifier r.name)) (declared_passes r.name r.declared))
-sure_passes s n w (NullishIfUnequal r) = ap (λ t. is_some (written s t)) r.shape ∙ in_branches s (conditional (binary Inequality (identifier r.name) null_literal) (identifier r.name) r.b) (by_unequal s (conditional (binary Inequality (identifier r.name) null_literal) (identifier r.name) r.b) (declared_passes r.name r.declared))
-sure_passes s n w (Chosen r) = ap (λ t. is_some (written s t)) r.shape ∙ in_branches s (conditional r.a (assignment r.operator (identifier r.name) r.b) (assignment r.operator (identifier r.name) r.c)) (by_assignment s (conditional r.a (assignment r.operator (identifier r.name) r.b) (assignment r.operator (identifier r.name) r.c)) (chosen_passes true s r.seated r.operator r.a r.name r.b r.c r.chosen))
-sure_passes s n w (LooseNull r) =
+    ap (λ t. is_some (written e s t)) r.shape ∙ in_operands e s t (first_there (decided_in e t) (first_of (nullish.written t) (object_test.written t)) (since_passes 2021 e (decide.written t) a (ap is_some (decided_passes r.operator r.name r.b))))
+sure_passes e s n w (Combined r) a = ap (λ t. is_some (written e s t)) r.shape ∙ ap is_some (combined_passes r.operator r.combined r.computes r.name r.b)
+sure_passes e s n w (NullishIfEqual r) a = ap (λ t. is_some (written e s t)) r.shape ∙ in_newer e s (conditional (binary Equality (identifier r.name) null_literal) r.b (identifier r.name)) a (by_equal s (conditional (binary Equality (identifier r.name) null_literal) r.b (identifier r.name)) (declared_passes r.name r.declared))
+sure_passes e s n w (NullishIfUnequal r) a = ap (λ t. is_some (written e s t)) r.shape ∙ in_newer e s (conditional (binary Inequality (identifier r.name) null_literal) (identifier r.name) r.b) a (by_unequal s (conditional (binary Inequality (identifier r.name) null_literal) (identifier r.name) r.b) (declared_passes r.name r.declared))
+sure_passes e s n w (Chosen r) a = ap (λ t. is_some (written e s t)) r.shape ∙ in_older e s (conditional r.a (assignment r.operator (identifier r.name) r.b) (assignment r.operator (identifier r.name) r.c)) (older_assignment s (conditional r.a (assignment r.operator (identifier r.name) r.b) (assignment r.operator (identifier r.name) r.c)) (chosen_passes true s r.seated r.operator r.a r.name r.b r.c r.chosen))
+sure_passes e s n w (LooseNull r) a =
     let t : Tree = logical (joining r.equal) (binary (strictly r.equal) (identifier r.name) r.first) (binary (strictly r.equal) (identifier r.name) r.second) in
-    ap (λ t. is_some (written s t)) r.shape ∙ in_operands s t (by_nullish t (alone_passes r.equal r.name r.first r.second r.nullish))
-sure_passes s n w (LooseNullAfter r) =
+    ap (λ t. is_some (written e s t)) r.shape ∙ in_operands e s t (by_nullish e t (alone_passes r.equal r.name r.first r.second r.nullish))
+sure_passes e s n w (LooseNullAfter r) a =
     let t : Tree = logical (joining r.equal) (logical (joining r.equal) r.before (binary (strictly r.equal) (identifier r.name) r.first)) (binary (strictly r.equal) (identifier r.name) r.second) in
-    ap (λ t. is_some (written s t)) r.shape ∙ in_operands s t (by_nullish t (after_passes r.equal r.before r.name r.first r.second r.nullish))
-sure_passes s n w (ObjectTest r) =
+    ap (λ t. is_some (written e s t)) r.shape ∙ in_operands e s t (by_nullish e t (after_passes r.equal r.before r.name r.first r.second r.nullish))
+sure_passes e s n w (ObjectTest r) a =
     let t : Tree = logical (joining (not r.there)) (ended (joining (not r.there)) r.before (asks_object r.there r.name)) (null_compared r.strict (not r.there) r.name) in
-    ap (λ t. is_some (written s t)) r.shape ∙ in_operands s t (by_object t (object_passes r.there r.strict r.before r.name r.declared))
-sure_passes s n w (DecidedLast r) =
+    ap (λ t. is_some (written e s t)) r.shape ∙ in_operands e s t (by_object e t (object_passes r.there r.strict r.before r.name r.declared))
+sure_passes e s n w (DecidedLast r) a =
     let t : Tree = logical r.operator (identifier r.name) (sequence (r.first ▸ append r.others (assign r.name r.b ▸ none))) in
-    ap (λ t. is_some (written s t)) r.shape ∙ second_there (both.written s t) (first_of (decide_last.written s t) (operands_written t)) (first_there (decide_last.written s t) (operands_written t) (last_passes s r.operator r.name r.first r.others r.b r.seated))
-sure_passes s n w (ChosenMember r) =
+    ap (λ t. is_some (written e s t)) r.shape ∙ second_there (both.written s t) (first_of (decided_last_in e s t) (operands_written e t)) (first_there (decided_last_in e s t) (operands_written e t) (since_passes 2021 e (decide_last.written s t) a (last_passes s r.operator r.name r.first r.others r.b r.seated)))
+sure_passes e s n w (ChosenMember r) a =
     let t : Tree = conditional r.a (assignment Assign (member_of r.name r.key) r.b) (assignment Assign (member_of r.name r.key) r.c) in
-    ap (λ t. is_some (written s t)) r.shape ∙ in_branches s t (by_assignment s t (chosen_member_passes true s r.seated r.a r.name r.key r.b r.c r.declared r.effect_free))
-sure_passes s n w (CombinedMember r) = ap (λ t. is_some (written s t)) r.shape ∙ ap is_some (combined_member_passes r.operator r.combined r.computes r.name r.declared r.key r.b)
-sure_passes s n w (ObjectTestAfter r) =
+    ap (λ t. is_some (written e s t)) r.shape ∙ in_older e s t (older_assignment s t (chosen_member_passes true s r.seated r.a r.name r.key r.b r.c r.declared r.effect_free))
+sure_passes e s n w (CombinedMember r) a = ap (λ t. is_some (written e s t)) r.shape ∙ ap is_some (combined_member_passes r.operator r.combined r.computes r.name r.declared r.key r.b)
+sure_passes e s n w (ObjectTestAfter r) a =
     let t : Tree = logical (joining (not r.there)) (ended (joining (not r.there)) r.before (null_compared r.strict (not r.there) r.name)) (asks_object r.there r.name) in
-    ap (λ t. is_some (written s t)) r.shape ∙ in_operands s t (by_object t (before_passes r.there r.strict r.before r.name r.declared))
+    ap (λ t. is_some (written e s t)) r.shape ∙ in_operands e s t (by_object e t (before_passes r.there r.strict r.before r.name r.declared))
 
-own_passes : (s : Seat) (n w : Tree) → OwnRow n w → weight (Expr s) n < 2 ^ 64 → weight (Expr s) w < weight (Expr s) n → is_some (written s n) ≡ true
-own_passes s n w (OrTest r) small less =
+own_passes : (e : ℕ) (s : Seat) (n w : Tree) → OwnRow n w → weight (Expr s) n < 2 ^ 64 → weight (Expr s) w < weight (Expr s) n → is_some (written e s n) ≡ true
+own_passes e s n w (OrTest r) small less =
     let t : Tree = conditional (identifier r.name) (identifier r.name) r.b in
     let u : Tree = logical Or (identifier r.name) r.b in
     let same = ap (weight (Expr s)) r.shape in
     let made = ap (weight (Expr s)) r.written in
-    ap (λ t. is_some (written s t)) r.shape ∙ in_branches s t (by_consequent s t (both_true (same_tree (identifier r.name) (identifier r.name)) (branches.is_lighter s u t) (tree_itself (identifier r.name)) (lighter_test s u t (omega (arith, small, same)) (omega (arith, less, same, made)))))
-own_passes s n w (AndTest r) small less =
+    ap (λ t. is_some (written e s t)) r.shape ∙ in_older e s t (older_consequent s t (both_true (same_tree (identifier r.name) (identifier r.name)) (branches.is_lighter s u t) (tree_itself (identifier r.name)) (lighter_test s u t (omega (arith, small, same)) (omega (arith, less, same, made)))))
+own_passes e s n w (AndTest r) small less =
     let t : Tree = conditional (identifier r.name) r.b (identifier r.name) in
     let u : Tree = logical And (identifier r.name) r.b in
     let same = ap (weight (Expr s)) r.shape in
     let made = ap (weight (Expr s)) r.written in
-    ap (λ t. is_some (written s t)) r.shape ∙ in_branches s t (by_alternate s t (both_true (same_tree (identifier r.name) (identifier r.name)) (branches.is_lighter s u t) (tree_itself (identifier r.name)) (lighter_test s u t (omega (arith, small, same)) (omega (arith, less, same, made)))))
+    ap (λ t. is_some (written e s t)) r.shape ∙ in_older e s t (older_alternate s t (both_true (same_tree (identifier r.name) (identifier r.name)) (branches.is_lighter s u t) (tree_itself (identifier r.name)) (lighter_test s u t (omega (arith, small, same)) (omega (arith, less, same, made)))))
 
-passes : (s : Seat) (n w : Tree) → ChoiceRow (Expr s) n w → weight (Expr s) n < 2 ^ 64 → weight (Expr s) w < weight (Expr s) n → is_some (written s n) ≡ true
-passes s n w (Shorter r) small less = sure_passes s n w r
-passes s n w (TestedBranch r) small less = own_passes s n w r small less
-passes s n w (SharedBranch r) small less = held_there s n (held_passes s n w small less r)
-passes s n w (OptionalChain r) small less = chain_there s n (chain_passes s n w r)
-passes s n w (ChainLink r) small less = folded_there s n (folded_passes s n w r)
-passes s n w (ChainEnd r) small less = folded_there s n (end_passes s n w r small less)
-passes s n w (BothSides r) small less = both_there s n w r (both_passes s n w r small less)
-passes s n w (ZeroFirst r) small less = zero_there s n w r (zero_passes s n w r small less)
-passes s n w (ChosenIndexed r) small less =
+passes : (e : ℕ) (s : Seat) (n w : Tree) (r : ChoiceRow (Expr s) n w) → ChoiceIn e (Expr s) n w r → weight (Expr s) n < 2 ^ 64 → weight (Expr s) w < weight (Expr s) n → is_some (written e s n) ≡ true
+passes e s n w (Shorter r) a small less = sure_passes e s n w r a
+passes e s n w (TestedBranch r) a small less = own_passes e s n w r small less
+passes e s n w (SharedBranch r) a small less = held_there e s n (held_passes s n w small less r)
+passes e s n w (OptionalChain r) a small less = chain_there e s n a (chain_passes s n w r)
+passes e s n w (ChainLink r) a small less = folded_there e s n (folded_passes s n w r)
+passes e s n w (ChainEnd r) a small less = folded_there e s n (end_passes s n w r small less)
+passes e s n w (BothSides r) a small less = both_there e s n w r (both_passes s n w r small less)
+passes e s n w (ZeroFirst r) a small less = zero_there e s n w r (zero_passes s n w r small less)
+passes e s n w (ChosenIndexed r) a small less =
     let t : Tree = computed_member (identifier r.name) r.key in
     let u : Tree = conditional r.a (assignment Assign t r.b) (assignment Assign t r.c) in
-    ap (λ t. is_some (written s t)) r.shape ∙ in_branches s u (by_indexed s u (indexed_passes true s n w r))
-passes s n w (JoinedCall r) small less =
+    ap (λ t. is_some (written e s t)) r.shape ∙ in_older e s u (older_indexed s u (indexed_passes true s n w r))
+passes e s n w (JoinedCall r) a small less =
     let t : Tree = conditional r.a (call false r.callee (argument r.is_spread r.p ▸ r.others)) (call false r.callee (argument r.is_spread r.q ▸ r.others)) in
-    ap (λ t. is_some (written s t)) r.shape ∙ in_branches s t (by_called s t (called_passes true n w r))
+    ap (λ t. is_some (written e s t)) r.shape ∙ in_older e s t (older_called s t (called_passes true n w r))
 
 pub unwritten_rests : UnwrittenRests
-unwritten_rests s n e small w c = absurd (cc (sym (passes s n w c.row small c.lighter) ∙ ap is_some e))
+unwritten_rests e s n h small w c = absurd (cc (sym (passes e s n w c.0.row c.1 small c.0.lighter) ∙ ap is_some h))
 
-pub applied : (s : Seat) (t u : Tree) (b : Bool) → u ≡ unwrap_or (written s t) t → b ≡ is_some (written s t) → Applied Gives Rests (Expr s) t u b
-applied s t u b e f = subst (λ v. Applied Gives Rests (Expr s) t v b) (sym e) (subst (Applied Gives Rests (Expr s) t (unwrap_or (written s t) t)) (sym f) (go (written s t) refl))
+pub applied : (o : CompressOptions) (s : Seat) (t u : Tree) (b : Bool) → u ≡ unwrap_or (written o.edition s t) t → b ≡ is_some (written o.edition s t) → Applied (Gives o) (Rests o) (Expr s) t u b
+applied o s t u b e f = subst (λ v. Applied (Gives o) (Rests o) (Expr s) t v b) (sym e) (subst (Applied (Gives o) (Rests o) (Expr s) t (unwrap_or (written o.edition s t) t)) (sym f) (go (written o.edition s t) refl))
   where
-    go : (o : Option Tree) → written s t ≡ o → Applied Gives Rests (Expr s) t (unwrap_or o t) (is_some o)
-    go None h = (refl, unwritten_rests s t h)
-    go (Some w) h = moves_once Gives (Expr s) t w (written_is_row s t w h)
+    go : (made : Option Tree) → written o.edition s t ≡ made → Applied (Gives o) (Rests o) (Expr s) t (unwrap_or made t) (is_some made)
+    go None h = (refl, unwritten_rests o.edition s t h)
+    go (Some w) h = moves_once (Gives o) (Expr s) t w (written_is_row o.edition s t w h)
 
 -- where the first of two rewrites writes something, that is all
 

@@ -1,6 +1,6 @@
 -- A literal 0 is written for the first part of a sequence just where a row says so.
 use borrow.Author.Tests.{ltb-true}
-use Rattle.std.proofs.Common.{◌≡◌, ◌<◌, ◌^◌, arith, true, None, Some, refl, ap, ◌∙◌, inr}
+use Rattle.std.proofs.Common.{◌≡◌, ℕ, ◌<◌, ◌^◌, arith, true, None, Some, refl, ap, ◌∙◌, inr}
 use Rattle.std.specs.Prelude.{is_some}
 use Rattle.std.proofs.lemmas.Bool.{and_parts}
 use Rattle.mini_model.specs.declared.place.Position.TheVariants.{Expr}
@@ -10,7 +10,8 @@ use Rattle.mini_model.specs.Weight.{weight}
 use Rattle.mini_terms.specs.Exact.{by_value}
 use Rattle.mini_terms.specs.Folds.{is_effect_free}
 use Rattle.mini_terms.specs.Parts.{leaves_nothing}
-use Rattle.mini_rows.specs.Choices.{pair, Row21Zero, ChoiceContracts, ZeroFirst}
+use Rattle.mini_rows.specs.Editions.{ChoicesIn}
+use Rattle.mini_rows.specs.Choices.{pair, Row21Zero, ZeroFirst}
 use Rattle.mini_choices.specs.MinimizeConditionalBranches.{is_lighter}
 use Rattle.mini_choices.specs.MinimizeFirstPart as behind
 use Rattle.mini_choices.specs.MinimizeHeldBranches.{is_pair, item}
@@ -31,8 +32,8 @@ zero_falls s n w = tries (Falls (λ s n w. Row21Zero n w) s n) w (behind.is_shor
         let (idle, less) = and_parts (behind.follows_idle n) (is_lighter s (behind.behind_zero n) n) h in
         (idle_row n idle, omega (arith, ltb-true _ _ less))
 
-pub zero_row : (s : Seat) (n w : Tree) → behind.written s n ≡ Some w → ChoiceContracts (Expr s) n w
-zero_row s n w e = let (r, less) = zero_falls s n w e in record { row = ZeroFirst r; lighter = less }
+pub zero_row : (edition : ℕ) (s : Seat) (n w : Tree) → behind.written s n ≡ Some w → ChoicesIn edition (Expr s) n w
+zero_row edition s n w e = let (r, less) = zero_falls s n w e in (record { row = ZeroFirst r; lighter = less }, tt)
 
 pub zero_passes : (s : Seat) (n w : Tree) → Row21Zero n w → weight (Expr s) n < 2 ^ 64 → weight (Expr s) w < weight (Expr s) n → is_some (behind.written s n) ≡ true
 zero_passes s n w r small less =

@@ -1,7 +1,7 @@
 -- What is written for a branch that stands in two places is what a row says, and where nothing is no row makes it lighter.
 use borrow.Author.Tests.{ltb-true}
 use Rattle.std.proofs.Math.Dec.{eqb-suc-zero, eqb-suc-suc}
-use Rattle.std.proofs.Common.{◌≡◌, ◌<◌, ◌^◌, arith, Bool, true, false, Some, None, refl, sym, ap, ◌∙◌, inl, inr, suc}
+use Rattle.std.proofs.Common.{◌≡◌, ℕ, ◌<◌, ◌^◌, arith, Bool, true, false, Some, None, refl, sym, ap, ◌∙◌, inl, inr, suc}
 use Rattle.std.specs.Prelude.{◌&&◌, is_some, nat_eq, if◌then◌else◌}
 use Rattle.std.proofs.lemmas.Bool.{and_parts, false≢true}
 use Rattle.mini_model.specs.declared.operator.LogicalOperator.TheVariants.{Or, And}
@@ -14,7 +14,8 @@ use Rattle.mini_node.specs.Equal.{same_tree}
 use Rattle.mini_node.specs.Kinds.{sequence, is_logical, is_conditional, is_sequence}
 use Rattle.mini_node.specs.Made.{and_is, or_is, conditional_is, sequence_is}
 use Rattle.mini_node.proofs.Equality.{tree_same, tree_itself}
-use Rattle.mini_rows.specs.Choices.{pair, HeldRow, ChoiceContracts, SharedBranch, AndBoth, OrEither, LastAfterOr, LastAfterAnd, AndThenOr, OrThenAnd, Alike}
+use Rattle.mini_rows.specs.Editions.{ChoicesIn}
+use Rattle.mini_rows.specs.Choices.{pair, HeldRow, SharedBranch, AndBoth, OrEither, LastAfterOr, LastAfterAnd, AndThenOr, OrThenAnd, Alike}
 use Rattle.mini_rows.specs.Nesting.{may_join}
 use Rattle.mini_choices.specs.MinimizeConditionalBranches.{is_lighter}
 use Rattle.mini_choices.specs.MinimizeHeldBranches as held
@@ -116,8 +117,8 @@ held_falls s n w e = go (is_conditional n) refl e
     go true h e = chosen_row s n h w e
     go false h e = absurd (cc e)
 
-pub held_row : (s : Seat) (n w : Tree) → held.written s n ≡ Some w → ChoiceContracts (Expr s) n w
-held_row s n w e = let (r, less) = held_falls s n w e in record { row = SharedBranch r; lighter = less }
+pub held_row : (edition : ℕ) (s : Seat) (n w : Tree) → held.written s n ≡ Some w → ChoicesIn edition (Expr s) n w
+held_row edition s n w e = let (r, less) = held_falls s n w e in (record { row = SharedBranch r; lighter = less }, tt)
 
 -- ---- where a row makes it lighter, something is written
 

@@ -1,4 +1,5 @@
 pub mod Trials
+pub mod Since
 pub mod Names
 pub mod FormsAre
 pub mod Spines

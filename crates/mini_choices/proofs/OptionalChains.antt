@@ -15,7 +15,8 @@ use Rattle.mini_node.specs.Kinds.{binary, is_conditional, is_identifier, is_null
 use Rattle.mini_node.specs.Made.{static_member_is, computed_member_is, call_expression_is, identifier_is, conditional_is, binary_is, null_is}
 use Rattle.mini_node.specs.Walks.{next_child, no_rest}
 use Rattle.mini_node.proofs.Equality.{tree_same, tree_itself}
-use Rattle.mini_rows.specs.Choices.{ChoiceContracts, OptionalChain}
+use Rattle.mini_rows.specs.Editions.{ChoicesIn}
+use Rattle.mini_rows.specs.Choices.{OptionalChain}
 use Rattle.mini_terms.specs.Exact.{kept_by_value}
 use Rattle.mini_rows.specs.Chains.{is_closed_shape, is_open_shape, is_word_shape, is_calm, are_calm, Link, a_member, a_computed, a_call, linked, spine, is_calm_link, are_calm_links, chain, if_nullish, Row46Chain}
 use Rattle.mini_rows.proofs.ChainLawful.{chain_row_lighter}
@@ -271,8 +272,8 @@ chain_is_row s n w e =
     tries (Row46Chain s n) w (is_read_last n) (kept_by_value s.guard (chained n (part n 2))) (first_written s n) (last_row s n)
     (tries (Row46Chain s n) w (is_read_first n) (kept_by_value s.guard (chained n (part n 1))) None (first_row s n) (λ e. absurd (cc e))) e
 
-pub chain_row : (s : Seat) (n w : Tree) → written s n ≡ Some w → ChoiceContracts (Expr s) n w
-chain_row s n w e = let r = chain_is_row s n w e in record { row = OptionalChain r; lighter = chain_row_lighter s n w r }
+pub chain_row : (edition : ℕ) → 2020 ≤ edition → (s : Seat) (n w : Tree) → written s n ≡ Some w → ChoicesIn edition (Expr s) n w
+chain_row edition late s n w e = let r = chain_is_row s n w e in (record { row = OptionalChain r; lighter = chain_row_lighter s n w r }, late)
 
 -- ---- and what the row reads is written
 

@@ -1,6 +1,6 @@
 -- 34, `minimize_normal_assignment_to_combined_logical_assignment`: `x = x || b` becomes `x ||= b`,
 -- and so of `&&` and `??`, where x can be written.
-use Rattle.std.specs.Prelude.{Bool, false, ◌&&◌, List, [], ◌∷◌, Option, Some, None, if◌then◌else◌}
+use Rattle.std.specs.Prelude.{ℕ, Bool, false, ◌&&◌, List, [], ◌∷◌, Option, Some, None, if◌then◌else◌}
 use Rattle.mini_model.specs.declared.name.Name.{Name}
 use Rattle.mini_model.specs.declared.name.SymbolId.{SymbolId}
 use Rattle.mini_model.specs.declared.operator.LogicalOperator.{LogicalOperator}
@@ -10,7 +10,7 @@ use Rattle.mini_laws.specs.Value.{Declared, Global, VariableSet}
 use Rattle.mini_node.specs.Children.{part, names_of}
 use Rattle.mini_node.specs.Kinds.{assignment, logical_operator}
 use Rattle.mini_rows.specs.Choices.{deciding}
-use Rattle.mini_rows.specs.Writes.{WriteRow, WriteContracts}
+use Rattle.mini_rows.specs.Editions.{WritesIn}
 use Rattle.mini_tree.specs.declared.options.CompressOptions.{CompressOptions}
 use Rattle.mini_context.specs.Facts.{Facts}
 use Rattle.mini_context.specs.Tables.{mark_at}
@@ -50,13 +50,14 @@ written_by None t = None
 abbrev pub written : VariableSet → Tree → Option Tree
 written W t = written_by (combined_operator W t) t
 
--- over a program the rule makes what a row says of the variables that can be written in it
+-- over a program the rule makes what a row says of the variables that can be written in it, where
+-- the edition has its form
 abbrev pub Gives : CompressOptions → Tree → Position → Tree → Tree → Type 0
-Gives o q = WriteContracts (writable_in q)
+Gives o q = WritesIn o.edition (writable_in q)
 
 -- and rests where no row reads the node
-abbrev pub RestsOver : VariableSet → Position → Tree → Type 0
-RestsOver W p n = (w : Tree) → WriteRow W p n w → ⊥
+abbrev pub RestsOver : ℕ → VariableSet → Position → Tree → Type 0
+RestsOver e W p n = (w : Tree) → WritesIn e W p n w → ⊥
 
-abbrev pub Rests : Tree → Position → Tree → Type 0
-Rests q = RestsOver (writable_in q)
+abbrev pub Rests : CompressOptions → Tree → Position → Tree → Type 0
+Rests o q = RestsOver o.edition (writable_in q)

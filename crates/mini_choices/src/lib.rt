@@ -5,6 +5,7 @@
 
 mod assigning;
 mod calling;
+mod editions;
 mod forms;
 mod joining;
 mod laws;
@@ -30,6 +31,7 @@ pub use rewrites::minimize_assigned_nullish_comparison::minimize_assigned_nullis
 pub use rewrites::minimize_choices::MinimizeChoices;
 pub use rewrites::minimize_conditional_branches::{
     assigned, assigns_either, indexes_either, is_seated, minimize_conditional_branches,
+    minimize_older_branches,
 };
 pub use rewrites::minimize_first_part::{behind_zero, minimize_first_part};
 pub use rewrites::minimize_held_branches::{is_pair, minimize_held_branches};

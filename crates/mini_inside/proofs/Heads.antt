@@ -27,7 +27,7 @@ use Rattle.mini_inside.proofs.Holders.{or_none, no_function, no_switch}
 
 -- 72 of a `let` or a `const` reads the same whatever lets a `var` go, and whatever names are kept
 abbrev closed : Liberties
-closed = without_vars (record { sequences = false; join_vars = false; keep_function_names = true; keep_class_names = true })
+closed = without_vars (record { sequences = false; join_vars = false; keep_function_names = true; keep_class_names = true; edition = 2022 })
 
 -- ---- what is outside of it mentions nothing
 

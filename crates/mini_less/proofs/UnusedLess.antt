@@ -6,6 +6,7 @@ use Rattle.mini_model.specs.declared.place.Position.TheVariants.{Expr, Stmt, Met
 use Rattle.mini_model.specs.Tree.{Tree}
 use Rattle.mini_laws.specs.Value.{VariableSet}
 use Rattle.mini_rows.specs.Catches.{CatchContracts}
+use Rattle.mini_rows.specs.Editions.{CatchesIn, WritesIn}
 use Rattle.mini_rows.specs.Lets.{LetContracts}
 use Rattle.mini_rows.specs.Names.{NameContracts}
 use Rattle.mini_rows.specs.Redex.{Contracts}
@@ -17,7 +18,7 @@ use Rattle.mini_less.specs.Rows.{RewritesReadLess}
 use Rattle.mini_less.specs.Unused.{UnusedReadLess}
 use Rattle.mini_less.proofs.FadedLess.{lets_read_less}
 use Rattle.mini_less.proofs.ForHeadLess.{for_row_less}
-use Rattle.mini_less.proofs.Joined.{reads_less_joins}
+use Rattle.mini_less.proofs.Joined.{reads_less_joins, reads_less_narrows}
 use Rattle.mini_less.proofs.LessRows.{reads_less_by}
 use Rattle.mini_less.proofs.NamesLess.{names_read_less, catches_read_less}
 use Rattle.mini_less.proofs.NextHeads.{for_next_less}
@@ -47,10 +48,10 @@ unused_read_less W = reads_less_by (UnusedContracts W) (λ p n w c. row_less W p
 
 module _ (o : Switches) (W : VariableSet) where
   abbrev Last : Position → Tree → Tree → Type 0
-  Last p n w = WriteContracts W p n w ⊎ LetContracts W p n w
+  Last p n w = WritesIn o.edition W p n w ⊎ LetContracts W p n w
 
   abbrev Caught : Position → Tree → Tree → Type 0
-  Caught p n w = CatchContracts p n w ⊎ Last p n w
+  Caught p n w = CatchesIn o.edition p n w ⊎ Last p n w
 
   abbrev Named : Position → Tree → Tree → Type 0
   Named p n w = NameContracts o p n w ⊎ Caught p n w
@@ -63,5 +64,5 @@ rewrites_read_less o W =
     reads_less_joins (Contracts o) (Lost o W) (rows_read_less o)
     (reads_less_joins (UnusedContracts (liberties o W)) (Named o W) (unused_read_less (liberties o W))
     (reads_less_joins (NameContracts o) (Caught o W) (names_read_less o)
-    (reads_less_joins CatchContracts (Last o W) catches_read_less
-    (reads_less_joins (WriteContracts W) (LetContracts W) (writes_read_less W) (lets_read_less W)))))
+    (reads_less_joins (CatchesIn o.edition) (Last o W) (reads_less_narrows (CatchesIn o.edition) CatchContracts (λ p n w c. c.0) catches_read_less)
+    (reads_less_joins (WritesIn o.edition W) (LetContracts W) (reads_less_narrows (WritesIn o.edition W) (WriteContracts W) (λ p n w c. c.0) (writes_read_less W)) (lets_read_less W)))))

@@ -159,7 +159,7 @@ module _ (o : Switches) (p : Position) (n w : Tree) (lighter : weight p w < weig
   families (AsBranch r) = inr (inr (inr (inr (inr (inr (inr (inr (inr (inr (inr (inr (inr (inr (inr (inr (inr (inr (inl (record { row = r; lighter = lighter })))))))))))))))))))
   families (AsList r) = inr (inr (inr (inr (inr (inr (inr (inr (inr (inr (inr (inr (inr (inr (inr (inr (inr (inr (inr (inl (record { row = r; lighter = lighter }))))))))))))))))))))
   families (AsKey r) = inr (inr (inl (record { row = r; lighter = lighter })))
-  families (AsChoice r) = inr (inr (inr (inl (record { row = r; lighter = lighter }))))
+  families (AsChoice r e) = inr (inr (inr (inl (record { row = r; lighter = lighter }))))
   families (AsDeclaration r) = inr (inr (inr (inr (inr (inr (inr (inr (inr (inr (inr (inr (inr (inr (inr (inr (inr (inr (inr (inr (inl (record { row = r; lighter = lighter })))))))))))))))))))))
   families (AsFolding r) = inr (inr (inr (inr (inl (record { row = r; lighter = lighter })))))
   families (AsTurn r) = inr (inr (inr (inr (inr (inl (record { row = r; lighter = lighter }))))))

@@ -4,6 +4,7 @@ use Rattle.mini_model.specs.declared.place.Position.{Position}
 use Rattle.mini_model.specs.Tree.{Tree}
 use Rattle.mini_kept.specs.Without.{BodySets}
 use Rattle.mini_shrink.specs.Facts.{ReadsLess}
+use Rattle.mini_rows.specs.Editions.{SteadyRowsIn}
 use Rattle.mini_rows.specs.Inside.{InsideContracts}
 use Rattle.mini_rows.specs.OwnArrows.{OwnCode}
 use Rattle.mini_rows.specs.OwnParts.{OwnPart}
@@ -14,7 +15,7 @@ use Rattle.mini_rows.specs.PastBlocks.{PastBlocks}
 use Rattle.mini_rows.specs.PastInside.{PastInside}
 use Rattle.mini_rows.specs.PastModules.{PastModule}
 use Rattle.mini_rows.specs.PastStatics.{PastStatic}
-use Rattle.mini_rows.specs.Steady.{LexicalRows, OwnRows, SteadyRow}
+use Rattle.mini_rows.specs.Steady.{LexicalRows, OwnRows}
 use Rattle.mini_rows.specs.Switches.{Liberties}
 
 -- what one relation writes or another
@@ -35,7 +36,7 @@ InsideCode S W = Either (InsideContracts W) (PastInside S W)
 
 -- all of them
 abbrev pub SteadyRewrites : BodySets → Liberties → Position → Tree → Tree → Type 0
-SteadyRewrites S W = Either (Either (AnyCode SteadyRow S) (AnyCode LexicalRows S)) (Either (PastCode S W) (InsideCode S W))
+SteadyRewrites S W = Either (Either (AnyCode (SteadyRowsIn W.switches.edition) S) (AnyCode LexicalRows S)) (Either (PastCode S W) (InsideCode S W))
 
 abbrev pub SteadyRewritesReadLess : Type 0
 SteadyRewritesReadLess = (S : BodySets) (W : Liberties) → ReadsLess (SteadyRewrites S W)

@@ -15,13 +15,15 @@ use Rattle.mini_rows.specs.Branches.{BranchRow}
 use Rattle.mini_rows.specs.Choices.{ChoiceRow, Shorter, TestedBranch, SharedBranch, BothSides, Rotated, OrTest, AndTest, AndBoth, OrEither, Alike}
 use Rattle.mini_rows.specs.Constants.{ConstantRow}
 use Rattle.mini_rows.specs.Declarations.{DeclarationRow}
+use Rattle.mini_rows.specs.Editions.{HasEach}
+use Rattle.mini_rows.proofs.Latest.{latest_has_each}
 use Rattle.mini_rows.specs.Folding.{FoldingRow}
 use Rattle.mini_rows.specs.Lists.{ListRow}
 use Rattle.mini_rows.specs.Negations.{NegationRow}
 use Rattle.mini_rows.specs.Operands.{OperandRow, EmptyText}
 use Rattle.mini_rows.specs.Redex.{Row, Rewrites, AsTest, AsSpelling, AsBranch, AsList, AsChoice, AsDeclaration, AsFolding, AsTurn, AsConstant, AsOperand, AsNegation}
 use Rattle.mini_rows.specs.Spellings.{SpellingRow, ShortBoolean, DottedMember, DottedTarget, DottedUpdate, LooseLeft, LooseRight, SwappedEquality, BareYield, OrderedTypeof, PlainTemplate, ComparedWithVoid}
-use Rattle.mini_rows.specs.Switches.{Switches}
+use Rattle.mini_rows.specs.Switches.{Switches, of_every_edition}
 use Rattle.mini_rows.specs.Turns.{TurnRow}
 use Rattle.mini_rows.specs.Writes.{WriteRow}
 use Rattle.mini_log.specs.declared.row.LogRow.{LogRow}
@@ -126,22 +128,25 @@ module _ (o : Switches) (W : VariableSet) where
       let (row, less) = is_lighter (Known o W p t) p t (forms o.sequences W r p t q) (rows_of r p t q) w e in
       record { row = row; lighter = less }
 
-  pub rewrites : (p : Position) (n w : Tree) → Known o W p n w → weight p w < weight p n → Rewrites o W p n w
+  pub rewrites : (p : Position) (n w : Tree) → Known o W p n w → weight p w < weight p n → Rewrites (of_every_edition o) W p n w
   rewrites p n w k l = go k
     where
-      by : Row o p n w → Rewrites o W p n w
+      latest : HasEach 2022
+      latest = latest_has_each 2022 (omega arith)
+
+      by : Row (of_every_edition o) p n w → Rewrites (of_every_edition o) W p n w
       by r = inl (record { row = r; lighter = l })
 
-      go : Known o W p n w → Rewrites o W p n w
+      go : Known o W p n w → Rewrites (of_every_edition o) W p n w
       go (of_first r) = by (AsTest r)
       go (of_spellings r) = by (AsSpelling r)
       go (of_branches r) = by (AsBranch r)
       go (of_lists r) = by (AsList r)
-      go (of_choices r) = by (AsChoice r)
+      go (of_choices r) = by (AsChoice r (latest.choices p n w r))
       go (of_declarations r) = by (AsDeclaration r)
       go (of_foldings r) = by (AsFolding r)
       go (of_turns r) = by (AsTurn r)
       go (of_constants r) = by (AsConstant r)
       go (of_operands r) = by (AsOperand r)
       go (of_negations r) = by (AsNegation r)
-      go (of_writes r) = inr (inr (inr (inr (inl (record { row = r; lighter = l })))))
+      go (of_writes r) = inr (inr (inr (inr (inl (record { row = r; lighter = l }, latest.writes W p n w r)))))

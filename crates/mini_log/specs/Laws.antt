@@ -8,15 +8,15 @@ use Rattle.mini_model.specs.Weight.{weight}
 use Rattle.mini_accept.specs.WellShaped.{IsWellShaped}
 use Rattle.mini_laws.specs.Value.{VariableSet}
 use Rattle.mini_kept.specs.Loosely.{ProgramIsKeptLoosely}
-use Rattle.mini_rows.specs.Switches.{Switches, let_go}
+use Rattle.mini_rows.specs.Switches.{Switches, let_go, of_every_edition}
 use Rattle.mini_rows.specs.Redex.{Rewrites}
 use Rattle.mini_log.specs.declared.row.LogRow.{LogRow}
 use Rattle.mini_log.specs.RowStep.{Entry, row_step, replayed}
 
 -- a row's step at a path is a step by a row of the rewrites, at that place or at the list or the
--- statement around it
+-- statement around it: of those of every edition, since a log may write `x ||= b`
 abbrev pub RowStepIsAStep : Type 0
-RowStepIsAStep = (o : Switches) (W : VariableSet) (r : LogRow) (t : Tree) (q : Path) (u : Tree) → row_step o.sequences W r t q ≡ Some u → Step (Rewrites o W) Elsewhere t u
+RowStepIsAStep = (o : Switches) (W : VariableSet) (r : LogRow) (t : Tree) (q : Path) (u : Tree) → row_step o.sequences W r t q ≡ Some u → Step (Rewrites (of_every_edition o) W) Elsewhere t u
 
 -- it makes the program lighter
 abbrev pub RowStepLightens : Type 0
@@ -24,7 +24,7 @@ RowStepLightens = (o : Switches) (W : VariableSet) (r : LogRow) (t : Tree) (q : 
 
 -- so a log whose entries all have a step is a way of steps
 abbrev pub LogIsAWay : Type 0
-LogIsAWay = (o : Switches) (W : VariableSet) (t u : Tree) (log : List Entry) → replayed o.sequences W t log ≡ Some u → Reaches (Rewrites o W) Elsewhere t u
+LogIsAWay = (o : Switches) (W : VariableSet) (t u : Tree) (log : List Entry) → replayed o.sequences W t log ≡ Some u → Reaches (Rewrites (of_every_edition o) W) Elsewhere t u
 
 -- and the last program keeps all that the first one has to keep, where the variables W can be
 -- written: it is well shaped and resolved, each of its bodies is the same as the first one's of its

@@ -9,8 +9,33 @@ use Rattle.mini_laws.specs.Value.{VariableSet}
 use Rattle.mini_log.specs.declared.row.LogRow.{LogRow}
 use Rattle.mini_log.specs.declared.row.LogRow.TheVariants as row
 use Rattle.mini_log.specs.RowStep.{row_number, row_numbered}
-use Rattle.mini_replay.proofs.Entries.{numbered}
 use Rattle.mini_logged.specs.Offers.{AnyOffered, NoneBefore, OfferedHere, made_here}
+
+numbered : (r : LogRow) → row_numbered (row_number r) ≡ Some r
+numbered row.Row1 = refl
+numbered row.Row3 = refl
+numbered row.Row7 = refl
+numbered row.Row12 = refl
+numbered row.Row13 = refl
+numbered row.Row15 = refl
+numbered row.Row19 = refl
+numbered row.Row23 = refl
+numbered row.Row33 = refl
+numbered row.Row34 = refl
+numbered row.Row39 = refl
+numbered row.Row40 = refl
+numbered row.Row41 = refl
+numbered row.Row42 = refl
+numbered row.Row49 = refl
+numbered row.Row54 = refl
+numbered row.Row55 = refl
+numbered row.Row58 = refl
+numbered row.Row60 = refl
+numbered row.Row61 = refl
+numbered row.Row65 = refl
+numbered row.Row66 = refl
+numbered row.Row79 = refl
+numbered row.Row82 = refl
 
 number_below : (r : LogRow) → row_number r < 83
 number_below row.Row1 = omega arith

@@ -28,6 +28,7 @@ use Rattle.mini_logic.proofs.Joined as logic
 use Rattle.mini_syntax.specs.SubstituteReturnStatement as returns
 use Rattle.mini_switch.specs.MinimizeSwitchStatements as switch
 use Rattle.mini_rows.proofs.InsideLawful.{inside_loose}
+use Rattle.mini_rows.specs.Editions.{SteadyRowsIn}
 use Rattle.mini_rows.specs.Inside.{InsideContracts}
 use Rattle.mini_rows.specs.Past.{PastFunction}
 use Rattle.mini_rows.specs.PastArrows.{PastArrow}
@@ -35,7 +36,7 @@ use Rattle.mini_rows.specs.PastBlocks.{PastBlocks}
 use Rattle.mini_rows.specs.PastInside.{PastInside}
 use Rattle.mini_rows.specs.PastModules.{PastModule}
 use Rattle.mini_rows.specs.PastStatics.{PastStatic}
-use Rattle.mini_rows.specs.Steady.{SteadyRow, LexicalRows}
+use Rattle.mini_rows.specs.Steady.{LexicalRows}
 use Rattle.mini_steady.specs.Told.{told_in}
 use Rattle.mini_shrink.specs.Exact.{exactly_of}
 use Rattle.mini_less.proofs.UnusedLess.{rewrites_read_less}
@@ -47,7 +48,7 @@ use Rattle.mini_peephole.specs.AnyPasses.{LawfulFor, KnownStays}
 use Rattle.mini_peephole.specs.Faithful.{switches, IsRewritten}
 use Rattle.mini_peephole.specs.SteadyRows.{AnyCode, PastCode, InsideCode, SteadyRewrites}
 use Rattle.mini_peephole.specs.Rules.{Gives, Rests, LooseGives, LooseRests, SteadyGives, SteadyRests, AllGives, AllRests}
-use Rattle.mini_peephole.proofs.CodeLawful.{steady_code, lexical_code, block_code}
+use Rattle.mini_peephole.proofs.CodeLawful.{steady_rows_code, lexical_code, block_code}
 use Rattle.mini_peephole.proofs.Everywhere.{everywhere_with}
 use Rattle.mini_peephole.proofs.Known.{less_is_known}
 use Rattle.mini_peephole.proofs.SteadyKnown.{known_join, known_narrowed, steady_known}
@@ -97,7 +98,7 @@ module _ (o : CompressOptions) (q : Tree) where
   gives_contract p t u (inr (inr (inr (inl c)))) = record { row = AsSpelling c.row; lighter = c.lighter }
   gives_contract p t u (inr (inr (inr (inr (inl c))))) = record { row = AsList c.row; lighter = c.lighter }
   gives_contract p t u (inr (inr (inr (inr (inr (inl c)))))) = record { row = AsKey c.row; lighter = c.lighter }
-  gives_contract p t u (inr (inr (inr (inr (inr (inr (inl c))))))) = record { row = AsChoice c.row; lighter = c.lighter }
+  gives_contract p t u (inr (inr (inr (inr (inr (inr (inl c))))))) = record { row = AsChoice c.0.row c.1; lighter = c.0.lighter }
   gives_contract p t u (inr (inr (inr (inr (inr (inr (inr (inl c)))))))) = record { row = AsDeclaration c.row; lighter = c.lighter }
   gives_contract p t u (inr (inr (inr (inr (inr (inr (inr (inr (inl c))))))))) = record { row = AsFolding c.row; lighter = c.lighter }
   gives_contract p t u (inr (inr (inr (inr (inr (inr (inr (inr (inr (inl c)))))))))) = record { row = AsArrow c.row; lighter = c.lighter }
@@ -146,7 +147,7 @@ module _ (o : CompressOptions) (q : Tree) where
   settled p t u small r (AsBranch row) less = branch_settled p t u small r row less
   settled p t u small r (AsList row) less = r.1.1.1.1.0 u row
   settled p t u small r (AsKey row) less = r.1.1.1.1.1.0 u row
-  settled p t u small r (AsChoice row) less = r.1.1.1.1.1.1.0 small u (record { row = row; lighter = less })
+  settled p t u small r (AsChoice row e) less = r.1.1.1.1.1.1.0 small u (record { row = row; lighter = less }, e)
   settled p t u small r (AsDeclaration row) less = r.1.1.1.1.1.1.1.0 u row
   settled p t u small r (AsFolding row) less = r.1.1.1.1.1.1.1.1.0 u row
   settled p t u small r (AsTurn row) less = turn_settled p t u small r row less
@@ -165,8 +166,8 @@ module _ (o : CompressOptions) (q : Tree) where
   loose_settled p t u small r (inl c) = settled p t u small r.0 c.row c.lighter
   loose_settled p t u small r (inr (inl c)) = r.1.0 u c.row
   loose_settled p t u small r (inr (inr (inl c))) = r.1.1.0 u c.row
-  loose_settled p t u small r (inr (inr (inr (inl c)))) = r.1.1.1.0 u c.row
-  loose_settled p t u small r (inr (inr (inr (inr (inl c))))) = r.1.1.1.1.0 u c.row
+  loose_settled p t u small r (inr (inr (inr (inl c)))) = r.1.1.1.0 u c
+  loose_settled p t u small r (inr (inr (inr (inr (inl c))))) = r.1.1.1.1.0 u c
   loose_settled p t u small r (inr (inr (inr (inr (inr c))))) = r.1.1.1.1.1 u c.row
 
   rests_settle : (p : Position) (t : Tree) → weight p t < 2 ^ 64 → LooseRests o q p t → IsSettled (switches o) (writable_in q) p t
@@ -188,7 +189,8 @@ steady_lawful K L S =
     let Past = Either (PastFunction S L) (PastArrow S L) in
     let Others = Either (PastModule S L) (PastStatic S L) in
     let Blocks = AnyCode (PastBlocks L.switches) S in
-    rooted_join (Either (AnyCode SteadyRow S) (AnyCode LexicalRows S)) (Either (PastCode S L) (InsideCode S L)) K W S (rooted_join (AnyCode SteadyRow S) (AnyCode LexicalRows S) K W S (steady_code K W S) (lexical_code K W S))
+    let Members = AnyCode (SteadyRowsIn L.switches.edition) S in
+    rooted_join (Either Members (AnyCode LexicalRows S)) (Either (PastCode S L) (InsideCode S L)) K W S (rooted_join Members (AnyCode LexicalRows S) K W S (steady_rows_code K W S L.switches.edition) (lexical_code K W S))
     (rooted_join (PastCode S L) (InsideCode S L) K W S
     (rooted_join (Either Past Others) Blocks K W S
     (rooted_join Past Others K W S (steady_is_rooted Past K W S (past_code_lawful K L S)) (rooted_join (PastModule S L) (PastStatic S L) K W S (past_modules_are_lawful K L S) (past_statics_are_lawful K L S)))

@@ -11,6 +11,7 @@ use Rattle.mini_kept.specs.Without.{BodySets, none_steady}
 use Rattle.mini_kept.proofs.Loosely.{loose_is_steady}
 use Rattle.mini_kept.proofs.Rooted.{step_either, step_on}
 use Rattle.mini_tree.specs.Rule.{Either}
+use Rattle.mini_rows.specs.Editions.{SteadyRowsIn}
 use Rattle.mini_rows.specs.Inside.{InsideContracts}
 use Rattle.mini_rows.specs.PastInside.{PastInside}
 use Rattle.mini_rows.specs.PastModules.{PastModule}
@@ -35,7 +36,7 @@ use Rattle.mini_less.proofs.PastBlocksLess.{blocks_shapes, block_rows_read_less}
 use Rattle.mini_less.proofs.PastLess.{past_read_less}
 use Rattle.mini_peephole.specs.AnyPasses.{KeepsKnown}
 use Rattle.mini_peephole.specs.SteadyRows.{AnyCode, PastCode, InsideCode, SteadyRewrites}
-use Rattle.mini_peephole.proofs.CodeLawful.{steady_code, lexical_code, block_code}
+use Rattle.mini_peephole.proofs.CodeLawful.{in_edition, steady_code, lexical_code, block_code}
 use Rattle.mini_peephole.proofs.Known.{known_by_less, less_is_known}
 use Rattle.mini_peephole.proofs.Own.{code_known, steady_shapes, lexical_shapes, block_places}
 use Rattle.mini_peephole.proofs.Placing.{places_join, shapes_join, places_narrowed, shapes_narrowed}
@@ -57,9 +58,13 @@ module _ (K : Shape → Bool) (S : BodySets) (L : Liberties) where
 
   -- ---- in the own code of whatever has a body
 
-  own_known : KeepsKnown exactly_of (Either (AnyCode SteadyRow S) (AnyCode LexicalRows S))
+  -- those of members, where the edition has them
+  abbrev Members : Position → Tree → Tree → Type 0
+  Members = AnyCode (SteadyRowsIn L.switches.edition) S
+
+  own_known : KeepsKnown exactly_of (Either Members (AnyCode LexicalRows S))
   own_known =
-      known_join (AnyCode SteadyRow S) (AnyCode LexicalRows S) (code_known SteadyRow S K W (steady_code K W S) steady_places steady_shapes steady_rows_read_less)
+      known_join Members (AnyCode LexicalRows S) (known_narrowed Members (AnyCode SteadyRow S) (in_edition L.switches.edition S) (code_known SteadyRow S K W (steady_code K W S) steady_places steady_shapes steady_rows_read_less))
       (code_known LexicalRows S K W (lexical_code K W S) lexical_places lexical_shapes lexical_names_read_less)
 
   -- ---- of names that are read past others
@@ -124,4 +129,4 @@ module _ (K : Shape → Bool) (S : BodySets) (L : Liberties) where
   -- ---- all that rest on what is known of bodies
 
   pub steady_known : KeepsKnown exactly_of (SteadyRewrites S L)
-  steady_known = known_join (Either (AnyCode SteadyRow S) (AnyCode LexicalRows S)) (Either (PastCode S L) (InsideCode S L)) own_known (known_join (PastCode S L) (InsideCode S L) past_known inside_known)
+  steady_known = known_join (Either Members (AnyCode LexicalRows S)) (Either (PastCode S L) (InsideCode S L)) own_known (known_join (PastCode S L) (InsideCode S L) past_known inside_known)

@@ -91,7 +91,7 @@ pass_bound o = max o.passes 1
 
 -- which rewrites the options let happen
 abbrev pub switches : CompressOptions → Switches
-switches o = record { sequences = o.sequences; join_vars = o.join_vars; keep_function_names = o.keep_names.function; keep_class_names = o.keep_names.class }
+switches o = record { sequences = o.sequences; join_vars = o.join_vars; keep_function_names = o.keep_names.function; keep_class_names = o.keep_names.class; edition = o.edition }
 
 -- what is said of the two trees, where S is known of the bodies of the later one, and Rests says of
 -- it that nothing is left to do

@@ -24,7 +24,6 @@ use Rattle.mini_syntax.specs.SubstituteReturnStatement as returns
 use Rattle.mini_switch.specs.MinimizeSwitchStatements as switches
 use Rattle.mini_syntax.specs.SubstituteVariableDeclaration as declarations
 use Rattle.mini_rows.specs.Declarations.{DeclarationContracts}
-use Rattle.mini_rows.specs.Catches.{CatchContracts}
 use Rattle.mini_stmt.specs.MinimizeStatements as lists
 use Rattle.mini_stmt.specs.TurnLoopGuards as loop_guards
 use Rattle.mini_stmt.specs.JoinLets as lets
@@ -37,17 +36,17 @@ use Rattle.mini_peephole.specs.SteadyRows.{SteadyRewrites, IsSteadilySettled}
 
 -- of those that keep each name
 abbrev pub Gives : CompressOptions → Tree → Position → Tree → Tree → Type 0
-Gives o q = Either logic.Gives (Either bodies.Gives (Either returns.Gives (Either spellings.Gives (Either (lists.Gives o q) (Either keys.Gives (Either choices.Gives (Either DeclarationContracts (Either folding.Gives (Either arrows.Gives (Either constants.Gives (Either held.Gives (Either booleans.Gives (Either de_morgan.Gives (Either sequences.Gives (Either operands.Gives (Either negation.Gives (Either templates.Gives (Either switches.Gives (loop_guards.GivesLoops o q)))))))))))))))))))
+Gives o q = Either logic.Gives (Either bodies.Gives (Either returns.Gives (Either spellings.Gives (Either (lists.Gives o q) (Either keys.Gives (Either (choices.Gives o) (Either DeclarationContracts (Either folding.Gives (Either arrows.Gives (Either constants.Gives (Either held.Gives (Either booleans.Gives (Either de_morgan.Gives (Either sequences.Gives (Either operands.Gives (Either negation.Gives (Either templates.Gives (Either switches.Gives (loop_guards.GivesLoops o q)))))))))))))))))))
 
 abbrev pub Rests : CompressOptions → Tree → Position → Tree → Type 0
-Rests o q = Both logic.Rests (Both bodies.Rests (Both returns.Rests (Both spellings.Rests (Both (lists.RestsUnder o q) (Both keys.Rests (Both choices.Rests (Both declarations.Rests (Both folding.Rests (Both arrows.Rests (Both constants.Rests (Both held.Rests (Both booleans.Rests (Both de_morgan.Rests (Both sequences.Rests (Both operands.Rests (Both negation.Rests (Both templates.Rests (Both switches.Rests (loop_guards.LoopsRest o q)))))))))))))))))))
+Rests o q = Both logic.Rests (Both bodies.Rests (Both returns.Rests (Both spellings.Rests (Both (lists.RestsUnder o q) (Both keys.Rests (Both (choices.Rests o) (Both declarations.Rests (Both folding.Rests (Both arrows.Rests (Both constants.Rests (Both held.Rests (Both booleans.Rests (Both de_morgan.Rests (Both sequences.Rests (Both operands.Rests (Both negation.Rests (Both templates.Rests (Both switches.Rests (loop_guards.LoopsRest o q)))))))))))))))))))
 
 -- and of those besides that drop names that nothing mentions, or write names that can be written
 abbrev pub LooseGives : CompressOptions → Tree → Position → Tree → Tree → Type 0
-LooseGives o q = Either (Gives o q) (Either (unused.Gives o q) (Either (names.Gives o q) (Either CatchContracts (Either (writes.Gives o q) (lets.Gives o q)))))
+LooseGives o q = Either (Gives o q) (Either (unused.Gives o q) (Either (names.Gives o q) (Either (catches.Gives o) (Either (writes.Gives o q) (lets.Gives o q)))))
 
 abbrev pub LooseRests : CompressOptions → Tree → Position → Tree → Type 0
-LooseRests o q = Both (Rests o q) (Both (unused.Rests o q) (Both (names.RestsUnder o q) (Both catches.Rests (Both (writes.Rests q) (lets.Rests q)))))
+LooseRests o q = Both (Rests o q) (Both (unused.Rests o q) (Both (names.RestsUnder o q) (Both (catches.RestsUnder o) (Both (writes.Rests o q) (lets.Rests q)))))
 
 -- of those that rest on what is known of the bodies of the program
 abbrev pub SteadyGives : CompressOptions → Tree → Position → Tree → Tree → Type 0

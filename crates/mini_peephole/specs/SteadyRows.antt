@@ -9,6 +9,7 @@ use Rattle.mini_model.specs.declared.place.Position.TheVariants.{Elsewhere}
 use Rattle.mini_model.specs.Tree.{Tree}
 use Rattle.mini_model.specs.Rewriting.{Everywhere}
 use Rattle.mini_kept.specs.Without.{BodySets}
+use Rattle.mini_rows.specs.Editions.{SteadyRowsIn}
 use Rattle.mini_rows.specs.Inside.{InsideContracts}
 use Rattle.mini_rows.specs.OwnArrows.{OwnCode}
 use Rattle.mini_rows.specs.OwnParts.{OwnPart}
@@ -19,7 +20,7 @@ use Rattle.mini_rows.specs.PastBlocks.{PastBlocks}
 use Rattle.mini_rows.specs.PastInside.{PastInside}
 use Rattle.mini_rows.specs.PastModules.{PastModule}
 use Rattle.mini_rows.specs.PastStatics.{PastStatic}
-use Rattle.mini_rows.specs.Steady.{OwnRows, SteadyRow, LexicalRows}
+use Rattle.mini_rows.specs.Steady.{OwnRows, LexicalRows}
 use Rattle.mini_rows.specs.Switches.{Liberties}
 use Rattle.mini_tree.specs.declared.options.CompressOptions.{CompressOptions}
 use Rattle.mini_tree.specs.Rule.{Either, Both}
@@ -46,7 +47,7 @@ abbrev pub InsideCode : BodySets → Liberties → Position → Tree → Tree �
 InsideCode S W = Either (InsideContracts W) (PastInside S W)
 
 abbrev pub SteadyRewrites : BodySets → Liberties → Position → Tree → Tree → Type 0
-SteadyRewrites S W = Either (Either (AnyCode SteadyRow S) (AnyCode LexicalRows S)) (Either (PastCode S W) (InsideCode S W))
+SteadyRewrites S W = Either (Either (AnyCode (SteadyRowsIn W.switches.edition) S) (AnyCode LexicalRows S)) (Either (PastCode S W) (InsideCode S W))
 
 -- none of a family reads the own code of it
 abbrev pub CodeRests : OwnRows → BodySets → Position → Tree → Type 0
@@ -58,7 +59,7 @@ PastRests S W = Both (Both (Both (RestsPast S W) (RestsPastArrow S W)) (Both (Re
 
 -- none reads a node in its place
 abbrev pub IsSteadilySettled : BodySets → Liberties → Position → Tree → Type 0
-IsSteadilySettled S W = Both (Both (CodeRests SteadyRow S) (CodeRests LexicalRows S)) (Both (PastRests S W) (Both (RestsInside W) (RestsPastInside S W)))
+IsSteadilySettled S W = Both (Both (CodeRests (SteadyRowsIn W.switches.edition) S) (CodeRests LexicalRows S)) (Both (PastRests S W) (Both (RestsInside W) (RestsPastInside S W)))
 
 -- and nowhere in a program, by what a look at it tells of its bodies and of what can be written in
 -- it, and by the options

@@ -1,4 +1,4 @@
--- A unresolved tree without a fault: no node of it has a cause.
+-- A tree without a fault: no node of it has a cause.
 use Rattle.std.proofs.Common.{◌≡◌, ℕ, ◌+◌, Bool, true, false, ◌&&◌, List, [], ◌∷◌, ◌++◌, refl, sym, ap, ◌∙◌}
 use Rattle.std.specs.Prelude.{Option, Some, None, map, if◌then◌else◌}
 use Rattle.std.proofs.lemmas.Bool.{false≢true}
@@ -8,7 +8,6 @@ use Rattle.mini_model.specs.declared.shape.Shape.{Shape}
 use Rattle.mini_model.specs.Tree.{Tree, Trees, node, none, ◌▸◌}
 use Rattle.mini_model.specs.Paths.{Standing, Node, Holder, Missing, standing, by_standing, width}
 use Rattle.mini_print.specs.Unprintable.{Cause, Reserved, BadText, Fault, below, faults_by, faults_inside, faults_among, faults_at, first_fault, has_label, has_text, is_reserved_name, cause_of, head}
-use Rattle.mini_printable.specs.Unresolved.{carries_no_name, is_unresolved, are_unresolved}
 
 -- ---- tests
 
@@ -31,7 +30,7 @@ has_no_cause (Some c) = false
 
 abbrev mutual
   pub is_clean : Bool → Tree → Bool
-  is_clean l (node h xs n ts) = by_standing (standing h) (has_no_cause (cause_of l h xs ts) && (carries_no_name h xs && are_clean (has_label h) ts)) (are_clean false ts) true
+  is_clean l (node h xs n ts) = by_standing (standing h) (has_no_cause (cause_of l h xs ts) && are_clean (has_label h) ts) (are_clean false ts) true
 
   pub are_clean : Bool → Trees → Bool
   are_clean l none = true
@@ -47,16 +46,15 @@ as_node : (k : Standing) (a b : Bool) → k ≡ Node → by_standing k a b true 
 as_node k a b e d = sym (ap (λ s. by_standing s a b true) e) ∙ d
 
 abbrev pub Clean : Bool → Shape → List Name → Trees → Type 0
-Clean l h xs ts = (is_reserved_name l h xs ≡ false) × (has_text h ts ≡ true) × (carries_no_name h xs ≡ true) × (are_clean (has_label h) ts ≡ true)
+Clean l h xs ts = (is_reserved_name l h xs ≡ false) × (has_text h ts ≡ true) × (are_clean (has_label h) ts ≡ true)
 
 pub clean_node : (l : Bool) (h : Shape) (xs : List Name) (n : ℕ) (ts : Trees) → standing h ≡ Node → is_clean l (node h xs n ts) ≡ true → Clean l h xs ts
 clean_node l h xs n ts e k =
-    let c = as_node (standing h) (has_no_cause (cause_of l h xs ts) && (carries_no_name h xs && are_clean (has_label h) ts)) (are_clean false ts) e k in
-    let a = causeless (is_reserved_name l h xs) (has_text h ts) (and_l (has_no_cause (cause_of l h xs ts)) (carries_no_name h xs && are_clean (has_label h) ts) c) in
-    let b = and_r (has_no_cause (cause_of l h xs ts)) (carries_no_name h xs && are_clean (has_label h) ts) c in
-    (a.0, a.1, and_l (carries_no_name h xs) (are_clean (has_label h) ts) b, and_r (carries_no_name h xs) (are_clean (has_label h) ts) b)
+    let c = as_node (standing h) (has_no_cause (cause_of l h xs ts) && are_clean (has_label h) ts) (are_clean false ts) e k in
+    let a = causeless (is_reserved_name l h xs) (has_text h ts) (and_l (has_no_cause (cause_of l h xs ts)) (are_clean (has_label h) ts) c) in
+    (a.0, a.1, and_r (has_no_cause (cause_of l h xs ts)) (are_clean (has_label h) ts) c)
 
--- ---- a unresolved tree without a first fault is clean
+-- ---- a tree without a first fault is clean
 
 none_in : (fs gs : List Fault) → head (fs ++ gs) ≡ None → (head fs ≡ None) × (head gs ≡ None)
 none_in [] gs e = (refl, e)
@@ -75,25 +73,23 @@ stood_clean Node fs gs a b x y e = x e
 stood_clean Holder fs gs a b x y e = y e
 stood_clean Missing fs gs a b x y e = refl
 
-at_clean : (o : Option Cause) (fs : List Fault) (a b : Bool) → a ≡ true → (head fs ≡ None → b ≡ true) → head (faults_by o ++ fs) ≡ None → (has_no_cause o && (a && b)) ≡ true
-at_clean o fs a b p k e = let two = none_in (faults_by o) fs e in both (has_no_cause o) (a && b) (own_none o two.0) (both a b p (k two.1))
+at_clean : (o : Option Cause) (fs : List Fault) (b : Bool) → (head fs ≡ None → b ≡ true) → head (faults_by o ++ fs) ≡ None → (has_no_cause o && b) ≡ true
+at_clean o fs b k e = let two = none_in (faults_by o) fs e in both (has_no_cause o) b (own_none o two.0) (k two.1)
 
 mutual
-  inside_clean : (l : Bool) (t : Tree) (i : ℕ) → head (faults_inside l t i) ≡ None → is_unresolved t ≡ true → is_clean l t ≡ true
-  inside_clean l (node h xs n ts) i e q =
-      let plain = and_l (carries_no_name h xs) (are_unresolved ts) q in
-      let others = and_r (carries_no_name h xs) (are_unresolved ts) q in
-      stood_clean (standing h) (map (below i) (faults_at l (node h xs n ts))) (faults_among false ts i) (has_no_cause (cause_of l h xs ts) && (carries_no_name h xs && are_clean (has_label h) ts)) (are_clean false ts)
-      (λ d. at_clean (cause_of l h xs ts) (faults_among (has_label h) ts 0) (carries_no_name h xs) (are_clean (has_label h) ts) plain (λ c. among_clean (has_label h) ts 0 c others) (none_below i (faults_at l (node h xs n ts)) d))
-      (λ d. among_clean false ts i d others) e
+  inside_clean : (l : Bool) (t : Tree) (i : ℕ) → head (faults_inside l t i) ≡ None → is_clean l t ≡ true
+  inside_clean l (node h xs n ts) i e =
+      stood_clean (standing h) (map (below i) (faults_at l (node h xs n ts))) (faults_among false ts i) (has_no_cause (cause_of l h xs ts) && are_clean (has_label h) ts) (are_clean false ts)
+      (λ d. at_clean (cause_of l h xs ts) (faults_among (has_label h) ts 0) (are_clean (has_label h) ts) (λ c. among_clean (has_label h) ts 0 c) (none_below i (faults_at l (node h xs n ts)) d))
+      (λ d. among_clean false ts i d) e
 
-  among_clean : (l : Bool) (ts : Trees) (i : ℕ) → head (faults_among l ts i) ≡ None → are_unresolved ts ≡ true → are_clean l ts ≡ true
-  among_clean l none i e q = refl
-  among_clean l (t ▸ ts) i e q =
+  among_clean : (l : Bool) (ts : Trees) (i : ℕ) → head (faults_among l ts i) ≡ None → are_clean l ts ≡ true
+  among_clean l none i e = refl
+  among_clean l (t ▸ ts) i e =
       let two = none_in (faults_inside l t i) (faults_among l ts (i + width t)) e in
-      both (is_clean l t) (are_clean l ts) (inside_clean l t i two.0 (and_l (is_unresolved t) (are_unresolved ts) q)) (among_clean l ts (i + width t) two.1 (and_r (is_unresolved t) (are_unresolved ts) q))
+      both (is_clean l t) (are_clean l ts) (inside_clean l t i two.0) (among_clean l ts (i + width t) two.1)
 
-pub program_clean : (h : Shape) (xs : List Name) (n : ℕ) (ts : Trees) → standing h ≡ Node → first_fault (node h xs n ts) ≡ None → is_unresolved (node h xs n ts) ≡ true → is_clean false (node h xs n ts) ≡ true
-program_clean h xs n ts p e q =
-    ap (λ s. by_standing s (has_no_cause (cause_of false h xs ts) && (carries_no_name h xs && are_clean (has_label h) ts)) (are_clean false ts) true) p
-    ∙ at_clean (cause_of false h xs ts) (faults_among (has_label h) ts 0) (carries_no_name h xs) (are_clean (has_label h) ts) (and_l (carries_no_name h xs) (are_unresolved ts) q) (λ d. among_clean (has_label h) ts 0 d (and_r (carries_no_name h xs) (are_unresolved ts) q)) e
+pub program_clean : (h : Shape) (xs : List Name) (n : ℕ) (ts : Trees) → standing h ≡ Node → first_fault (node h xs n ts) ≡ None → is_clean false (node h xs n ts) ≡ true
+program_clean h xs n ts p e =
+    ap (λ s. by_standing s (has_no_cause (cause_of false h xs ts) && are_clean (has_label h) ts) (are_clean false ts) true) p
+    ∙ at_clean (cause_of false h xs ts) (faults_among (has_label h) ts 0) (are_clean (has_label h) ts) (λ d. among_clean (has_label h) ts 0 d) e

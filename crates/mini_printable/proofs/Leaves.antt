@@ -196,13 +196,11 @@ bound_property_row strict inside l h xs n ts b e k v = absurd (never (has_names 
 -- ---- declarators, the body of a class
 
 pub declarator_row : Row a_declarator Declared
-declarator_row strict inside l shape.VariableDeclarator [] n ts b e k v = parts ts b inside (pattern ∷ value_or_none ∷ []) false refl e k
-declarator_row strict inside l shape.VariableDeclarator (x ∷ xs) n ts b e k v = absurd (false≢true k)
+declarator_row strict inside l shape.VariableDeclarator xs n ts b e k v = parts ts b inside (pattern ∷ value_or_none ∷ []) false refl e k
 declarator_row strict inside l h xs n ts b e k v = absurd (never (has_names h xs) e)
 
 pub head_declarator_row : Row a_declarator HeadDeclared
-head_declarator_row strict inside l shape.VariableDeclarator [] n ts b e k v = parts ts b inside (pattern ∷ value_or_none ∷ []) false refl e k
-head_declarator_row strict inside l shape.VariableDeclarator (x ∷ xs) n ts b e k v = absurd (false≢true k)
+head_declarator_row strict inside l shape.VariableDeclarator xs n ts b e k v = parts ts b inside (pattern ∷ value_or_none ∷ []) false refl e k
 head_declarator_row strict inside l h xs n ts b e k v = absurd (never (has_names h xs) e)
 
 pub class_body_row : Row a_class_body ClassBraces

@@ -12,3 +12,10 @@ pub mod Modules
 pub mod Served
 pub mod Read
 pub mod Words
+pub mod Tokens
+pub mod Forms
+pub mod Slots
+pub mod Firsts
+pub mod Arranged
+pub mod Voiced
+pub mod Pairs

@@ -37,7 +37,7 @@ method_at strict l (shape.Function false true ds) [] n ts b e k =
             (absent_shown Binding t z (bt.seat inside binding_or_none false refl et kt)) (bu.seat inside parameters false refl eu ku) (bv.body inside ds c.1 ev kv)),
       ),
     ))
-    ts b (filled strict a_method (shape.Function false true ds) [] n ts e) c.3 (whole_parts strict a_method (shape.Function false true ds) [] n ts e)
+    ts b (filled strict a_method (shape.Function false true ds) [] n ts e) c.2 (whole_parts strict a_method (shape.Function false true ds) [] n ts e)
 method_at strict l (shape.Function false false ds) [] n ts b e k =
     let inside = accept.is_strict_in strict (shape.Function false false ds) in
     let c = clean_node l (shape.Function false false ds) [] n ts refl k in
@@ -51,7 +51,7 @@ method_at strict l (shape.Function false false ds) [] n ts b e k =
             (absent_shown Binding t z (bt.seat inside binding_or_none false refl et kt)) (bu.seat inside parameters false refl eu ku) (bv.body inside ds c.1 ev kv)),
       ),
     ))
-    ts b (filled strict a_method (shape.Function false false ds) [] n ts e) c.3 (whole_parts strict a_method (shape.Function false false ds) [] n ts e)
+    ts b (filled strict a_method (shape.Function false false ds) [] n ts e) c.2 (whole_parts strict a_method (shape.Function false false ds) [] n ts e)
 method_at strict l (shape.Function d g ds) (x ∷ xs) n ts b e k = absurd (false≢true e)
 method_at strict l h xs n ts b e k = absurd (never (is_whole a_method h xs n ts) e)
 
@@ -117,18 +117,18 @@ property_row strict inside l (shape.ObjectProperty kind.Get true s c) [] n ts b 
 property_row strict inside l (shape.ObjectProperty kind.Get false true c) [] n ts b e k v = absurd (false≢true v)
 property_row strict inside l (shape.ObjectProperty kind.Get false false false) [] n ts b e k v =
     let c = clean_node l (shape.ObjectProperty kind.Get false false false) [] n ts refl k in
-    over_two inside false (one (a_key false)) (one a_method) (λ us. has_text (shape.ObjectProperty kind.Get false false false) us ≡ true → stands_at Property (node (shape.ObjectProperty kind.Get false false false) [] n (all_shown us)) ≡ true) (λ t u bt bu et eu kt ku w. and_two (is_printable (a_part KeyName) (shown t)) (is_printable (a_part MethodValue) (shown u)) (bt.seat inside key false refl et kt) (plain_method u (shown u) (bu.method inside eu ku) (untrue (generates u) w))) ts b e c.3 c.1
+    over_two inside false (one (a_key false)) (one a_method) (λ us. has_text (shape.ObjectProperty kind.Get false false false) us ≡ true → stands_at Property (node (shape.ObjectProperty kind.Get false false false) [] n (all_shown us)) ≡ true) (λ t u bt bu et eu kt ku w. and_two (is_printable (a_part KeyName) (shown t)) (is_printable (a_part MethodValue) (shown u)) (bt.seat inside key false refl et kt) (plain_method u (shown u) (bu.method inside eu ku) (untrue (generates u) w))) ts b e c.2 c.1
 property_row strict inside l (shape.ObjectProperty kind.Get false false true) [] n ts b e k v =
     let c = clean_node l (shape.ObjectProperty kind.Get false false true) [] n ts refl k in
-    over_two inside false (one (a_key true)) (one a_method) (λ us. has_text (shape.ObjectProperty kind.Get false false true) us ≡ true → stands_at Property (node (shape.ObjectProperty kind.Get false false true) [] n (all_shown us)) ≡ true) (λ t u bt bu et eu kt ku w. and_two (is_printable (a_part Anything) (shown t)) (is_printable (a_part MethodValue) (shown u)) (bt.seat inside computed_key false refl et kt) (plain_method u (shown u) (bu.method inside eu ku) (untrue (generates u) w))) ts b e c.3 c.1
+    over_two inside false (one (a_key true)) (one a_method) (λ us. has_text (shape.ObjectProperty kind.Get false false true) us ≡ true → stands_at Property (node (shape.ObjectProperty kind.Get false false true) [] n (all_shown us)) ≡ true) (λ t u bt bu et eu kt ku w. and_two (is_printable (a_part Anything) (shown t)) (is_printable (a_part MethodValue) (shown u)) (bt.seat inside computed_key false refl et kt) (plain_method u (shown u) (bu.method inside eu ku) (untrue (generates u) w))) ts b e c.2 c.1
 property_row strict inside l (shape.ObjectProperty kind.Set true s c) [] n ts b e k v = absurd (false≢true v)
 property_row strict inside l (shape.ObjectProperty kind.Set false true c) [] n ts b e k v = absurd (false≢true v)
 property_row strict inside l (shape.ObjectProperty kind.Set false false false) [] n ts b e k v =
     let c = clean_node l (shape.ObjectProperty kind.Set false false false) [] n ts refl k in
-    over_two inside false (one (a_key false)) (one a_method) (λ us. has_text (shape.ObjectProperty kind.Set false false false) us ≡ true → stands_at Property (node (shape.ObjectProperty kind.Set false false false) [] n (all_shown us)) ≡ true) (λ t u bt bu et eu kt ku w. and_two (is_printable (a_part KeyName) (shown t)) (is_printable (a_part MethodValue) (shown u)) (bt.seat inside key false refl et kt) (plain_method u (shown u) (bu.method inside eu ku) (untrue (generates u) w))) ts b e c.3 c.1
+    over_two inside false (one (a_key false)) (one a_method) (λ us. has_text (shape.ObjectProperty kind.Set false false false) us ≡ true → stands_at Property (node (shape.ObjectProperty kind.Set false false false) [] n (all_shown us)) ≡ true) (λ t u bt bu et eu kt ku w. and_two (is_printable (a_part KeyName) (shown t)) (is_printable (a_part MethodValue) (shown u)) (bt.seat inside key false refl et kt) (plain_method u (shown u) (bu.method inside eu ku) (untrue (generates u) w))) ts b e c.2 c.1
 property_row strict inside l (shape.ObjectProperty kind.Set false false true) [] n ts b e k v =
     let c = clean_node l (shape.ObjectProperty kind.Set false false true) [] n ts refl k in
-    over_two inside false (one (a_key true)) (one a_method) (λ us. has_text (shape.ObjectProperty kind.Set false false true) us ≡ true → stands_at Property (node (shape.ObjectProperty kind.Set false false true) [] n (all_shown us)) ≡ true) (λ t u bt bu et eu kt ku w. and_two (is_printable (a_part Anything) (shown t)) (is_printable (a_part MethodValue) (shown u)) (bt.seat inside computed_key false refl et kt) (plain_method u (shown u) (bu.method inside eu ku) (untrue (generates u) w))) ts b e c.3 c.1
+    over_two inside false (one (a_key true)) (one a_method) (λ us. has_text (shape.ObjectProperty kind.Set false false true) us ≡ true → stands_at Property (node (shape.ObjectProperty kind.Set false false true) [] n (all_shown us)) ≡ true) (λ t u bt bu et eu kt ku w. and_two (is_printable (a_part Anything) (shown t)) (is_printable (a_part MethodValue) (shown u)) (bt.seat inside computed_key false refl et kt) (plain_method u (shown u) (bu.method inside eu ku) (untrue (generates u) w))) ts b e c.2 c.1
 property_row strict inside l h xs n ts b e k v = absurd (never (has_names h xs) e)
 
 -- ---- what classes have
@@ -235,7 +235,7 @@ static_field n false k u a e = and_one (is_printable (a_part PlainElement) (node
 pub member_row : Row a_class_member ClassElement
 member_row strict inside l (shape.MethodDefinition m c s) [] n ts b e k v =
     let d = clean_node l (shape.MethodDefinition m c s) [] n ts refl k in
-    over_two inside false (one (a_private_or_key c)) (one a_method) (Methodical m c s n) (member_at inside m c s n) ts b e d.3 d.1 v
+    over_two inside false (one (a_private_or_key c)) (one a_method) (Methodical m c s n) (member_at inside m c s n) ts b e d.2 d.1 v
 member_row strict inside l (shape.PropertyDefinition true false) [] n ts b e k v = parts ts b inside (private_computed_key ∷ inner_or_none ∷ []) false refl e k
 member_row strict inside l (shape.PropertyDefinition false false) [] n ts b e k v = parts ts b inside (private_key ∷ inner_or_none ∷ []) false refl e k
 member_row strict inside l (shape.PropertyDefinition c true) [] n ts b e k v =

@@ -320,7 +320,7 @@ default_function inside l true ds n ts b e k =
       part_of DefaultDeclared (node (shape.Function true true []) [] n (shown t ▸ (shown u ▸ (with_directives ds (shown v) ▸ none)))) (and_three (is_printable (a_perhaps Binding) (shown t)) (is_printable (a_list Parameter Zero) (shown u)) (is_printable (a_part Body) (with_directives ds (shown v)))
           (bt.seat inside binding_or_none false refl et kt) (bu.seat inside parameters false refl eu ku) (bv.body inside ds c.1 ev kv)),
     ))
-    ts b e c.3
+    ts b e c.2
 default_function inside l false ds n ts b e k =
     let c = clean_node l (shape.Function true false ds) [] n ts refl k in
     over_three inside false (one_or_absent a_binding) (many_and_rest a_parameter a_pattern_rest) (one a_function_body) (λ us. DefaultOut (seen (shape.Function true false ds) [] n (all_shown us)))
@@ -329,7 +329,7 @@ default_function inside l false ds n ts b e k =
       part_of DefaultDeclared (node (shape.Function true false []) [] n (shown t ▸ (shown u ▸ (with_directives ds (shown v) ▸ none)))) (and_three (is_printable (a_perhaps Binding) (shown t)) (is_printable (a_list Parameter Zero) (shown u)) (is_printable (a_part Body) (with_directives ds (shown v)))
           (bt.seat inside binding_or_none false refl et kt) (bu.seat inside parameters false refl eu ku) (bv.body inside ds c.1 ev kv)),
     ))
-    ts b e c.3
+    ts b e c.2
 
 default_class : (inside : Bool) (n : ℕ) (t u v w : Tree) → fits inside (one_or_absent a_binding) t ≡ true → is_clean false t ≡ true → is_printable (a_perhaps Anything) (shown u) ≡ true → is_printable (a_part ClassBraces) (shown v) ≡ true → fits inside (one_or_absent a_binding) w ≡ true → is_clean false w ≡ true → is_printable (a_perhaps Binding) (shown w) ≡ true → accept.holds_its_name true (t ▸ (u ▸ (v ▸ (w ▸ none)))) ≡ true → stands_at DefaultDeclared (node (shape.Class true) [] n (shown t ▸ (shown u ▸ (shown v ▸ (shown w ▸ none))))) ≡ true
 default_class inside n t u v w et kt eu ev ew kw pw z =
@@ -374,7 +374,7 @@ default_stands n (node h xs m us) (inr a) = subst (λ z. (is_wanted ModuleItem (
 pub module_stands : (strict inside l : Bool) (h : Shape) (n : ℕ) (ts : Trees) → Below ts → accept.fill inside (filling_by (accept.module_slots h)) ts ≡ true → is_clean l (node h [] n ts) ≡ true → accept.has_its_parts an_expression h ts ≡ true → stands_at ModuleItem (seen h [] n (all_shown ts)) ≡ true
 module_stands strict inside l shape.ImportDeclaration n ts b e k v =
     let c = clean_node l shape.ImportDeclaration [] n ts refl k in
-    over_two inside false (many an_import) (one a_string) (λ us. has_text shape.ImportDeclaration us ≡ true → stands_at ModuleItem (seen shape.ImportDeclaration [] n (all_shown us)) ≡ true) (λ t u bt bu et eu kt ku w. import_at inside n t u et kt eu w) ts b e c.3 c.1
+    over_two inside false (many an_import) (one a_string) (λ us. has_text shape.ImportDeclaration us ≡ true → stands_at ModuleItem (seen shape.ImportDeclaration [] n (all_shown us)) ≡ true) (λ t u bt bu et eu kt ku w. import_at inside n t u et kt eu w) ts b e c.2 c.1
 module_stands strict inside l shape.ExportNamedDeclaration n ts b e k v =
     over_three inside false (one_or_absent an_exported_declaration) (many an_export) (one_or_absent a_string) (λ us. accept.is_whole_export us ≡ true → stands_at ModuleItem (node shape.ExportNamedDeclaration [] n (all_shown us)) ≡ true)
     (λ t u w bt bu bw et eu ew kt ku kw z. export_at inside n t u w (bt.exported inside et kt) eu ku ew (bw.seat inside text_or_none false refl ew kw) z) ts b e k v

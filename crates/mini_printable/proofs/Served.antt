@@ -12,7 +12,6 @@ use Rattle.mini_print.specs.Grammar.{Goal, Anything, Statement, ModuleItem, Elem
 use Rattle.mini_print.specs.Unprintable.{first_fault, are_directives, is_directive, are_plain_rests, items_of}
 use Rattle.mini_print.specs.Printed as printed
 use Rattle.mini_print.specs.Printed.{Want, a_part, a_list, a_perhaps, a_block as a_run, a_silent, is_printable, are_printable, is_gap, shown, all_shown, seen, with_directives, directives}
-use Rattle.mini_printable.specs.Unresolved.{is_unresolved}
 use Rattle.mini_printable.proofs.Clean.{and_l, and_r, both, is_clean, are_clean, clean_node, program_clean}
 use Rattle.mini_printable.proofs.Seats.{Seat, value, argument, inner, inner_argument, computed_key, inner_computed_key, private_computed_key, key, inner_key, private_key, name, private_name, label, super_here, property, class_body, binding, pattern, bound_element, element, parameter, pattern_rest, property_rest, bound_property, statement, top_statement, module_statement, block_only, simple_target, target_element, target_property, target_rest, declarator, head_declarator, case, member, text, module_name, tag_template, word, value_or_none, inner_or_none, label_or_none, binding_or_none, pattern_or_none, statement_or_none, block_or_none, catch_or_none, text_or_none, module_name_or_none, arguments, elements, properties, values, inner_arguments, inner_values, declarators, head_declarators, parameters, bound_properties, bound_elements, target_elements, block, top_block, module_block, cases, members, slot_at, want_at, suits, Named, named_class, Served, Below, parts, over_one, over_two, items, items_or_last}
 use Rattle.mini_printable.proofs.Rows.{never, and_two, first_of_two, second_of_two, either, stands_at, part_of, value_stands, perhaps_of, nothing_of, present, Row, by_row, filled, many_case, holes_case, rest_case, holes_rest_case}
@@ -62,7 +61,7 @@ tag_template_row : Row a_tagged_template TagTemplate
 tag_template_row strict inside l shape.TemplateLiteral [] n ts b e k v =
     let d = clean_node l shape.TemplateLiteral [] n ts refl k in
     over_two inside false (quasis tagged) (many (an_inner an_expression)) (λ us. accept.has_its_parts a_tagged_template shape.TemplateLiteral us ≡ true → stands_at TagTemplate (seen shape.TemplateLiteral [] n (all_shown us)) ≡ true)
-    (λ q t bq bt eq et kq kt w. template_at true inside n tagged (an_inner an_expression) q t (bt.seat inside inner_values false refl et kt) eq et w) ts b e d.3 v
+    (λ q t bq bt eq et kq kt w. template_at true inside n tagged (an_inner an_expression) q t (bt.seat inside inner_values false refl et kt) eq et w) ts b e d.2 v
 tag_template_row strict inside l h xs n ts b e k v = absurd (never (has_names h xs) e)
 
 -- ---- seats
@@ -225,14 +224,14 @@ module_prints inside ds n (node shape.Listed [] m ts ▸ none) d e k =
 module_prints inside ds n (node shape.Listed (x ∷ xs) m ts ▸ none) d e k = absurd (false≢true e)
 module_prints inside ds n (node h xs m ts ▸ none) d e k = absurd (never (is_whole (a_statement in_module) h xs m ts) (and_l (is_whole (a_statement in_module) h xs m ts && false) true e))
 
-pub faultless_prints : (t : Tree) → fits false (one a_program) t ≡ true → first_fault t ≡ None → is_unresolved t ≡ true → printed.program_is_printable t ≡ true
-faultless_prints (node (shape.Program false ds) [] n ts) e f q =
+pub faultless_prints : (t : Tree) → fits false (one a_program) t ≡ true → first_fault t ≡ None → printed.program_is_printable t ≡ true
+faultless_prints (node (shape.Program false ds) [] n ts) e f =
     let inside = accept.is_strict_in false (shape.Program false ds) in
-    let c = clean_node false (shape.Program false ds) [] n ts refl (program_clean (shape.Program false ds) [] n ts refl f q) in
-    script_prints inside ds n ts c.1 (and_r (is_whole a_program (shape.Program false ds) [] n ts) (accept.fill inside (these (many (a_statement in_body) ∷ [])) ts) e) c.3
-faultless_prints (node (shape.Program true ds) [] n ts) e f q =
+    let c = clean_node false (shape.Program false ds) [] n ts refl (program_clean (shape.Program false ds) [] n ts refl f) in
+    script_prints inside ds n ts c.1 (and_r (is_whole a_program (shape.Program false ds) [] n ts) (accept.fill inside (these (many (a_statement in_body) ∷ [])) ts) e) c.2
+faultless_prints (node (shape.Program true ds) [] n ts) e f =
     let inside = accept.is_strict_in false (shape.Program true ds) in
-    let c = clean_node false (shape.Program true ds) [] n ts refl (program_clean (shape.Program true ds) [] n ts refl f q) in
-    module_prints inside ds n ts c.1 (and_r (is_whole a_program (shape.Program true ds) [] n ts) (accept.fill inside (these (many (a_statement in_module) ∷ [])) ts) e) c.3
-faultless_prints (node (shape.Program b ds) (x ∷ xs) n ts) e f q = absurd (false≢true e)
-faultless_prints (node h xs n ts) e f q = absurd (never (is_whole a_program h xs n ts) e)
+    let c = clean_node false (shape.Program true ds) [] n ts refl (program_clean (shape.Program true ds) [] n ts refl f) in
+    module_prints inside ds n ts c.1 (and_r (is_whole a_program (shape.Program true ds) [] n ts) (accept.fill inside (these (many (a_statement in_module) ∷ [])) ts) e) c.2
+faultless_prints (node (shape.Program b ds) (x ∷ xs) n ts) e f = absurd (false≢true e)
+faultless_prints (node h xs n ts) e f = absurd (never (is_whole a_program h xs n ts) e)

@@ -105,7 +105,7 @@ function_declared goal inside l true ds n ts w b e k =
     (λ t u v bt bu bv et eu ev kt ku kv. both (is_wanted goal (turned_of goal (rule_at (shape.Function true true []) [] none))) (printed.fill (wants_of (shape.Function true true []) (turned_of goal (rule_at (shape.Function true true []) [] none))) (shown t ▸ (shown u ▸ (with_directives ds (shown v) ▸ none)))) p.0
     (subst (λ ws. printed.fill ws (shown t ▸ (shown u ▸ (with_directives ds (shown v) ▸ none))) ≡ true) (sym p.1) (and_three (is_printable (a_part Binding) (shown t)) (is_printable (a_list Parameter Zero) (shown u)) (is_printable (a_part Body) (with_directives ds (shown v)))
     (bt.seat inside binding false refl et kt) (bu.seat inside parameters false refl eu ku) (bv.body inside ds c.1 ev kv))))
-    ts b e c.3
+    ts b e c.2
 function_declared goal inside l false ds n ts w b e k =
     let c = clean_node l (shape.Function true false ds) [] n ts refl k in
     let p = w false in
@@ -113,7 +113,7 @@ function_declared goal inside l false ds n ts w b e k =
     (λ t u v bt bu bv et eu ev kt ku kv. both (is_wanted goal (turned_of goal (rule_at (shape.Function true false []) [] none))) (printed.fill (wants_of (shape.Function true false []) (turned_of goal (rule_at (shape.Function true false []) [] none))) (shown t ▸ (shown u ▸ (with_directives ds (shown v) ▸ none)))) p.0
     (subst (λ ws. printed.fill ws (shown t ▸ (shown u ▸ (with_directives ds (shown v) ▸ none))) ≡ true) (sym p.1) (and_three (is_printable (a_part Binding) (shown t)) (is_printable (a_list Parameter Zero) (shown u)) (is_printable (a_part Body) (with_directives ds (shown v)))
     (bt.seat inside binding false refl et kt) (bu.seat inside parameters false refl eu ku) (bv.body inside ds c.1 ev kv))))
-    ts b e c.3
+    ts b e c.2
 
 statement_function : (d : Bool) → (is_wanted Statement (turned_of Statement (rule_at (shape.Function true d []) [] none)) ≡ true) × (wants_of (shape.Function true d []) (turned_of Statement (rule_at (shape.Function true d []) [] none)) ≡ Some (a_part Binding ∷ a_list Parameter Zero ∷ a_part Body ∷ []))
 statement_function true = (refl, refl)

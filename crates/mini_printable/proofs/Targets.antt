@@ -47,7 +47,7 @@ abbrev pub AssignedRow : Class → Type 0
 AssignedRow c = (strict inside l : Bool) (h : Shape) (xs : List Name) (n : ℕ) (ts : Trees) → Below ts → (has_names h xs && accept.fill inside (filling_by (slots_of strict c h)) ts) ≡ true → is_clean l (node h xs n ts) ≡ true → accept.has_its_parts c h ts ≡ true → Assigned (seen h xs n (all_shown ts))
 
 pub target_row : (strict inside l : Bool) (h : Shape) (xs : List Name) (n : ℕ) (ts : Trees) → Below ts → (has_names h xs && accept.fill inside (filling_by (slots_of strict a_target h)) ts) ≡ true → is_clean l (node h xs n ts) ≡ true → accept.has_its_parts a_target h ts ≡ true → Assigned (seen h xs n (all_shown ts))
-target_row strict inside l shape.ObjectAssignmentTarget [] n ts b e k v = let c = clean_node l shape.ObjectAssignmentTarget [] n ts refl k in assigned_pattern shape.ObjectAssignmentTarget n (all_shown ts) refl refl refl (object_target inside n ts b e c.3 c.1)
+target_row strict inside l shape.ObjectAssignmentTarget [] n ts b e k v = let c = clean_node l shape.ObjectAssignmentTarget [] n ts refl k in assigned_pattern shape.ObjectAssignmentTarget n (all_shown ts) refl refl refl (object_target inside n ts b e c.2 c.1)
 target_row strict inside l shape.ArrayAssignmentTarget [] n ts b e k v = assigned_pattern shape.ArrayAssignmentTarget n (all_shown ts) refl refl refl (parts ts b inside (target_elements ∷ []) false refl e k)
 target_row strict inside l shape.Identifier xs n ts b e k v = assigned_value shape.Identifier xs n (all_shown ts) refl refl refl (value_row strict inside l shape.Identifier xs n ts b e k v)
 target_row strict inside l (shape.StaticMemberExpression false) xs n ts b e k v = assigned_value (shape.StaticMemberExpression false) xs n (all_shown ts) refl refl refl (value_row strict inside l (shape.StaticMemberExpression false) xs n ts b e k v)

@@ -31,10 +31,10 @@ as_cooked (Some s) (Some r) e = e
 plain_piece : (tail : Bool) (raw : List ℕ) (c : Option (List ℕ)) → accept.has_plain_fields (shape.TemplateElement tail raw c) ≡ true → same_cooked c (cooked raw) ≡ true
 plain_piece tail raw c e = as_cooked c (cooked raw) (and_l (is_text_of_cooked c (cooked raw)) (is_paired_cooked c) (and_r (is_paired raw) (is_text_of_cooked c (cooked raw) && is_paired_cooked c) e))
 
-abbrev piece : Bool → List ℕ → Option (List ℕ) → ℕ → Tree
+abbrev pub piece : Bool → List ℕ → Option (List ℕ) → ℕ → Tree
 piece tail raw c n = node (shape.TemplateElement tail raw c) [] n none
 
-quasi_case : (P : Tree → Type 0) (g : Tagging) (last : Bool) (t : Tree) → is_quasi g last t ≡ true → ((raw : List ℕ) (c : Option (List ℕ)) (n : ℕ) → same_cooked c (cooked raw) ≡ true → P (piece last raw c n)) → P t
+pub quasi_case : (P : Tree → Type 0) (g : Tagging) (last : Bool) (t : Tree) → is_quasi g last t ≡ true → ((raw : List ℕ) (c : Option (List ℕ)) (n : ℕ) → same_cooked c (cooked raw) ≡ true → P (piece last raw c n)) → P t
 quasi_case P untagged last (node (shape.TemplateElement tail raw c) [] n none) e f =
     let a = and_l (is_same_flag tail last && is_some c) ((n == 0) && accept.has_plain_fields (shape.TemplateElement tail raw c)) e in
     let b = and_r (n == 0) (accept.has_plain_fields (shape.TemplateElement tail raw c)) (and_r (is_same_flag tail last && is_some c) ((n == 0) && accept.has_plain_fields (shape.TemplateElement tail raw c)) e) in
@@ -106,7 +106,7 @@ pieced tag n g (q ▸ (r ▸ rs)) (u ▸ us) e c p =
     (λ raw k m f. parts_stand tag n raw k m u (threaded (all_shown (r ▸ rs)) us) f (and_l (is_printable (a_part Anything) u) (are_printable Anything false us) p) rest)
 
 -- the two lists of a template
-all_quasis : (strict : Bool) (g : Tagging) (qs : Trees) → accept.fill strict (pieces g) qs ≡ true → are_quasis g qs ≡ true
+pub all_quasis : (strict : Bool) (g : Tagging) (qs : Trees) → accept.fill strict (pieces g) qs ≡ true → are_quasis g qs ≡ true
 all_quasis strict g none e = absurd (false≢true e)
 all_quasis strict g (q ▸ qs) e = e
 

@@ -34,13 +34,13 @@ function_stands strict inside l true ds n ts b e k =
     over_three inside false (one_or_absent a_binding) (many_and_rest a_parameter a_pattern_rest) (one a_function_body) (λ us. stands_at Anything (seen (shape.Function false true ds) [] n (all_shown us)) ≡ true)
     (λ t u v bt bu bv et eu ev kt ku kv. and_three (is_printable (a_perhaps Binding) (shown t)) (is_printable (a_list Parameter Zero) (shown u)) (is_printable (a_part Body) (with_directives ds (shown v)))
     (bt.seat inside binding_or_none false refl et kt) (bu.seat inside parameters false refl eu ku) (bv.body inside ds c.1 ev kv))
-    ts b e c.3
+    ts b e c.2
 function_stands strict inside l false ds n ts b e k =
     let c = clean_node l (shape.Function false false ds) [] n ts refl k in
     over_three inside false (one_or_absent a_binding) (many_and_rest a_parameter a_pattern_rest) (one a_function_body) (λ us. stands_at Anything (seen (shape.Function false false ds) [] n (all_shown us)) ≡ true)
     (λ t u v bt bu bv et eu ev kt ku kv. and_three (is_printable (a_perhaps Binding) (shown t)) (is_printable (a_list Parameter Zero) (shown u)) (is_printable (a_part Body) (with_directives ds (shown v)))
     (bt.seat inside binding_or_none false refl et kt) (bu.seat inside parameters false refl eu ku) (bv.body inside ds c.1 ev kv))
-    ts b e c.3
+    ts b e c.2
 
 -- an arrow with an expression has no directives
 arrow_value : (n : ℕ) (p u : Tree) → is_printable (a_list Parameter Zero) p ≡ true → is_printable (a_part Anything) u ≡ true → stands_at Anything (node (shape.ArrowFunctionExpression []) [] n (p ▸ (with_directives [] u ▸ none))) ≡ true
@@ -152,7 +152,7 @@ value_row strict inside l (shape.ArrowFunctionExpression ds) [] n ts b e k v =
     let c = clean_node l (shape.ArrowFunctionExpression ds) [] n ts refl k in
     over_two inside false (many_and_rest a_parameter a_pattern_rest) (one an_arrow_body) (λ us. accept.has_its_parts an_expression (shape.ArrowFunctionExpression ds) us ≡ true → stands_at Anything (seen (shape.ArrowFunctionExpression ds) [] n (all_shown us)) ≡ true)
     (λ p t bp bt ep et kp kt w. arrow_body inside ds n p t bt c.1 (bp.seat inside parameters false refl ep kp) et kt w)
-    ts b e c.3 v
+    ts b e c.2 v
 value_row strict inside l (shape.Class false) [] n ts b e k v =
     over_four inside false (one_or_absent a_binding) (one_or_absent (an_inner an_expression)) (one a_class_body) (one_or_absent a_binding) (λ us. accept.has_its_parts an_expression (shape.Class false) us ≡ true → stands_at Anything (node (shape.Class false) [] n (all_shown us)) ≡ true)
     (λ t u c w bt bu bc bw et eu ec ew kt ku kc kw z. class_stands inside false n t u c w et kt (bu.seat inside inner_or_none false refl eu ku) (bc.seat inside class_body false refl ec kc) (absent_shown Binding w z (bw.seat inside binding_or_none false refl ew kw)))
@@ -204,6 +204,6 @@ value_row strict inside l shape.ChainExpression [] n ts b e k v = chain_stands i
 value_row strict inside l shape.TemplateLiteral [] n ts b e k v =
     let d = clean_node l shape.TemplateLiteral [] n ts refl k in
     over_two inside false (quasis untagged) (many an_expression) (λ us. accept.has_its_parts an_expression shape.TemplateLiteral us ≡ true → stands_at Anything (seen shape.TemplateLiteral [] n (all_shown us)) ≡ true)
-    (λ q t bq bt eq et kq kt w. template_at false inside n untagged an_expression q t (bt.seat inside values false refl et kt) eq et w) ts b e d.3 v
+    (λ q t bq bt eq et kq kt w. template_at false inside n untagged an_expression q t (bt.seat inside values false refl et kt) eq et w) ts b e d.2 v
 value_row strict inside l shape.TaggedTemplateExpression [] n ts b e k v = parts ts b inside (inner ∷ tag_template ∷ []) false refl e k
 value_row strict inside l h xs n ts b e k v = absurd (never (has_names h xs) e)

@@ -44,7 +44,7 @@ both_made p t u o q b l m n = subst (λ x. Made x t u b) (sym (two_are p t o q l
 -- ---- each form in a list, or of a branch or a body, is
 
 abbrev joining : Bool → Switches
-joining b = record { sequences = b; join_vars = b; keep_function_names = b; keep_class_names = b }
+joining b = record { sequences = b; join_vars = b; keep_function_names = b; keep_class_names = b; edition = 2022 }
 
 pub gone_lighter : (p : Position) (t : Tree) (i : ℕ) → IsLighter p t (in_list gone p t i)
 gone_lighter p t i u e = lists_lighter (joining true) p t u (goes_in_list (joining true) p t i u e)

@@ -1,4 +1,5 @@
 pub mod Indices
 pub mod Searches
+pub mod Drafts
 pub mod Entries
 pub mod Checks

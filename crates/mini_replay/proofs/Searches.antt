@@ -1,5 +1,5 @@
 -- A search of a node's children, one after another.
-use Rattle.std.proofs.Common.{◌≡◌, ℕ, ◌+◌, ◌<◌, ◌≤◌, Bool, true, false, List, [], ◌∷◌, refl, sym, ap, ◌∙◌, subst, arith}
+use Rattle.std.proofs.Common.{◌≡◌, ℕ, ◌+◌, ◌<◌, ◌≤◌, Bool, true, false, [], ◌∷◌, refl, sym, ap, ◌∙◌, subst, arith}
 use Rattle.std.specs.Prelude.{Option, Some, None, is_some, nat_lt, option_map}
 use Rattle.std.proofs.lemmas.Bool.{false≢true}
 use Rattle.mini_model.specs.declared.place.Position.{Position}
@@ -106,36 +106,36 @@ module _ (F : Rows) where
   none_all p t first i end h yet = λ r j q low high. yet r j q low (omega (arith, h, high))
 
   -- none in some children, one after another
-  pub nowhere_next : (p : Position) (t : Tree) (b at : ℕ) (from : List ℕ) (o : Option Found) → o ≡ None → SoughtAt F p t b at from o → (from ≡ [] → (k : ℕ) → k < at → NoneAt F p t k) → from ≡ [] → (k : ℕ) → k < at + 1 → NoneAt F p t k
-  nowhere_next p t b at from o same s yet e k h = by (nat_lt k at) refl
+  pub nowhere_next : (p : Position) (t : Tree) (b at : ℕ) (o : Option Found) → o ≡ None → SoughtAt F p t b at o → ((k : ℕ) → k < at → NoneAt F p t k) → (k : ℕ) → k < at + 1 → NoneAt F p t k
+  nowhere_next p t b at o same s yet k h = by (nat_lt k at) refl
     where
-      here : from ≡ [] → NoneAt F p t at
-      here = subst (SoughtAt F p t b at from) same s
+      here : NoneAt F p t at
+      here = subst (SoughtAt F p t b at) same s
 
       by : (b : Bool) → nat_lt k at ≡ b → NoneAt F p t k
-      by true d = yet e k (lt_of k at d)
-      by false d = subst (NoneAt F p t) (last k at (le_of k at d) h) (here e)
+      by true d = yet k (lt_of k at d)
+      by false d = subst (NoneAt F p t) (last k at (le_of k at d) h) here
 
-  pub nowhere_yet : (p : Position) (t : Tree) (from : List ℕ) → from ≡ [] → (k : ℕ) → k < 0 → NoneAt F p t k
-  nowhere_yet p t from e k h = absurd (omega (arith, h))
+  pub nowhere_yet : (p : Position) (t : Tree) (k : ℕ) → k < 0 → NoneAt F p t k
+  nowhere_yet p t k h = absurd (omega (arith, h))
 
   -- in a child, and beside it
-  pub at_found : (p : Position) (t : Tree) (b k first index : ℕ) (s : Position) (c : Tree) (n : ℕ) (h : Shape) (from : List ℕ) (o : Option Found) (x : Found) → k < count (children t) → c ≡ child t k → h ≡ shape_of t → n ≡ count (children t) → s ≡ child_position h p n k →
-      first ≡ before (children t) k → index ≡ b + first → o ≡ Some x → SoughtIn F s c index from o → SoughtAt F p t b k from (Some x)
-  at_found p t b k first index s c n h from o x there is_c is_h is_n is_s is_first is_index is_o sought =
+  pub at_found : (p : Position) (t : Tree) (b k first index : ℕ) (s : Position) (c : Tree) (n : ℕ) (h : Shape) (o : Option Found) (x : Found) → k < count (children t) → c ≡ child t k → h ≡ shape_of t → n ≡ count (children t) → s ≡ child_position h p n k →
+      first ≡ before (children t) k → index ≡ b + first → o ≡ Some x → SoughtIn F s c index o → SoughtAt F p t b k (Some x)
+  at_found p t b k first index s c n h o x there is_c is_h is_n is_s is_first is_index is_o sought =
       found_in p t b k x there
       (subst (λ i. StepsIn F (child_stands p t k) (child t k) i x) (is_index ∙ ap (λ i. b + i) is_first)
       (subst (λ v. StepsIn F (child_stands p t k) v index x) is_c
       (subst (λ v. StepsIn F v c index x) (is_s ∙ ap (λ v. child_position v p n k) is_h ∙ ap (λ m. child_position (shape_of t) p m k) is_n)
-      (subst (SoughtIn F s c index from) is_o sought))))
+      (subst (SoughtIn F s c index) is_o sought))))
 
-  pub at_beside : (p : Position) (t : Tree) (b k first end index : ℕ) (s : Position) (c : Tree) (n : ℕ) (h : Shape) (from : List ℕ) (o u : Option Found) → c ≡ child t k → h ≡ shape_of t → n ≡ count (children t) → s ≡ child_position h p n k →
-      first ≡ before (children t) k → end ≡ first + width (child t k) → o ≡ None → SoughtIn F s c index from o → SoughtBeside F p t b first end u → SoughtAt F p t b k from u
-  at_beside p t b k first end index s c n h from o None is_c is_h is_n is_s is_first is_end is_o sought beside = λ e. record {
-    inside = subst (NoneIn F (child_stands p t k)) is_c (subst (λ v. NoneIn F v c) (is_s ∙ ap (λ v. child_position v p n k) is_h ∙ ap (λ m. child_position (shape_of t) p m k) is_n) (subst (SoughtIn F s c index from) is_o sought e));
+  pub at_beside : (p : Position) (t : Tree) (b k first end index : ℕ) (s : Position) (c : Tree) (n : ℕ) (h : Shape) (o u : Option Found) → c ≡ child t k → h ≡ shape_of t → n ≡ count (children t) → s ≡ child_position h p n k →
+      first ≡ before (children t) k → end ≡ first + width (child t k) → o ≡ None → SoughtIn F s c index o → SoughtBeside F p t b first end u → SoughtAt F p t b k u
+  at_beside p t b k first end index s c n h o None is_c is_h is_n is_s is_first is_end is_o sought beside = record {
+    inside = subst (NoneIn F (child_stands p t k)) is_c (subst (λ v. NoneIn F v c) (is_s ∙ ap (λ v. child_position v p n k) is_h ∙ ap (λ m. child_position (shape_of t) p m k) is_n) (subst (SoughtIn F s c index) is_o sought));
     beside = subst (λ i. NoneBeside F p t i (i + width (child t k))) is_first (subst (NoneBeside F p t first) is_end beside);
   }
-  at_beside p t b k first end index s c n h from o (Some x) is_c is_h is_n is_s is_first is_end is_o sought beside = beside
+  at_beside p t b k first end index s c n h o (Some x) is_c is_h is_n is_s is_first is_end is_o sought beside = beside
 
   -- no step in any child, and none made by the node: none on any path that goes on
   nothing_by : (p : Position) (t : Tree) → ((k : ℕ) → k < count (children t) → NoneAt F p t k) → (r : LogRow) (i : ℕ) (q : Path) → IsPath t (i ∷ q) → step_at (F r) p t (i ∷ q) ≡ None
@@ -152,8 +152,8 @@ module _ (F : Rows) where
       (step_there (F r) (child_position h p (count ts)) ts s.at s.index q s.there s.inside
       ∙ none_mapped (with_child ts s.at) (step_at (F r) (child_position h p (count ts) s.at) (child_or_absent ts s.at) (further (child_or_absent ts s.at) s.index q)) (here.inside r s.index q s.inside path))))
 
-  pub nothing_below : (p : Position) (t : Tree) (b : ℕ) (from : List ℕ) → (from ≡ [] → (k : ℕ) → k < count (children t) → NoneAt F p t k) → SoughtBelow F p t b from None
-  nothing_below p t b from f e = nothing_by p t (f e)
+  pub nothing_below : (p : Position) (t : Tree) (b : ℕ) → ((k : ℕ) → k < count (children t) → NoneAt F p t k) → SoughtBelow F p t b None
+  nothing_below p t b f = nothing_by p t f
 
   -- in a node of ESTree, and in what holds some
   node_path : (c : Tree) (i : ℕ) (q : Path) → is_node c ≡ true → q ≡ further c i q
@@ -199,11 +199,11 @@ module _ (F : Rows) where
   plus_none : (b : ℕ) → b ≡ b + 0
   plus_none b = omega arith
 
-  pub in_node : (p : Position) (c : Tree) (b : ℕ) (from rest : List ℕ) (o u : Option Found) → is_node c ≡ true → (from ≡ [] → rest ≡ []) → Sought F p c rest o → AreLonger b o u → SoughtIn F p c b from u
-  in_node p c b from rest None None e f s l = λ d r i q w path. subst (λ k. step_at (F r) p c k ≡ None) (node_path c i q e) (s (f d) r q (subst (IsPath c) (sym (node_path c i q e)) path))
-  in_node p c b from rest None (Some y) e f s l = absurd (cc l)
-  in_node p c b from rest (Some x) None e f s l = absurd l
-  in_node p c b from rest (Some x) (Some y) e f s l =
+  pub in_node : (p : Position) (c : Tree) (b : ℕ) (o u : Option Found) → is_node c ≡ true → Sought F p c o → AreLonger b o u → SoughtIn F p c b u
+  in_node p c b None None e s l = λ r i q w path. subst (λ k. step_at (F r) p c k ≡ None) (node_path c i q e) (s r q (subst (IsPath c) (sym (node_path c i q e)) path))
+  in_node p c b None (Some y) e s l = absurd (cc l)
+  in_node p c b (Some x) None e s l = absurd l
+  in_node p c b (Some x) (Some y) e s l =
       let one = node_width c e in
       record {
         index = 0;
@@ -213,9 +213,9 @@ module _ (F : Rows) where
         steps = ap (λ k. is_some (step_at (F y.row) p c k)) (sym (node_path c 0 x.at e)) ∙ ap (λ r. is_some (step_at (F r) p c x.at)) l.row ∙ s;
       }
 
-  pub in_holder : (p : Position) (c : Tree) (b : ℕ) (from : List ℕ) (o : Option Found) → is_holder c ≡ true → SoughtBelow F p c b from o → SoughtIn F p c b from o
-  in_holder p c b from None e s = λ d r i q w path. subst (λ k. step_at (F r) p c k ≡ None) (held_path c i q e) (s d r i q (subst (IsPath c) (sym (held_path c i q e)) path))
-  in_holder p c b from (Some x) e s =
+  pub in_holder : (p : Position) (c : Tree) (b : ℕ) (o : Option Found) → is_holder c ≡ true → SoughtBelow F p c b o → SoughtIn F p c b o
+  in_holder p c b None e s = λ r i q w path. subst (λ k. step_at (F r) p c k ≡ None) (held_path c i q e) (s r i q (subst (IsPath c) (sym (held_path c i q e)) path))
+  in_holder p c b (Some x) e s =
       let inside = s.inside in
       let same = held_width c e in
       record {
@@ -226,26 +226,26 @@ module _ (F : Rows) where
         steps = ap (λ k. is_some (step_at (F x.row) p c k)) (sym (held_path c s.index s.rest e)) ∙ s.steps;
       }
 
-  pub in_missing : (p : Position) (c : Tree) (b : ℕ) (from : List ℕ) → is_node c ≡ false → is_holder c ≡ false → SoughtIn F p c b from None
-  in_missing p c b from e f = λ d r i q w path. absurd (no_less i (subst (λ n. i < n) (missing_width c e f) w))
+  pub in_missing : (p : Position) (c : Tree) (b : ℕ) → is_node c ≡ false → is_holder c ≡ false → SoughtIn F p c b None
+  in_missing p c b e f = λ r i q w path. absurd (no_less i (subst (λ n. i < n) (missing_width c e f) w))
     where
       no_less : (i : ℕ) → i < 0 → ⊥
       no_less i h = omega (arith, h)
 
   -- the node itself, where the path ends there
-  pub sought_here : (p : Position) (t : Tree) (from : List ℕ) (o : Option Found) → SoughtBelow F p t 0 from None → OwnSought F p t o → Sought F p t from o
-  sought_here p t from None s own = λ e r q path. by e r q path
+  pub sought_here : (p : Position) (t : Tree) (o : Option Found) → SoughtBelow F p t 0 None → OwnSought F p t o → Sought F p t o
+  sought_here p t None s own = λ r q path. by r q path
     where
       own_none : (p : Position) (t : Tree) (r : LogRow) → F r p t [] ≡ None → step_at (F r) p t [] ≡ None
       own_none p (node h xs n ts) r e = e
 
-      by : from ≡ [] → (r : LogRow) (q : Path) → IsPath t q → step_at (F r) p t q ≡ None
-      by e r [] path = own_none p t r (own r)
-      by e r (i ∷ q) path = s e r i q path
-  sought_here p t from (Some x) s (path, made) = ap (λ q. is_some (step_at (F x.row) p t q)) path ∙ made_own x.row p t made
+      by : (r : LogRow) (q : Path) → IsPath t q → step_at (F r) p t q ≡ None
+      by r [] path = own_none p t r (own r)
+      by r (i ∷ q) path = s r i q path
+  sought_here p t (Some x) s (path, made) = ap (λ q. is_some (step_at (F x.row) p t q)) path ∙ made_own x.row p t made
 
-  pub found_on : (p : Position) (t : Tree) (from : List ℕ) (x : Found) → StepsBelow F p t 0 x → Sought F p t from (Some x)
-  found_on p t from x s = ap (λ q. is_some (step_at (F x.row) p t q)) (s.path ∙ ap (λ i. i ∷ s.rest) (nothing_added s.index)) ∙ s.steps
+  pub found_on : (p : Position) (t : Tree) (x : Found) → StepsBelow F p t 0 x → Sought F p t (Some x)
+  found_on p t x s = ap (λ q. is_some (step_at (F x.row) p t q)) (s.path ∙ ap (λ i. i ∷ s.rest) (nothing_added s.index)) ∙ s.steps
     where
       nothing_added : (i : ℕ) → 0 + i ≡ i
       nothing_added i = omega arith

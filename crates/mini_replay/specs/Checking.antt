@@ -19,7 +19,7 @@ use Rattle.mini_replay.specs.Seeking.{IsPath}
 
 -- the options, as the rows read them
 abbrev pub switches_of : CompressOptions → Switches
-switches_of o = record { sequences = o.sequences; join_vars = o.join_vars; keep_function_names = o.keep_names.function; keep_class_names = o.keep_names.class }
+switches_of o = record { sequences = o.sequences; join_vars = o.join_vars; keep_function_names = o.keep_names.function; keep_class_names = o.keep_names.class; edition = 2022 }
 
 -- the entries, as plain ones
 abbrev pub entry_of : LogEntry → Entry

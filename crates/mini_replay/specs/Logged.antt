@@ -1,12 +1,12 @@
 -- What is said of a log that is made.
-use Rattle.std.specs.Prelude.{ℕ, ◌<◌, ◌≤◌, ◌≡◌, Bool, true, false, List, [], ◌∷◌, ◌++◌, length, Some, None}
+use Rattle.std.specs.Prelude.{ℕ, ◌<◌, ◌≤◌, ◌≡◌, Bool, true, false, List, [], ◌∷◌, ◌++◌, length, Option, Some, None}
 use Rattle.mini_model.specs.declared.place.Position.TheVariants.{Elsewhere}
 use Rattle.mini_model.specs.Paths.{Path}
 use Rattle.mini_model.specs.Tree.{Tree}
 use Rattle.mini_log.specs.declared.row.LogRow.{LogRow}
 use Rattle.mini_log.specs.Walk.{step_at}
 use Rattle.mini_checker.specs.declared.log.LogEntry.{LogEntry}
-use Rattle.mini_checker.specs.Checked.{Rows, entry_step_by}
+use Rattle.mini_checker.specs.Checked.{Rows, entry_step_by, replayed_by}
 use Rattle.mini_replay.specs.Seeking.{IsPath}
 
 module _ (F : Rows) where
@@ -20,17 +20,29 @@ module _ (F : Rows) where
     pub log : new ≡ old ++ entry ∷ []
     pub made : entry_step_by F t entry ≡ Some u
 
-  -- or none was
-  pub record NoMore (t u : Tree) (old new : List LogEntry) (max : ℕ) (goes_on : Bool) : Type 0 where
+  -- or there was no step, and nothing changed
+  pub record NotEntered (w : Option Tree) (t u : Tree) (old new : List LogEntry) : Type 0 where
+    pub none : w ≡ None
     pub log : new ≡ old
     pub program : u ≡ t
-    pub left : goes_on ≡ false → length old < max → NothingLeft t
 
-  abbrev pub Next : Tree → Tree → List LogEntry → List LogEntry → ℕ → Bool → Bool → Type 0
-  Next t u old new max goes_on true = (length old < max) × Entered t u old new
-  Next t u old new max goes_on false = NoMore t u old new max goes_on
+  -- told the step that was to be made
+  abbrev pub EnteredIf : Option Tree → Tree → Tree → List LogEntry → List LogEntry → Bool → Type 0
+  EnteredIf w t u old new true = Entered t u old new
+  EnteredIf w t u old new false = NotEntered w t u old new
 
-  -- some were, up to so many in all
-  abbrev pub Passed : Tree → Tree → List LogEntry → List LogEntry → ℕ → Bool → Type 0
-  Passed t u old new max true = (length old < length new) × (length new ≤ max)
-  Passed t u old new max false = NoMore t u old new max false
+  -- no entry was made
+  pub record NoMore (t u : Tree) (old new : List LogEntry) (max : ℕ) : Type 0 where
+    pub log : new ≡ old
+    pub program : u ≡ t
+    pub left : length old < max → NothingLeft t
+
+  abbrev pub Next : Tree → Tree → List LogEntry → List LogEntry → ℕ → Bool → Type 0
+  Next t u old new max true = (length old < max) × Entered t u old new
+  Next t u old new max false = NoMore t u old new max
+
+  -- some entries were made and logged, or none, up to so many in all
+  pub record Further (t u : Tree) (old new : List LogEntry) (max : ℕ) : Type 0 where
+    pub replays : (first : Tree) → replayed_by F first old ≡ Some t → replayed_by F first new ≡ Some u
+    pub longer : length old ≤ length new
+    pub within : length old ≤ max → length new ≤ max

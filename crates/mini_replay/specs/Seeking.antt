@@ -1,5 +1,5 @@
 -- What a search for a row's step in a tree finds.
-use Rattle.std.specs.Prelude.{ℕ, zero, suc, ◌+◌, ◌<◌, ◌≤◌, ◌≡◌, Bool, true, false, List, [], ◌∷◌, Option, Some, None, is_some}
+use Rattle.std.specs.Prelude.{ℕ, zero, suc, ◌+◌, ◌<◌, ◌≤◌, ◌≡◌, Bool, true, false, [], ◌∷◌, Option, Some, None, is_some}
 use Rattle.mini_model.specs.declared.place.Position.{Position}
 use Rattle.mini_model.specs.Paths.{Path, node_at, spread, standing, by_standing, width}
 use Rattle.mini_model.specs.Position.{child_position}
@@ -51,10 +51,10 @@ module _ (F : Rows) where
   MadeBeside p t i None = (r : LogRow) (q : Path) → F r p t (i ∷ q) ≡ None
   MadeBeside p t i (Some x) = is_some (F x.row p t (i ∷ rest_below x.is_below)) ≡ true
 
-  -- a step on a path from a node on, or none on any, where the search began at its begin
-  abbrev pub Sought : Position → Tree → List ℕ → Option Found → Type 0
-  Sought p t from None = from ≡ [] → (r : LogRow) (q : Path) → IsPath t q → step_at (F r) p t q ≡ None
-  Sought p t from (Some x) = is_some (step_at (F x.row) p t x.at) ≡ true
+  -- a step on a path from a node on, or none on any
+  abbrev pub Sought : Position → Tree → Option Found → Type 0
+  Sought p t None = (r : LogRow) (q : Path) → IsPath t q → step_at (F r) p t q ≡ None
+  Sought p t (Some x) = is_some (step_at (F x.row) p t x.at) ≡ true
 
   -- the same on a path that goes on with an index, to which a number is added
   pub record StepsBelow (p : Position) (t : Tree) (b : ℕ) (x : Found) : Type 0 where
@@ -64,9 +64,9 @@ module _ (F : Rows) where
     pub inside : index < count (spread (children t))
     pub steps : is_some (step_at (F x.row) p t (index ∷ rest)) ≡ true
 
-  abbrev pub SoughtBelow : Position → Tree → ℕ → List ℕ → Option Found → Type 0
-  SoughtBelow p t b from None = from ≡ [] → (r : LogRow) (i : ℕ) (q : Path) → IsPath t (i ∷ q) → step_at (F r) p t (i ∷ q) ≡ None
-  SoughtBelow p t b from (Some x) = StepsBelow p t b x
+  abbrev pub SoughtBelow : Position → Tree → ℕ → Option Found → Type 0
+  SoughtBelow p t b None = (r : LogRow) (i : ℕ) (q : Path) → IsPath t (i ∷ q) → step_at (F r) p t (i ∷ q) ≡ None
+  SoughtBelow p t b (Some x) = StepsBelow p t b x
 
   -- on a path from a child on, which is told from the node above it on
   pub record StepsIn (p : Position) (c : Tree) (b : ℕ) (x : Found) : Type 0 where
@@ -79,9 +79,9 @@ module _ (F : Rows) where
   abbrev pub NoneIn : Position → Tree → Type 0
   NoneIn p c = (r : LogRow) (i : ℕ) (q : Path) → i < width c → IsPath c (further c i q) → step_at (F r) p c (further c i q) ≡ None
 
-  abbrev pub SoughtIn : Position → Tree → ℕ → List ℕ → Option Found → Type 0
-  SoughtIn p c b from None = from ≡ [] → NoneIn p c
-  SoughtIn p c b from (Some x) = StepsIn p c b x
+  abbrev pub SoughtIn : Position → Tree → ℕ → Option Found → Type 0
+  SoughtIn p c b None = NoneIn p c
+  SoughtIn p c b (Some x) = StepsIn p c b x
 
   -- of what a node's own rows make, where the path goes on with one of these indices
   abbrev pub NoneBeside : Position → Tree → ℕ → ℕ → Type 0
@@ -96,9 +96,9 @@ module _ (F : Rows) where
     pub inside : NoneIn (child_stands p t k) (child t k)
     pub beside : NoneBeside p t (before (children t) k) (before (children t) k + width (child t k))
 
-  abbrev pub SoughtAt : Position → Tree → ℕ → ℕ → List ℕ → Option Found → Type 0
-  SoughtAt p t b k from None = from ≡ [] → NoneAt p t k
-  SoughtAt p t b k from (Some x) = StepsBelow p t b x
+  abbrev pub SoughtAt : Position → Tree → ℕ → ℕ → Option Found → Type 0
+  SoughtAt p t b k None = NoneAt p t k
+  SoughtAt p t b k (Some x) = StepsBelow p t b x
 
   -- of a node alone, where the path ends there
   abbrev pub OwnSought : Position → Tree → Option Found → Type 0

@@ -2,6 +2,7 @@
 #![tactic(auto)]
 
 mod checking;
+mod drafting;
 mod logging;
 mod seeking;
 mod widths;

@@ -1,17 +1,17 @@
 //! A log that is made of the steps of a program.
 
-ghost use Rattle.std.specs.Prelude.{◌≡◌, ◌<◌, ◌≤◌, true, false, is_some, length, Some, IfOk, OnOk, []};
-ghost use Rattle.mini_model.specs.Tree.{Tree};
+ghost use Rattle.std.specs.Prelude.{◌≡◌, ◌<◌, ◌≤◌, true, length, Some, IfOk, OnOk};
 ghost use Rattle.mini_model.specs.declared.place.Position.TheVariants.{Elsewhere};
 ghost use Rattle.mini_log.specs.RowStep.{row_number};
 ghost use Rattle.mini_log.specs.Walk.{step_at as step_at_path};
 ghost use Rattle.mini_checker.specs.Checked.{replayed_by};
-ghost use Rattle.mini_replay.specs.Logged.{Entered, Next, NothingLeft, Passed};
+ghost use Rattle.mini_replay.specs.Logged.{EnteredIf, Further, Next, NothingLeft};
 
+use crate::drafting::{draft_log, put_behind};
 use crate::seeking::{Found, Seeking, seek};
 use mini_checker::{Log, LogEntry, step_at};
 use mini_log::row::LogRow;
-use mini_model::{OutOfMemory, Position};
+use mini_model::{Numbers, OutOfMemory, Position};
 use mini_node::Node;
 use std::alloc::Global;
 
@@ -47,92 +47,101 @@ fn number_of(row: LogRow) -> u32
     }
 }
 
-// Where a search begins: at the path of the last entry, if it goes on.
-fn begin(log: &Log, goes_on: bool) -> &[u32]
-    ensures { goes_on ≡ false → result.now ≡ [] }
+// The entry of what was found.
+fn entry_of(alloc: Global, found: &Found) -> Result<LogEntry, OutOfMemory>
+    ensures { IfOk result (λ entry. entry ≡ record { at = found.now.at; row = row_number found.now.row }) }
 {
-    match log.as_slice().split_last() {
-        Some((last, _)) if goes_on => last.at.as_slice(),
-        _ => &[],
-    }
+    let mut at = Numbers::new(alloc);
+    put_behind(&mut at, found.at.as_slice())?;
+    Ok(LogEntry {
+        at,
+        row: number_of(found.row),
+    })
 }
 
-// Makes what was found, and logs it.
+// Makes the step of what was found, if it has one, and logs it; says whether it has.
 fn make_found<S: Seeking>(
     rows: &S,
     alloc: Global,
     program: &mut Node,
     log: &mut Log,
-    found: Found,
-) -> Result<(), OutOfMemory>
-    requires { is_some (step_at_path (S.makes rows.now found.row) Elsewhere program.old found.at) ≡ true }
-    ensures { OnOk result (Entered (S.makes rows.now) program.old program.new log.old log.new) }
+    found: &Found,
+) -> Result<bool, OutOfMemory>
+    ensures { IfOk result (EnteredIf (S.makes rows.now) (step_at_path (S.makes rows.now found.now.row) Elsewhere program.old found.now.at) program.old program.new log.old log.new) }
 {
-    let _made = step_at(
-        rows,
-        alloc,
-        found.row,
-        program,
-        Position::Elsewhere,
-        found.at.as_slice(),
-    )?;
-    log.push(LogEntry {
-        at: found.at,
-        row: number_of(found.row),
-    })
+    let at = found.at.as_slice();
+    if !step_at(rows, alloc, found.row, program, Position::Elsewhere, at)? {
+        return Ok(false);
+    }
+    log.push(entry_of(alloc, found)?)?;
+    Ok(true)
+}
+
+// Makes the steps of a draft, up to the first that has none or for which there is no room, and logs
+// them.
+fn make_all<S: Seeking>(
+    rows: &S,
+    alloc: Global,
+    program: &mut Node,
+    log: &mut Log,
+    max_entries: u32,
+    drafted: &[Found],
+) -> Result<(), OutOfMemory>
+    ensures { OnOk result (Further (S.makes rows.now) program.old program.new log.old log.new max_entries) }
+{
+    for at in 0..drafted.len() {
+        if log.len() >= max_entries as usize {
+            return Ok(());
+        }
+        if !make_found(rows, alloc, program, log, &drafted[at])? {
+            return Ok(());
+        }
+    }
+    Ok(())
+}
+
+// Drafts steps of the program, makes those, and says whether it made any.
+fn make_drafted<S: Seeking>(
+    rows: &S,
+    alloc: Global,
+    program: &mut Node,
+    log: &mut Log,
+    max_entries: u32,
+) -> Result<bool, OutOfMemory>
+    ensures further { OnOk result (Further (S.makes rows.now) program.old program.new log.old log.new max_entries) }
+    ensures more { IfOk result (λ made. made ≡ true → length log.old < length log.new) }
+{
+    let before = log.len();
+    let drafted = draft_log(rows, alloc, program, max_entries)?;
+    make_all(rows, alloc, program, log, max_entries, drafted.as_slice())?;
+    Ok(log.len() > before)
 }
 
 // Makes one more step of the program, if there is room for its entry, and says whether there was
-// one. The search goes on at the last entry, or begins anew.
+// one.
 fn make_next<S: Seeking>(
     rows: &S,
     alloc: Global,
     program: &mut Node,
     log: &mut Log,
     max_entries: u32,
-    goes_on: bool,
 ) -> Result<bool, OutOfMemory>
-    ensures { IfOk result (Next (S.makes rows.now) program.old program.new log.old log.new max_entries goes_on) }
+    ensures { IfOk result (Next (S.makes rows.now) program.old program.new log.old log.new max_entries) }
 {
     if log.len() >= max_entries as usize {
         return Ok(false);
     }
-    match seek(
-        rows,
-        alloc,
-        program,
-        Position::Elsewhere,
-        begin(log, goes_on),
-    )? {
-        Some(found) => {
-            make_found(rows, alloc, program, log, found)?;
-            Ok(true)
-        }
+    match seek(rows, alloc, program, Position::Elsewhere)? {
+        Some(found) => make_found(rows, alloc, program, log, &found),
         None => Ok(false),
     }
 }
 
-// Goes over the program once, and says whether it made a step.
-fn make_pass<S: Seeking>(
-    rows: &S,
-    alloc: Global,
-    program: &mut Node,
-    log: &mut Log,
-    max_entries: u32,
-) -> Result<bool, OutOfMemory>
-    ensures replays { (first : Tree) → replayed_by (S.makes rows.now) first log.old ≡ Some program.old → OnOk result (replayed_by (S.makes rows.now) first log.new ≡ Some program.new) }
-    ensures passed { IfOk result (Passed (S.makes rows.now) program.old program.new log.old log.new max_entries) }
-{
-    let mut changed = false;
-    'entries: while make_next(rows, alloc, program, log, max_entries, changed)? {
-        changed = true;
-    }
-    Ok(changed)
-}
-
 /// Makes steps of a program by the rows, at most so many, and gives their log. There are fewer only
-/// where no row has a step at any path of the last program. The only error is that memory runs out,
-/// and then the program is fit only to be dropped.
+/// where no row has a step at any path of the last program. Drafts make nearly all of them, in time
+/// linear in the program for each draft; a search for a step finds out that none is left.
+///
+/// The only error is that memory runs out, and then the program is fit only to be dropped.
 pub fn log_by<S: Seeking>(
     rows: &S,
     alloc: Global,
@@ -144,6 +153,7 @@ pub fn log_by<S: Seeking>(
     ensures all { IfOk result (λ log. length log < max_entries → NothingLeft (S.makes rows.now) program.new) }
 {
     let mut log = Log::new(alloc);
-    'passes: while make_pass(rows, alloc, program, &mut log, max_entries)? {}
+    'drafts: while make_drafted(rows, alloc, program, &mut log, max_entries)? {}
+    'steps: while make_next(rows, alloc, program, &mut log, max_entries)? {}
     Ok(log)
 }

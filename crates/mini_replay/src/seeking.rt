@@ -1,6 +1,6 @@
 //! The search for a row's step in a tree.
 
-ghost use Rattle.std.specs.Prelude.{◌≡◌, ◌+◌, ◌<◌, ◌≤◌, [], false, IfOk};
+ghost use Rattle.std.specs.Prelude.{◌≡◌, ◌+◌, ◌<◌, ◌≤◌, IfOk};
 ghost use Rattle.mini_model.specs.Tree.{count, children};
 ghost use Rattle.mini_model.specs.Paths.{width, spread as spread_out, is_node as is_it_a_node};
 ghost use Rattle.mini_replay.specs.Seeking.{before, child, is_holder as holds_others, AreLonger, IsBeside, MadeHere, MadeBeside, OwnSought, Sought, SoughtAt, SoughtBelow, SoughtBeside, SoughtIn};
@@ -63,8 +63,8 @@ struct Spot {
     end: u32,
 }
 
-// Whether it is a node of ESTree, and neither absent nor what holds others.
-fn is_node(node: &Node) -> bool
+/// Whether it is a node of ESTree, and neither absent nor what holds others.
+pub fn is_node(node: &Node) -> bool
     ensures { result ≡ is_it_a_node node.now }
 {
     !matches!(
@@ -73,46 +73,24 @@ fn is_node(node: &Node) -> bool
     )
 }
 
-// Whether it stands for the nodes of ESTree that it holds.
-fn is_holder(node: &Node) -> bool
+/// Whether it stands for the nodes of ESTree that it holds.
+pub fn is_holder(node: &Node) -> bool
     ensures { result ≡ holds_others node.now }
 {
     matches!(node.shape(), Shape::Listed | Shape::InnerExpression)
 }
 
-// Whether a search that begins there passes by all indices below this one.
-fn is_passed(from: &[u32], end: u32) -> bool
-    ensures { from.now ≡ [] → result ≡ false }
-{
-    match from.split_first() {
-        Some((first, _)) => end <= *first,
-        None => false,
-    }
-}
-
-// Where it begins in the node of this index.
-fn from_in(from: &[u32], index: u32) -> &[u32]
-    ensures { from.now ≡ [] → result.now ≡ [] }
-{
-    match from.split_first() {
-        Some((first, rest)) if *first == index => rest,
-        _ => &from[..0],
-    }
-}
-
-/// A row and a path from a node on at which it has a step. The search begins at a path; where that
-/// one is empty, None comes only where there is no step.
+/// A row and a path from a node on at which it has a step; None only where there is no step.
 #[cycle(seeking)]
 pub fn seek<S: Seeking>(
     rows: &S,
     alloc: Global,
     node: &Node,
     place: Position,
-    from: &[u32],
 ) -> Result<Option<Found>, OutOfMemory>
-    ensures { IfOk result (Sought (S.makes rows.now) place node.now from.now) }
+    ensures { IfOk result (Sought (S.makes rows.now) place node.now) }
 {
-    match seek_below(rows, alloc, node, place, 0, from)? {
+    match seek_below(rows, alloc, node, place, 0)? {
         Some(found) => Ok(Some(found)),
         None => seek_own(rows, alloc, node, place),
     }
@@ -144,16 +122,15 @@ fn seek_below<S: Seeking>(
     node: &Node,
     place: Position,
     base: u32,
-    from: &[u32],
 ) -> Result<Option<Found>, OutOfMemory>
-    ensures { IfOk result (SoughtBelow (S.makes rows.now) place node.now base from.now) }
+    ensures { IfOk result (SoughtBelow (S.makes rows.now) place node.now base) }
 {
     let mut first = 0;
     for at in 0..node.children().len() {
         let width = width_of(node.child(at))?;
         let end = sum(first, width)?;
         let spot = Spot { at, first, end };
-        match seek_at(rows, alloc, node, place, base, spot, from)? {
+        match seek_at(rows, alloc, node, place, base, spot)? {
             Some(found) => return Ok(Some(found)),
             None => first = end,
         }
@@ -170,19 +147,15 @@ fn seek_at<S: Seeking>(
     place: Position,
     base: u32,
     spot: Spot,
-    from: &[u32],
 ) -> Result<Option<Found>, OutOfMemory>
     requires within { spot.at < count (children node.now) }
     requires first { spot.first ≡ before (children node.now) spot.at }
     requires end { spot.end ≡ spot.first + width (child node.now spot.at) }
-    ensures { IfOk result (SoughtAt (S.makes rows.now) place node.now base spot.at from.now) }
+    ensures { IfOk result (SoughtAt (S.makes rows.now) place node.now base spot.at) }
 {
-    if is_passed(from, sum(base, spot.end)?) {
-        return Ok(None);
-    }
     let stands = child_place(node.shape(), place, node.children().len(), spot.at);
     let index = sum(base, spot.first)?;
-    match seek_in(rows, alloc, node.child(spot.at), stands, index, from)? {
+    match seek_in(rows, alloc, node.child(spot.at), stands, index)? {
         Some(found) => Ok(Some(found)),
         None => seek_between(rows, alloc, node, place, base, spot),
     }
@@ -196,15 +169,14 @@ fn seek_in<S: Seeking>(
     node: &Node,
     place: Position,
     index: u32,
-    from: &[u32],
 ) -> Result<Option<Found>, OutOfMemory>
-    ensures { IfOk result (SoughtIn (S.makes rows.now) place node.now index from.now) }
+    ensures { IfOk result (SoughtIn (S.makes rows.now) place node.now index) }
 {
     if is_node(node) {
-        let found = seek(rows, alloc, node, place, from_in(from, index))?;
+        let found = seek(rows, alloc, node, place)?;
         go_on(found, index)
     } else if is_holder(node) {
-        seek_below(rows, alloc, node, place, index, from)
+        seek_below(rows, alloc, node, place, index)
     } else {
         Ok(None)
     }

@@ -29,8 +29,9 @@ pub fn width_of(node: &Node) -> Result<u32, OutOfMemory>
     }
 }
 
+/// The number of some nodes together.
 #[cycle(widths)]
-fn widths_of(nodes: &Nodes) -> Result<u32, OutOfMemory>
+pub fn widths_of(nodes: &Nodes) -> Result<u32, OutOfMemory>
     ensures { IfOk result (λ number. number ≡ count (spread nodes.now)) }
 {
     let mut total = 0;

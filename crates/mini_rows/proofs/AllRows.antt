@@ -35,6 +35,7 @@ use Rattle.mini_rows.specs.Unused.{UnusedContracts}
 use Rattle.mini_rows.specs.Names.{NameContracts}
 use Rattle.mini_rows.specs.Catches.{CatchContracts}
 use Rattle.mini_rows.specs.Writes.{WriteContracts}
+use Rattle.mini_rows.specs.Editions.{CatchesIn, WritesIn}
 use Rattle.mini_rows.specs.Lets.{LetContracts}
 use Rattle.mini_rows.specs.Redex.{Row, Contracts, Rewrites, AsTest, AsSpelling, AsBranch, AsList, AsKey, AsChoice, AsDeclaration, AsFolding, AsTurn, AsArrow, AsConstant, AsHeldKey, AsBoolean, AsDeMorgan, AsSequence, AsOperand, AsNegation, AsTemplate, AsLoopGuard}
 use Rattle.mini_rows.proofs.SpellKeyLawful as keys
@@ -187,7 +188,7 @@ module _ (o : Switches) where
   by_row p n w (AsBranch r) l = inr (inr (inl (record { row = r; lighter = l })))
   by_row p n w (AsList r) l = inr (inr (inr (inl (record { row = r; lighter = l }))))
   by_row p n w (AsKey r) l = inr (inr (inr (inr (inl (record { row = r; lighter = l })))))
-  by_row p n w (AsChoice r) l = inr (inr (inr (inr (inr (inl (record { row = r; lighter = l }))))))
+  by_row p n w (AsChoice r e) l = inr (inr (inr (inr (inr (inl (record { row = r; lighter = l }))))))
   by_row p n w (AsDeclaration r) l = inr (inr (inr (inr (inr (inr (inl (record { row = r; lighter = l })))))))
   by_row p n w (AsFolding r) l = inr (inr (inr (inr (inr (inr (inr (inl (record { row = r; lighter = l }))))))))
   by_row p n w (AsTurn r) l = inr (inr (inr (inr (inr (inr (inr (inr (inl (record { row = r; lighter = l })))))))))
@@ -212,11 +213,17 @@ module _ (o : Switches) where
   contracts_loose K = loose_narrowed (Contracts o) Families K nothing by_family (families_loose K)
 
   module _ (W : VariableSet) where
+    abbrev Caught : Position → Tree → Tree → Type 0
+    Caught = CatchesIn o.edition
+
+    abbrev Assigned : Position → Tree → Tree → Type 0
+    Assigned = WritesIn o.edition W
+
     abbrev Written : Position → Tree → Tree → Type 0
-    Written p n w = WriteContracts W p n w ⊎ LetContracts W p n w
+    Written p n w = Assigned p n w ⊎ LetContracts W p n w
 
     abbrev Named : Position → Tree → Tree → Type 0
-    Named p n w = CatchContracts p n w ⊎ Written p n w
+    Named p n w = Caught p n w ⊎ Written p n w
 
     abbrev Dropping : Position → Tree → Tree → Type 0
     Dropping p n w = NameContracts o p n w ⊎ Named p n w
@@ -233,5 +240,5 @@ module _ (o : Switches) where
         loose_join (Contracts o) Going (let_go o) W (wider (Contracts o) (contracts_loose (let_go o)))
         (loose_join (UnusedContracts (liberties o W)) Dropping (let_go o) W (unused_loose (let_go o) (liberties o W))
         (loose_join (NameContracts o) Named (let_go o) W (wider (NameContracts o) (names_lawful o))
-        (loose_join CatchContracts Written (let_go o) W (wider CatchContracts (catches_lawful (let_go o)))
-        (loose_join (WriteContracts W) (LetContracts W) (let_go o) W (writes_lawful (let_go o) W) (lets_lawful (let_go o) W)))))
+        (loose_join Caught Written (let_go o) W (loose_narrowed Caught CatchContracts (let_go o) W (λ p n w c. c.0) (wider CatchContracts (catches_lawful (let_go o))))
+        (loose_join Assigned (LetContracts W) (let_go o) W (loose_narrowed Assigned (WriteContracts W) (let_go o) W (λ p n w c. c.0) (writes_lawful (let_go o) W)) (lets_lawful (let_go o) W)))))

@@ -322,3 +322,5 @@ pub mod NextEnds
 pub mod InsideMeaning
 pub mod InsideLawful
 pub mod InsideWeights
+pub mod OwnNarrowed
+pub mod Latest

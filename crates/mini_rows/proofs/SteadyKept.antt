@@ -31,6 +31,7 @@ use Rattle.mini_rows.specs.Idle.{IdleRow, IdleStatement}
 use Rattle.mini_rows.specs.Members.{Object, OfThis, OfName, is_kept, begins_at, is_ready, Index, Written, Held, is_kept_index, is_ready_index, MemberRow}
 use Rattle.mini_rows.specs.Past.{leaves}
 use Rattle.mini_rows.specs.Still.{StillRow}
+use Rattle.mini_rows.specs.Editions.{SteadyIn, SteadyRowsIn}
 use Rattle.mini_rows.specs.Steady.{bindings, AroundAt, PropertyAt, SteadyRow, KeepsOwn, ReadsMore, SteadyMeansSame, SteadyLightens}
 use Rattle.mini_rows.specs.Unused.{resolved}
 use Rattle.mini_rows.proofs.FadingSteps.{same_fades}
@@ -205,3 +206,17 @@ steady_more V X holds (Expr s) n w (inr (inl r)) = inr (inl (idle_more V X holds
 steady_more V X holds (Expr s) n w (inr (inr r)) = inr (inr (stills_more V X holds s n w r))
 steady_more V X holds (Stmt q) n w r = statement_more V X holds n w r
 steady_more V X holds p n w r = absurd r
+
+-- so do the rows that an edition has
+steady_in_more : (e : ℕ) (V : Assured) (X : VariableSet) (holds : (x : Variable) → V.initial x ≡ true → X x ≡ true) (p : Position) (n w : Tree) (r : SteadyRow V p n w) → SteadyIn e V p n w r → SteadyIn e (record V { initial = X }) p n w (steady_more V X holds p n w r)
+unfolding steady_more member_more
+steady_in_more e V X holds (Expr s) n w (inl (inl r)) a = a
+steady_in_more e V X holds (Expr s) n w (inl (inr (inl r))) a = a
+steady_in_more e V X holds (Expr s) n w (inl (inr (inr (inl r)))) a = tt
+steady_in_more e V X holds (Expr s) n w (inl (inr (inr (inr r)))) a = tt
+steady_in_more e V X holds (Expr s) n w (inr (inl r)) a = tt
+steady_in_more e V X holds (Expr s) n w (inr (inr r)) a = tt
+steady_in_more e V X holds p n w r a = tt
+
+pub steady_rows_more : (e : ℕ) → ReadsMore (SteadyRowsIn e)
+steady_rows_more e V X holds p n w r = (steady_more V X holds p n w r.0, steady_in_more e V X holds p n w r.0 r.1)

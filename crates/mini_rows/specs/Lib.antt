@@ -1,3 +1,4 @@
+pub mod Forms
 pub mod Switches
 pub mod Spellings
 pub mod SpellKeys
@@ -13,7 +14,6 @@ pub mod Turns
 pub mod Arrows
 pub mod Sketches
 pub mod Arranged
-pub mod Redex
 pub mod Chains
 pub mod ChainLinks
 pub mod ChainEnds
@@ -53,3 +53,5 @@ pub mod DeadLexicals
 pub mod Lets
 pub mod Fading
 pub mod Lexical
+pub mod Editions
+pub mod Redex

@@ -29,8 +29,7 @@ use Rattle.mini_rows.specs.Sequences.{SequenceRow}
 use Rattle.mini_rows.specs.Operands.{OperandRow}
 use Rattle.mini_rows.specs.Unused.{UnusedContracts}
 use Rattle.mini_rows.specs.Names.{NameContracts}
-use Rattle.mini_rows.specs.Catches.{CatchContracts}
-use Rattle.mini_rows.specs.Writes.{WriteContracts}
+use Rattle.mini_rows.specs.Editions.{ChoiceIn, CatchesIn, WritesIn}
 use Rattle.mini_rows.specs.Lets.{LetContracts}
 use Rattle.mini_rows.specs.Negations.{NegationRow}
 use Rattle.mini_rows.specs.Templates.{TemplateRow}
@@ -41,14 +40,15 @@ use Rattle.mini_rows.specs.LoopGuards.{LoopGuardRow}
 -- of declarations, of what is known, of tests that are turned, of arrow functions, of constants, of
 -- the keys of patterns and classes, of booleans, of De Morgan's laws, of sequences, of operands
 -- whose value is known, of negations that reach into the operand, of templates, or of guards in the
--- bodies of loops
+-- bodies of loops. Where what a row writes is of a form newer than the edition of 2015, the edition
+-- that is asked for has that form
 pub data Row (o : Switches) (p : Position) (n w : Tree) : Type 0 where
   AsTest : first.Row p n w → Row o p n w
   AsSpelling : SpellingRow p n w → Row o p n w
   AsBranch : BranchRow p n w → Row o p n w
   AsList : ListRow o p n w → Row o p n w
   AsKey : KeyRow p n w → Row o p n w
-  AsChoice : ChoiceRow p n w → Row o p n w
+  AsChoice : (r : ChoiceRow p n w) → ChoiceIn o.edition p n w r → Row o p n w
   AsDeclaration : DeclarationRow p n w → Row o p n w
   AsFolding : FoldingRow p n w → Row o p n w
   AsTurn : TurnRow p n w → Row o p n w
@@ -71,7 +71,7 @@ pub record Contracts (o : Switches) (p : Position) (n w : Tree) : Type 0 where
 -- or what one of a name that nothing mentions writes, which goes, or one of a name that can be
 -- written, a `let` with an assignment after it among them. W has those variables
 abbrev pub Rewrites : Switches → VariableSet → Position → Tree → Tree → Type 0
-Rewrites o W p n w = Contracts o p n w ⊎ (UnusedContracts (liberties o W) p n w ⊎ (NameContracts o p n w ⊎ (CatchContracts p n w ⊎ (WriteContracts W p n w ⊎ LetContracts W p n w))))
+Rewrites o W p n w = Contracts o p n w ⊎ (UnusedContracts (liberties o W) p n w ⊎ (NameContracts o p n w ⊎ (CatchesIn o.edition p n w ⊎ (WritesIn o.edition W p n w ⊎ LetContracts W p n w))))
 
 -- a redex in its place
 pub record Redex (o : Switches) (W : VariableSet) (p : Position) (n : Tree) : Type 0 where

@@ -1,5 +1,5 @@
 -- Which rewrites the options let happen.
-use Rattle.std.specs.Prelude.{Bool}
+use Rattle.std.specs.Prelude.{ℕ, Bool}
 use Rattle.mini_model.specs.declared.shape.Shape.{Shape}
 use Rattle.mini_laws.specs.Value.{VariableSet, nothing}
 use Rattle.mini_kept.specs.ShownFrames.{loses_name}
@@ -13,6 +13,12 @@ pub record Switches : Type 0 where
   -- expressions
   pub keep_function_names : Bool
   pub keep_class_names : Bool
+  -- the edition of ECMA-262, as a year, of which no newer form is written
+  pub edition : ℕ
+
+-- where a form of every edition may be written
+abbrev pub of_every_edition : Switches → Switches
+of_every_edition o = record o { edition = 2022 }
 
 -- which functions and classes may lose their own name
 abbrev pub let_go : Switches → Shape → Bool

@@ -69,7 +69,7 @@ pub use past::{
     past_steady_names_run_alike,
 };
 pub use programs::{own_programs_are_lawful, own_programs_lighten};
-pub use redexes::rows_are_lawful;
+pub use redexes::{latest_edition_has_each_row, rows_are_lawful};
 pub use sequences::{sequences_are_lawful, sequences_are_lighter, sequences_mean_the_same};
 pub use steady::{
     own_code_is_lawful, own_code_lightens, rows_read_more, steady_functions_are_lawful,

@@ -1,7 +1,9 @@
 //! The rows that rest on it that names are steady.
 
+ghost use Rattle.std.specs.Prelude.{ℕ};
+ghost use Rattle.mini_rows.specs.Editions.{SteadyRowsIn};
 ghost use Rattle.mini_rows.specs.OwnArrows.{LexicalCodeIsLawful, LexicalCodeLightens, SteadyCodeIsLawful, SteadyCodeLightens};
-ghost use Rattle.mini_rows.specs.Steady.{LexicalRows, ReadsMore, SteadyFunctionsAreLawful, SteadyFunctionsLighten, SteadyLightens, SteadyMeansSame, SteadyRow};
+ghost use Rattle.mini_rows.specs.Steady.{LexicalRows, ReadsMore, SteadyFunctionsAreLawful, SteadyFunctionsLighten, SteadyLightens, SteadyMeansSame};
 
 /// What each row of steady names writes means the same wherever the expression stands, in any
 /// environment in which no answer changes the variables that are steady, and from each state in
@@ -20,7 +22,7 @@ pub fn steady_names_lighten()
 /// What the rows of steady and of lexical names read, they read also where more variables are known
 /// to have values.
 pub fn rows_read_more()
-    ensures members { ReadsMore SteadyRow }
+    ensures members { (edition : ℕ) → ReadsMore (SteadyRowsIn edition) }
     ensures lexical { ReadsMore LexicalRows }
 {}
 

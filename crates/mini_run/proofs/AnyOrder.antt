@@ -75,7 +75,7 @@ module _ (c d : Choice) (es : List Choice) where
   allowed-swapped (b ∷ bs) all = (all.0, allowed-swapped bs all.1)
 
   ordered-swapped : (apart : option_of c ≢ option_of d) (bs : List Choice) → ordered (bs ++ c ∷ d ∷ es) ≡ ordered (bs ++ d ∷ c ∷ es)
-  ordered-swapped apart bs = rw (named-swapped apart 0 bs, named-swapped apart 1 bs, named-swapped apart 2 bs, named-swapped apart 3 bs, named-swapped apart 4 bs, named-swapped apart 5 bs, named-swapped apart 6 bs, named-swapped apart 7 bs, named-swapped apart 8 bs) refl
+  ordered-swapped apart bs = rw (named-swapped apart 0 bs, named-swapped apart 1 bs, named-swapped apart 2 bs, named-swapped apart 3 bs, named-swapped apart 4 bs, named-swapped apart 5 bs, named-swapped apart 6 bs, named-swapped apart 7 bs, named-swapped apart 8 bs, named-swapped apart 9 bs) refl
 
   swapped : (bs : List Choice) (words words' : List (List ℕ)) (r : Orders) → words' ≡ map spelling (bs ++ d ∷ c ∷ es) → Spell words (bs ++ c ∷ d ∷ es) → r ≡ ordered (bs ++ c ∷ d ∷ es) → NameOrders words' r
   swapped bs words words' r spelled s is =

@@ -5,3 +5,4 @@ pub mod Named
 pub mod Reading
 pub mod Sizes
 pub mod Spelled
+pub mod Taken

@@ -41,6 +41,20 @@ few_named : (cs : List Choice) → AllByRecursion IsAllowed cs → IfSome (named
 few_named [] all = tt
 few_named (c ∷ cs) all = one_named (option_of c == 8) c (named 8 cs) (small_choice c all.0) (few_named cs all.1)
 
+-- and no later edition
+
+year_choice : (c : Choice) → IsAllowed c → (option_of c == 9) ≡ true → number_of c ≤ 2022
+year_choice (choice.Edition n) small e = small.1
+year_choice c small e = absurd (cc e)
+
+year_named : (b : Bool) (c : Choice) (o : Option ℕ) → (b ≡ true → number_of c ≤ 2022) → IfSome o (λ n. n ≤ 2022) → IfSome (if b then Some (number_of c) else o) (λ n. n ≤ 2022)
+year_named true c o small rest = small refl
+year_named false c o small rest = rest
+
+pub no_later : (cs : List Choice) → AllByRecursion IsAllowed cs → IfSome (named 9 cs) (λ n. n ≤ 2022)
+no_later [] all = tt
+no_later (c ∷ cs) all = year_named (option_of c == 9) c (named 9 cs) (year_choice c all.0) (no_later cs all.1)
+
 pub few_ordered : (words : List (List ℕ)) (r : Orders) → NameOrders words r → IfSome r.generate (λ n. n ≤ 2000)
 few_ordered words r (cs, s, is) = subst (λ r. IfSome r.generate (λ n. n ≤ 2000)) (sym is) (few_named cs s.allowed)
 

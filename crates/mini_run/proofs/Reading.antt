@@ -6,11 +6,11 @@ use Rattle.std.proofs.lemmas.Bool.{eqb-false, eq-eqb, ne_eqb}
 use Rattle.std.proofs.lemmas.Bool.Decides.{eqb_tells}
 use Rattle.std.proofs.lemmas.List.{get_or-set_same, get_or-set_other, map-append, take_more, length-map}
 use Rattle.mini_run.specs.declared.choice.Choice.{Choice}
-use Rattle.mini_run.specs.declared.choice.Choice.TheVariants.{NoSequences, NoJoinVars, KeepFunctionNames, KeepClassNames, PureCoercion, KnownCalls, Passes, MaxDepth, Generate}
+use Rattle.mini_run.specs.declared.choice.Choice.TheVariants.{NoSequences, NoJoinVars, KeepFunctionNames, KeepClassNames, PureCoercion, KnownCalls, Passes, MaxDepth, Generate, Edition}
 use Rattle.mini_run.specs.Words.{spelling, option_of, number_of, named, IsAllowed, IsOnce, Spell, GoodWords}
 use Rattle.mini_run.proofs.Spelled.{spelling_tells}
 
-pub option_small : (c : Choice) → option_of c < 9
+pub option_small : (c : Choice) → option_of c < 10
 option_small NoSequences = omega arith
 option_small NoJoinVars = omega arith
 option_small KeepFunctionNames = omega arith
@@ -20,6 +20,7 @@ option_small KnownCalls = omega arith
 option_small (Passes n) = omega arith
 option_small (MaxDepth n) = omega arith
 option_small (Generate n) = omega arith
+option_small (Edition n) = omega arith
 
 -- ---- one more choice
 
@@ -50,17 +51,17 @@ allowed_more (d ∷ ds) c all small = (all.0, allowed_more ds c all.1 small)
 -- ---- what is known of the words that were read: their choices, and each option's number
 
 abbrev pub IsRead : List (List ℕ) → List (Option ℕ) → Type 0
-IsRead words slots = (cs : List Choice) × Spell words cs × ((k : ℕ) → k < 9 → get_or slots k None ≡ named k cs)
+IsRead words slots = (cs : List Choice) × Spell words cs × ((k : ℕ) → k < 10 → get_or slots k None ≡ named k cs)
 
 none_at : (n k : ℕ) → get_or {A = Option ℕ} (replicate n None) k None ≡ None
 none_at zero k = refl
 none_at (suc n) zero = refl
 none_at (suc n) (suc k) = none_at n k
 
-pub start : IsRead [] (replicate 9 None)
-start = ([], record { spelled = refl; allowed = tt; once = tt }, λ k below. none_at 9 k)
+pub start : IsRead [] (replicate 10 None)
+start = ([], record { spelled = refl; allowed = tt; once = tt }, λ k below. none_at 10 k)
 
-pub next : (words : List (List ℕ)) (slots : List (Option ℕ)) (w : List ℕ) (c : Choice) → IsRead words slots → IsAllowed c → w ≡ spelling c → length slots ≡ 9 → get_or slots (option_of c) None ≡ None → IsRead (words ++ w ∷ []) (set slots (option_of c) (Some (number_of c)))
+pub next : (words : List (List ℕ)) (slots : List (Option ℕ)) (w : List ℕ) (c : Choice) → IsRead words slots → IsAllowed c → w ≡ spelling c → length slots ≡ 10 → get_or slots (option_of c) None ≡ None → IsRead (words ++ w ∷ []) (set slots (option_of c) (Some (number_of c)))
 next words slots w c (cs, s, at) small is long free =
     let none : named (option_of c) cs ≡ None = sym (at (option_of c) (option_small c)) ∙ free in (
       cs ++ c ∷ [],

@@ -8,7 +8,7 @@ use Rattle.std.proofs.lemmas.List.{append_cancel_left}
 use Rattle.std.proofs.lemmas.Result.{OkIff-at_ok}
 use Rattle.std.proofs.lemmas.Str.Parse.{numerals_by_value, tells_by_index, digit_at, parse_plain}
 use Rattle.mini_run.specs.declared.choice.Choice.{Choice}
-use Rattle.mini_run.specs.declared.choice.Choice.TheVariants.{NoSequences, NoJoinVars, KeepFunctionNames, KeepClassNames, PureCoercion, KnownCalls, Passes, MaxDepth, Generate}
+use Rattle.mini_run.specs.declared.choice.Choice.TheVariants.{NoSequences, NoJoinVars, KeepFunctionNames, KeepClassNames, PureCoercion, KnownCalls, Passes, MaxDepth, Generate, Edition}
 use Rattle.mini_run.specs.Words.{spelling, IsAllowed, HasNumber}
 
 -- ---- the digits of a number
@@ -50,6 +50,9 @@ depth_one w m n is small is' small' = decimal_injective m n (omega arith) (omega
 pub count_one : (w : List ℕ) (m n : ℕ) → w ≡ codes "--generate=" ++ decimal m → m < 2 ^ 32 → w ≡ codes "--generate=" ++ decimal n → n ≤ 2000 → m ≡ n
 count_one w m n is small is' small' = decimal_injective m n (omega arith) (omega arith) (append_cancel_left (codes "--generate=") _ _ (sym is ∙ is'))
 
+pub edition_one : (w : List ℕ) (m n : ℕ) → w ≡ codes "--edition=" ++ decimal m → m < 2 ^ 32 → w ≡ codes "--edition=" ++ decimal n → n ≤ 2022 → m ≡ n
+edition_one w m n is small is' small' = decimal_injective m n (omega arith) (omega arith) (append_cancel_left (codes "--edition=") _ _ (sym is ∙ is'))
+
 -- ---- two choices aren't spelled alike
 
 by_mark : List ℕ → ℕ → Choice
@@ -62,7 +65,8 @@ by_mark w m =
     else (if m == 152 then KnownCalls
     else (if m == 227 then Passes (digits_value 10 (drop 9 w))
     else (if m == 200 then Generate (digits_value 10 (drop 11 w))
-    else MaxDepth (digits_value 10 (drop 12 w)))))))))
+    else (if m == 212 then Edition (digits_value 10 (drop 10 w))
+    else MaxDepth (digits_value 10 (drop 12 w))))))))))
 
 -- by two of its letters, and the number at its end
 choice_in : List ℕ → Choice
@@ -79,6 +83,7 @@ comes_back KnownCalls small = refl
 comes_back (Passes n) small = ap Passes (decimal_is_IsNumeral n (omega arith)).1
 comes_back (MaxDepth n) small = let below = small.1 in ap MaxDepth (decimal_is_IsNumeral n (omega arith)).1
 comes_back (Generate n) small = ap Generate (decimal_is_IsNumeral n (omega arith)).1
+comes_back (Edition n) small = let below = small.1 in ap Edition (decimal_is_IsNumeral n (omega arith)).1
 
 pub spelling_tells : (c d : Choice) → IsAllowed c → IsAllowed d → spelling c ≡ spelling d → c ≡ d
 spelling_tells c d small small' is = sym (comes_back c small) ∙ ap choice_in is ∙ comes_back d small'
@@ -95,14 +100,16 @@ none_of w sequences join function class pure calls others KnownCalls small = cal
 none_of w sequences join function class pure calls others (Passes n) small = others (Passes n) small tt
 none_of w sequences join function class pure calls others (MaxDepth n) small = others (MaxDepth n) small tt
 none_of w sequences join function class pure calls others (Generate n) small = others (Generate n) small tt
+none_of w sequences join function class pure calls others (Edition n) small = others (Edition n) small tt
 
-pub none_numbered : (w : List ℕ) → ((n : ℕ) → n < 2 ^ 32 → w ≢ codes "--passes=" ++ decimal n) → ((n : ℕ) → 1 ≤ n → n ≤ 1000 → w ≢ codes "--max-depth=" ++ decimal n) → ((n : ℕ) → n ≤ 2000 → w ≢ codes "--generate=" ++ decimal n) → (c : Choice) → IsAllowed c → HasNumber c → w ≢ spelling c
-none_numbered w passes depth count NoSequences small has = absurd has
-none_numbered w passes depth count NoJoinVars small has = absurd has
-none_numbered w passes depth count KeepFunctionNames small has = absurd has
-none_numbered w passes depth count KeepClassNames small has = absurd has
-none_numbered w passes depth count PureCoercion small has = absurd has
-none_numbered w passes depth count KnownCalls small has = absurd has
-none_numbered w passes depth count (Passes n) small has = passes n small
-none_numbered w passes depth count (MaxDepth n) small has = depth n small.0 small.1
-none_numbered w passes depth count (Generate n) small has = count n small
+pub none_numbered : (w : List ℕ) → ((n : ℕ) → n < 2 ^ 32 → w ≢ codes "--passes=" ++ decimal n) → ((n : ℕ) → 1 ≤ n → n ≤ 1000 → w ≢ codes "--max-depth=" ++ decimal n) → ((n : ℕ) → n ≤ 2000 → w ≢ codes "--generate=" ++ decimal n) → ((n : ℕ) → 2015 ≤ n → n ≤ 2022 → w ≢ codes "--edition=" ++ decimal n) → (c : Choice) → IsAllowed c → HasNumber c → w ≢ spelling c
+none_numbered w passes depth count edition NoSequences small has = absurd has
+none_numbered w passes depth count edition NoJoinVars small has = absurd has
+none_numbered w passes depth count edition KeepFunctionNames small has = absurd has
+none_numbered w passes depth count edition KeepClassNames small has = absurd has
+none_numbered w passes depth count edition PureCoercion small has = absurd has
+none_numbered w passes depth count edition KnownCalls small has = absurd has
+none_numbered w passes depth count edition (Passes n) small has = passes n small
+none_numbered w passes depth count edition (MaxDepth n) small has = depth n small.0 small.1
+none_numbered w passes depth count edition (Generate n) small has = count n small
+none_numbered w passes depth count edition (Edition n) small has = edition n small.0 small.1

@@ -1,7 +1,8 @@
 // What a word of the command line chooses.
 
-ghost use Rattle.std.specs.Prelude.{◌≡◌, ◌≢◌, ◌<◌, ◌≤◌, ◌^◌, ◌++◌, ℕ, List, None, get_or, codes, MatchOption};
+ghost use Rattle.std.specs.Prelude.{◌≡◌, ◌≢◌, ◌<◌, ◌≤◌, ◌^◌, ◌++◌, ℕ, List, None, get_or, unwrap_or, codes, IfSome, MatchOption};
 ghost use Rattle.std.specs.Fmt.{decimal};
+ghost use Rattle.mini_tree.specs.Options.{default_options};
 ghost use Rattle.mini_run.specs.Words.{spelling, option_of, number_of, named, chosen, ordered, IsAllowed, HasNumber, GoodWords, NameOptions, NameOrders};
 ghost use Rattle.mini_run.specs.declared.choice.Choice.{Choice};
 
@@ -29,6 +30,8 @@ pub enum Choice {
     MaxDepth(u32),
     /// `--generate=N`
     Generate(u32),
+    /// `--edition=N`
+    Edition(u32),
 }
 
 /// The orders that good words give.
@@ -55,6 +58,7 @@ impl Choice {
             Choice::Passes(_) => 6,
             Choice::MaxDepth(_) => 7,
             Choice::Generate(_) => 8,
+            Choice::Edition(_) => 9,
         }
     }
 
@@ -72,6 +76,7 @@ impl Choice {
             Choice::Passes(number) => *number,
             Choice::MaxDepth(number) => *number,
             Choice::Generate(number) => *number,
+            Choice::Edition(number) => *number,
         }
     }
 }
@@ -124,6 +129,16 @@ fn read_count(word: &str) -> Option<u32>
     }
 }
 
+// The edition that the word names, as a year.
+fn read_edition(word: &str) -> Option<u32>
+    ensures { MatchOption result ((n : ℕ) → 2015 ≤ n → n ≤ 2022 → word.now ≢ codes "--edition=" ++ decimal n) (λ n. (2015 ≤ n) × (n ≤ 2022) × (word.now ≡ codes "--edition=" ++ decimal n)) }
+{
+    match number_after(word, "--edition=")? {
+        edition @ 2_015..=2_022 => Some(edition),
+        _ => None,
+    }
+}
+
 // What a word with a number chooses.
 fn read_numbered(word: &str) -> Option<Choice>
     ensures { MatchOption result ((c : Choice) → IsAllowed c → HasNumber c → word.now ≢ spelling c) (λ c. IsAllowed c × (word.now ≡ spelling c)) }
@@ -134,7 +149,10 @@ fn read_numbered(word: &str) -> Option<Choice>
             Some(depth) => Some(Choice::MaxDepth(depth)),
             None => match read_count(word) {
                 Some(count) => Some(Choice::Generate(count)),
-                None => None,
+                None => match read_edition(word) {
+                    Some(edition) => Some(Choice::Edition(edition)),
+                    None => None,
+                },
             },
         },
     }
@@ -155,9 +173,21 @@ pub fn read_choice(word: &str) -> Option<Choice>
     }
 }
 
+// The edition that was chosen, or the one without words.
+fn edition_of(year: Option<u32>) -> u16
+    requires { IfSome year (λ n. n ≤ 2022) }
+    ensures { result ≡ unwrap_or year default_options.edition }
+{
+    match year {
+        Some(year) => year as u16,
+        None => CompressOptions::new().edition,
+    }
+}
+
 // The options, by the number that was chosen for each; None for one that wasn't chosen.
-fn options_of(slots: &[Option<u32>; 9]) -> CompressOptions
-    ensures { (cs : List Choice) → ((k : ℕ) → k < 9 → get_or slots.now k None ≡ named k cs) → result ≡ chosen cs }
+fn options_of(slots: &[Option<u32>; 10]) -> CompressOptions
+    requires { IfSome (get_or slots.now 9 None) (λ n. n ≤ 2022) }
+    ensures { (cs : List Choice) → ((k : ℕ) → k < 10 → get_or slots.now k None ≡ named k cs) → result ≡ chosen cs }
 {
     let defaults = CompressOptions::new();
     CompressOptions {
@@ -171,11 +201,13 @@ fn options_of(slots: &[Option<u32>; 9]) -> CompressOptions
         known_calls: slots[5].is_some(),
         passes: slots[6].unwrap_or(defaults.passes),
         max_depth: slots[7].unwrap_or(defaults.max_depth),
+        edition: edition_of(slots[9]),
     }
 }
 
-fn orders_of(slots: &[Option<u32>; 9]) -> Orders
-    ensures { (cs : List Choice) → ((k : ℕ) → k < 9 → get_or slots.now k None ≡ named k cs) → result ≡ ordered cs }
+fn orders_of(slots: &[Option<u32>; 10]) -> Orders
+    requires { IfSome (get_or slots.now 9 None) (λ n. n ≤ 2022) }
+    ensures { (cs : List Choice) → ((k : ℕ) → k < 10 → get_or slots.now k None ≡ named k cs) → result ≡ ordered cs }
 {
     Orders {
         options: options_of(slots),
@@ -188,7 +220,7 @@ fn orders_of(slots: &[Option<u32>; 9]) -> Orders
 pub fn read_orders(words: &Words) -> Option<Orders>
     ensures { MatchOption result (GoodWords words.now → ⊥) (NameOrders words.now) }
 {
-    let mut slots: [Option<u32>; 9] = [None; 9];
+    let mut slots: [Option<u32>; 10] = [None; 10];
     'words: for word in words.as_slice() {
         let choice = read_choice(word.as_str())?;
         let option = choice.option();

@@ -1,8 +1,29 @@
-ghost use Rattle.std.specs.Prelude.{◌≡◌, ◌∷◌, ◌++◌, [], length, map, string_bytes, OnOk, OnErr};
+ghost use Rattle.std.specs.Prelude.{◌≡◌, ◌≢◌, ◌↔◌, ◌<◌, ◌+◌, ◌∷◌, ◌++◌, ℕ, [], length, map, get_or, string_bytes, IsTrue, MatchOption, OnOk, OnErr};
+ghost use Rattle.mini_run.specs.Words.{Taken};
 
 use mini_model::OutOfMemory;
 use std::alloc::Global;
 use std::marker::Model;
+
+fn is_same(one: &str, other: &str) -> bool
+    ensures { IsTrue result ↔ (one.now ≡ other.now) }
+{
+    one == other
+}
+
+// The first place of a word.
+fn place_of(words: &[String], word: &str) -> Option<usize>
+    ensures { MatchOption result
+        ((k : ℕ) → k < length words.now → get_or (map string_bytes words.now) k [] ≢ word.now)
+        (λ i. (i < length words.now) × (get_or (map string_bytes words.now) i [] ≡ word.now) × ((k : ℕ) → k < i → get_or (map string_bytes words.now) k [] ≢ word.now)) }
+{
+    'words: for (at, each) in words.iter().enumerate() {
+        if is_same(each.as_str(), word) {
+            return Some(at);
+        }
+    }
+    None
+}
 
 /// The words of a command line. A contract sees the list of their bytes.
 #[derive(Drop)]
@@ -41,6 +62,19 @@ impl Words {
                 Err(_) => Err(OutOfMemory),
             },
             Err(_) => Err(OutOfMemory),
+        }
+    }
+
+    /// Takes out the first word that is this one, without memory, and says whether there was one.
+    pub fn take(&mut self, word: &str) -> bool
+        ensures { Taken word.now self.old self.new result }
+    {
+        match place_of(self.words.as_slice(), word) {
+            Some(at) => {
+                self.words.remove(at);
+                true
+            }
+            None => false,
         }
     }
 

@@ -1,5 +1,5 @@
 -- What goes that has no effect where a body has its `this` is what a row says, and where nothing does no row reads the node.
-use Rattle.std.proofs.Common.{◌≡◌, ◌⊎◌, zero, Bool, true, false, Option, Some, None, [], refl, sym, ap, subst, ◌∙◌, inl, inr, true≢false, arith}
+use Rattle.std.proofs.Common.{◌≡◌, ◌⊎◌, ℕ, zero, Bool, true, false, Option, Some, None, [], refl, sym, ap, subst, ◌∙◌, inl, inr, true≢false, arith}
 use Rattle.std.specs.Prelude.{◌&&◌, nat_eq, nat_le, is_some, unwrap_or, if◌then◌else◌}
 use Rattle.std.proofs.lemmas.Bool.{and_parts, false≢true, le-leb, leb-true, eqb-true}
 use Rattle.mini_model.specs.declared.place.Position.TheVariants.{Expr, Stmt}
@@ -17,7 +17,7 @@ use Rattle.mini_held.proofs.PartsGone.{count_with, found, parts_go}
 use Rattle.mini_rows.specs.Idle.{is_still, is_still_part, IdleRow, IdleStatement}
 use Rattle.mini_rows.specs.Lists.{for_loop}
 use Rattle.mini_rows.specs.Sequences.{takes_alone, stays_alone}
-use Rattle.mini_rows.specs.Steady.{SteadyRow}
+use Rattle.mini_rows.specs.Editions.{SteadyRowsIn}
 use Rattle.mini_steady.specs.Chains.{Several, once}
 use Rattle.mini_steady.specs.Idle.{does_nothing, is_for, begins_still, turns_still, headless, turn_written, head_written, statement_written, written_in, is_left, loses_part, Loses, LosesIn}
 use Rattle.mini_steady.specs.Members as members
@@ -87,14 +87,14 @@ chosen_is false x w e = absurd (cc e)
 
 -- at a statement
 
-pub statement_applied : (V : Assured) (q : StmtSeat) (t u : Tree) (b : Bool) → u ≡ unwrap_or (written_in V t) t → b ≡ is_some (written_in V t) → AppliedHere (SteadyRow V) (Stmt q) t u b
-statement_applied V q t u b e f =
-    subst (λ v. AppliedHere (SteadyRow V) (Stmt q) t v b) (sym e)
-    (subst (AppliedHere (SteadyRow V) (Stmt q) t (unwrap_or (written_in V t) t)) (sym f) (go (written_in V t) refl))
+pub statement_applied : (e : ℕ) (V : Assured) (q : StmtSeat) (t u : Tree) (b : Bool) → u ≡ unwrap_or (written_in V t) t → b ≡ is_some (written_in V t) → AppliedHere (SteadyRowsIn e V) (Stmt q) t u b
+statement_applied e V q t u b h f =
+    subst (λ v. AppliedHere (SteadyRowsIn e V) (Stmt q) t v b) (sym h)
+    (subst (AppliedHere (SteadyRowsIn e V) (Stmt q) t (unwrap_or (written_in V t) t)) (sym f) (go (written_in V t) refl))
   where
-    go : (o : Option Tree) → written_in V t ≡ o → AppliedHere (SteadyRow V) (Stmt q) t (unwrap_or o t) (is_some o)
-    go None h = (refl, λ w r. true≢false (sym (chosen V.has_this (statement_written t) (has_it V t w r) (passes V t w r)) ∙ ap is_some h))
-    go (Some w) h = let (has, made) = chosen_is V.has_this (statement_written t) w h in once t w (written_row V t w has made)
+    go : (o : Option Tree) → written_in V t ≡ o → AppliedHere (SteadyRowsIn e V) (Stmt q) t (unwrap_or o t) (is_some o)
+    go None h = (refl, λ w r. true≢false (sym (chosen V.has_this (statement_written t) (has_it V t w r.0) (passes V t w r.0)) ∙ ap is_some h))
+    go (Some w) h = let (has, made) = chosen_is V.has_this (statement_written t) w h in once t w (written_row V t w has made, tt)
 
 -- ---- 21
 
@@ -181,16 +181,16 @@ with_this V s t u false h l = (l.0, λ w r. l.1 V w r)
 
 -- ---- at an expression in its seat
 
-pub member_applied : (V : Assured) (s : Seat) (t u : Tree) → u ≡ unwrap_or (members.written V s t) t → true ≡ is_some (members.written V s t) → AppliedHere (SteadyRow V) (Expr s) t u true
-member_applied V s t u e f = subst (λ v. AppliedHere (SteadyRow V) (Expr s) t v true) (sym e) (go (members.written V s t) refl f)
+pub member_applied : (e : ℕ) (V : Assured) (s : Seat) (t u : Tree) → u ≡ unwrap_or (members.written e V s t) t → true ≡ is_some (members.written e V s t) → AppliedHere (SteadyRowsIn e V) (Expr s) t u true
+member_applied e V s t u h f = subst (λ v. AppliedHere (SteadyRowsIn e V) (Expr s) t v true) (sym h) (go (members.written e V s t) refl f)
   where
-    go : (o : Option Tree) → members.written V s t ≡ o → true ≡ is_some o → AppliedHere (SteadyRow V) (Expr s) t (unwrap_or o t) true
+    go : (o : Option Tree) → members.written e V s t ≡ o → true ≡ is_some o → AppliedHere (SteadyRowsIn e V) (Expr s) t (unwrap_or o t) true
     go None h f = absurd (true≢false f)
-    go (Some w) h f = once t w (inl (members_are_rows V s t w h))
+    go (Some w) h f = let (r, a) = members_are_rows e V s t w h in once t w (inl r, a)
 
-pub idle_applied : (V : Assured) (s : Seat) (t m u : Tree) → m ≡ unwrap_or (members.written V s t) t → false ≡ is_some (members.written V s t) → LosesIn V s m u true → AppliedHere (SteadyRow V) (Expr s) t u true
-idle_applied V s t m u e f l = go (members.written V s t) refl f (subst (λ v. LosesIn V s v u true) e l)
+pub idle_applied : (e : ℕ) (V : Assured) (s : Seat) (t m u : Tree) → m ≡ unwrap_or (members.written e V s t) t → false ≡ is_some (members.written e V s t) → LosesIn V s m u true → AppliedHere (SteadyRowsIn e V) (Expr s) t u true
+idle_applied e V s t m u h f l = go (members.written e V s t) refl f (subst (λ v. LosesIn V s v u true) h l)
   where
-    go : (o : Option Tree) → members.written V s t ≡ o → false ≡ is_some o → LosesIn V s (unwrap_or o t) u true → AppliedHere (SteadyRow V) (Expr s) t u true
-    go None h f l = several_over (IdleRow V s) (SteadyRow V (Expr s)) (λ v. v) (λ v w r. inr (inl r)) t u l
+    go : (o : Option Tree) → members.written e V s t ≡ o → false ≡ is_some o → LosesIn V s (unwrap_or o t) u true → AppliedHere (SteadyRowsIn e V) (Expr s) t u true
+    go None h f l = several_over (IdleRow V s) (SteadyRowsIn e V (Expr s)) (λ v. v) (λ v w r. (inr (inl r), tt)) t u l
     go (Some w) h f l = absurd (true≢false (sym f))

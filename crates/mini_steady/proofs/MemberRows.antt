@@ -1,7 +1,7 @@
 -- What is written of members is what a row says, and where nothing is written no row reads the expression.
-use Rattle.std.proofs.Common.{◌≡◌, ℕ, zero, Bool, true, false, Option, Some, None, List, [], refl, sym, ap, subst, ◌∙◌, inl, inr}
-use Rattle.std.specs.Prelude.{◌&&◌, ◌||◌, not, nat_eq, is_some, unwrap_or, if◌then◌else◌}
-use Rattle.std.proofs.lemmas.Bool.{and_parts, false≢true}
+use Rattle.std.proofs.Common.{◌≡◌, ℕ, ◌≤◌, zero, Bool, true, false, Option, Some, None, List, [], refl, sym, ap, subst, ◌∙◌, inl, inr}
+use Rattle.std.specs.Prelude.{◌&&◌, ◌||◌, not, nat_eq, nat_le, is_some, unwrap_or, if◌then◌else◌}
+use Rattle.std.proofs.lemmas.Bool.{and_parts, false≢true, le-leb, leb-true}
 use Rattle.mini_model.specs.declared.name.Name.{Name}
 use Rattle.mini_model.specs.declared.name.SymbolId.{SymbolId}
 use Rattle.mini_model.specs.declared.operator.AssignmentOperator.{AssignmentOperator}
@@ -21,6 +21,7 @@ use Rattle.mini_node.specs.Equal.{same_tree}
 use Rattle.mini_node.specs.Kinds.{assignment, assignment_operator, binary, binary_operator, computed_member, is_computed_member, is_conditional, is_identifier, is_sequence, logical_operator, sequence}
 use Rattle.mini_node.specs.Made.{binary_is, computed_member_is, conditional_is, identifier_is, logical_is, sequence_is}
 use Rattle.mini_node.proofs.Equality.{tree_same, tree_itself}
+use Rattle.mini_rows.specs.Editions.{SteadyIn}
 use Rattle.mini_rows.specs.Choices.{Key, Named, Spelled, Numbered, member_on, computing, deciding, keeps_parentheses}
 use Rattle.mini_rows.specs.Members.{this, Object, OfThis, OfName, object, is_kept, are_left, is_ready, Index, Written, Held, member_at, is_kept_index, is_ready_index, Row38Member, Row38MemberLast, Row35This, Row45Kept, MemberRow}
 use Rattle.mini_rows.specs.Past.{leaves}
@@ -347,42 +348,47 @@ tried : (P : Tree → Type 0) (b : Bool) (made : Tree) (next : Option Tree) (w :
 tried P true made next w f g e = subst P (some_is made w e) (f refl)
 tried P false made next w f g e = g e
 
+-- told whether the edition has `||=` and its like
+
+members_by : (late : Bool) (e : ℕ) → (late ≡ true → 2021 ≤ e) → (V : Assured) (s : Seat) (n w : Tree) → row.written_by late V s n ≡ Some w → row.MemberIn e V s n w
+members_by late e has V s n w =
+    let P : Tree → Type 0 = row.MemberIn e V s n in
+    tried P (late && row.decides_member V n) (row.member_decided n) (row.last_written late V s n) w (λ h. let (k, h) = and_parts late (row.decides_member V n) h in (inl (member_row V n h), has k))
+    (tried P (late && row.decides_last V s n) (row.last_decided n) (row.combined_written V s n) w (λ h. let (k, h) = and_parts late (row.decides_last V s n) h in (inr (inl (last_row V n s h)), has k))
+    (tried P (row.computes_this V n) (row.member_combined n) (row.chosen_written V s n) w (λ h. (inr (inr (inl (computed_row V n h))), tt))
+    (tried P (row.chooses_member V s n) (assigned n) None w (λ h. (inr (inr (inr (chosen_row V n s h))), tt)) (λ e. absurd (cc e)))))
+
 pub members_are_rows : MembersAreRows
-members_are_rows V s n w =
-    let P : Tree → Type 0 = MemberRow V s n in
-    tried P (row.decides_member V n) (row.member_decided n) (row.last_written V s n) w (λ h. inl (member_row V n h))
-    (tried P (row.decides_last V s n) (row.last_decided n) (row.combined_written V s n) w (λ h. inr (inl (last_row V n s h)))
-    (tried P (row.computes_this V n) (row.member_combined n) (row.chosen_written V s n) w (λ h. inr (inr (inl (computed_row V n h))))
-    (tried P (row.chooses_member V s n) (assigned n) None w (λ h. inr (inr (inr (chosen_row V n s h)))) (λ e. absurd (cc e)))))
+members_are_rows e V s n w = members_by (nat_le 2021 e) e (leb-true 2021 e) V s n w
 
 -- ---- each such expression passes
 
-module _ (V : Assured) (s : Seat) (n w : Tree) where
-  by_member : Row38Member V n w → is_some (row.written V s n) ≡ true
-  by_member r =
-      first_true (row.decides_member V n) (row.member_decided n) (row.last_written V s n)
-      (ap (row.decides_member V) r.shape ∙ assigns_passes V r.of r.key r.b r.kept)
+module _ (late : Bool) (V : Assured) (s : Seat) (n w : Tree) where
+  by_member : late ≡ true → Row38Member V n w → is_some (row.written_by late V s n) ≡ true
+  by_member k r =
+      first_true (late && row.decides_member V n) (row.member_decided n) (row.last_written late V s n)
+      (both_true late (row.decides_member V n) k (ap (row.decides_member V) r.shape ∙ assigns_passes V r.of r.key r.b r.kept))
 
-  after_member : is_some (row.last_written V s n) ≡ true → is_some (row.written V s n) ≡ true
-  after_member = later_true (row.decides_member V n) (row.member_decided n) (row.last_written V s n)
+  after_member : is_some (row.last_written late V s n) ≡ true → is_some (row.written_by late V s n) ≡ true
+  after_member = later_true (late && row.decides_member V n) (row.member_decided n) (row.last_written late V s n)
 
-  by_last : Row38MemberLast V s n w → is_some (row.written V s n) ≡ true
-  by_last r =
+  by_last : late ≡ true → Row38MemberLast V s n w → is_some (row.written_by late V s n) ≡ true
+  by_last k r =
       let m : Tree = member_on (object r.of) r.key in
       let l : Tree = assignment Assign m r.b in
       let ts : Trees = r.first ▸ append r.others (l ▸ none) in
-      after_member (first_true (row.decides_last V s n) (row.last_decided n) (row.combined_written V s n)
-      (ap (row.decides_last V s) r.shape
+      after_member (first_true (late && row.decides_last V s n) (row.last_decided n) (row.combined_written V s n)
+      (both_true late (row.decides_last V s n) k (ap (row.decides_last V s) r.shape
       ∙ both_true (keeps_parentheses r.operator s) (row.assigns_last V m ts) r.seated
       (both_true (lasting.are_several ts) (row.assigns_kept V m (child_or_absent ts (lasting.last_place ts)) && all_leave (part m 0) (first_children (lasting.last_place ts) ts)) (several_there r.first r.others l)
       (both_true (row.assigns_kept V m (child_or_absent ts (lasting.last_place ts))) (all_leave (part m 0) (first_children (lasting.last_place ts) ts))
       (ap (row.assigns_kept V m) (last_there r.first r.others l) ∙ assigns_passes V r.of r.key r.b r.kept)
-      (ap (λ o. all_leave o (first_children (lasting.last_place ts) ts)) (owner (object r.of) r.key) ∙ ap (all_leave (object r.of)) (front_of r.first r.others l) ∙ alike r.of (r.first ▸ r.others) ∙ r.left)))))
+      (ap (λ o. all_leave o (first_children (lasting.last_place ts) ts)) (owner (object r.of) r.key) ∙ ap (all_leave (object r.of)) (front_of r.first r.others l) ∙ alike r.of (r.first ▸ r.others) ∙ r.left))))))
 
-  after_last : is_some (row.combined_written V s n) ≡ true → is_some (row.written V s n) ≡ true
-  after_last e = after_member (later_true (row.decides_last V s n) (row.last_decided n) (row.combined_written V s n) e)
+  after_last : is_some (row.combined_written V s n) ≡ true → is_some (row.written_by late V s n) ≡ true
+  after_last e = after_member (later_true (late && row.decides_last V s n) (row.last_decided n) (row.combined_written V s n) e)
 
-  by_computed : Row35This V n w → is_some (row.written V s n) ≡ true
+  by_computed : Row35This V n w → is_some (row.written_by late V s n) ≡ true
   by_computed r =
       let m : Tree = member_on this r.key in
       after_last (first_true (row.computes_this V n) (row.member_combined n) (row.chosen_written V s n)
@@ -390,7 +396,7 @@ module _ (V : Assured) (s : Seat) (n w : Tree) where
       ∙ both_true (is_some (computing r.operator)) (same_tree m m && row.is_this_member V m) (ap is_some r.computes)
       (both_true (same_tree m m) (row.is_this_member V m) (tree_itself m) (this_passes V r.key r.kept))))
 
-  by_chosen : Row45Kept V s n w → is_some (row.written V s n) ≡ true
+  by_chosen : Row45Kept V s n w → is_some (row.written_by late V s n) ≡ true
   by_chosen r =
       let m : Tree = member_at (object r.of) r.index in
       after_last (later_true (row.computes_this V n) (row.member_combined n) (row.chosen_written V s n)
@@ -399,11 +405,11 @@ module _ (V : Assured) (s : Seat) (n w : Tree) where
       ∙ both_true (is_seated s) (same_tree m m && row.is_ready_member V r.a m) (ap not r.seated)
       (both_true (same_tree m m) (row.is_ready_member V r.a m) (tree_itself m) (ready_passes V r.a r.of r.index r.kept r.held r.ready r.soon)))))
 
-  passes : MemberRow V s n w → is_some (row.written V s n) ≡ true
-  passes (inl r) = by_member r
-  passes (inr (inl r)) = by_last r
-  passes (inr (inr (inl r))) = by_computed r
-  passes (inr (inr (inr r))) = by_chosen r
+  passes : (e : ℕ) → (2021 ≤ e → late ≡ true) → (r : MemberRow V s n w) → SteadyIn e V (Expr s) n w (inl r) → is_some (row.written_by late V s n) ≡ true
+  passes e has (inl r) a = by_member (has a) r
+  passes e has (inr (inl r)) a = by_last (has a) r
+  passes e has (inr (inr (inl r))) a = by_computed r
+  passes e has (inr (inr (inr r))) a = by_chosen r
 
 pub unwritten_rests : UnwrittenMembersRest
-unwritten_rests V s n e w r = absurd (cc (sym (passes V s n w r) ∙ ap is_some e))
+unwritten_rests e V s n h w r = absurd (cc (sym (passes (nat_le 2021 e) V s n w e (le-leb 2021 e) r.0 r.1) ∙ ap is_some h))

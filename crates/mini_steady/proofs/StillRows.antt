@@ -17,7 +17,7 @@ use Rattle.mini_node.specs.Kinds.{unary_operator, binary_operator}
 use Rattle.mini_node.specs.Made.{unary_is, binary_is}
 use Rattle.mini_rows.specs.Idle.{IdleRow}
 use Rattle.mini_rows.specs.Spellings.{void_zero, negated_digit}
-use Rattle.mini_rows.specs.Steady.{SteadyRow}
+use Rattle.mini_rows.specs.Editions.{SteadyRowsIn}
 use Rattle.mini_rows.specs.Still.{outweighs_zero, StillRow}
 use Rattle.mini_choices.specs.Calling.{calls_either, called}
 use Rattle.mini_choices.specs.MinimizeFirstPart.{behind_zero}
@@ -173,20 +173,20 @@ none_there None f = refl
 none_there (Some w) f = absurd (true≢false (sym f))
 
 -- where no row of members reads it, and no part of it goes
-pub still_applied : (V : Assured) (s : Seat) (t m l u : Tree) (b : Bool) → m ≡ unwrap_or (members.written V s t) t → false ≡ is_some (members.written V s t) → LosesIn V s m l false → u ≡ unwrap_or (written_in V s l) l → b ≡ is_some (written_in V s l) → AppliedHere (SteadyRow V) (Expr s) t u b
-still_applied V s t m l u b e f g h k =
-    let absent = none_there (members.written V s t) f in
+pub still_applied : (edition : ℕ) (V : Assured) (s : Seat) (t m l u : Tree) (b : Bool) → m ≡ unwrap_or (members.written edition V s t) t → false ≡ is_some (members.written edition V s t) → LosesIn V s m l false → u ≡ unwrap_or (written_in V s l) l → b ≡ is_some (written_in V s l) → AppliedHere (SteadyRowsIn edition V) (Expr s) t u b
+still_applied edition V s t m l u b e f g h k =
+    let absent = none_there (members.written edition V s t) f in
     let first = e ∙ ap (λ o. unwrap_or o t) absent in
     let same = g.0 ∙ first in
     go (written_in V s t) refl absent (subst (λ x. (w : Tree) → IdleRow V s x w → ⊥) first g.1) (h ∙ ap (λ x. unwrap_or (written_in V s x) x) same) (k ∙ ap (λ x. is_some (written_in V s x)) same)
   where
-    go : (o : Option Tree) → written_in V s t ≡ o → members.written V s t ≡ None → ((w : Tree) → IdleRow V s t w → ⊥) → u ≡ unwrap_or (written_in V s t) t → b ≡ is_some (written_in V s t) → AppliedHere (SteadyRow V) (Expr s) t u b
+    go : (o : Option Tree) → written_in V s t ≡ o → members.written edition V s t ≡ None → ((w : Tree) → IdleRow V s t w → ⊥) → u ≡ unwrap_or (written_in V s t) t → b ≡ is_some (written_in V s t) → AppliedHere (SteadyRowsIn edition V) (Expr s) t u b
     go (Some w) p absent rests h k =
         let (has, made) = chosen_is V.has_this (written s t) w p in
-        subst (AppliedHere (SteadyRow V) (Expr s) t u) (sym (k ∙ ap is_some p)) (once t u (inr (inr (subst (StillRow V s t) (sym (h ∙ ap (λ o. unwrap_or o t) p)) (written_row V s t w has made)))))
-    go None p absent rests h k = subst (AppliedHere (SteadyRow V) (Expr s) t u) (sym (k ∙ ap is_some p)) (h ∙ ap (λ o. unwrap_or o t) p, none)
+        subst (AppliedHere (SteadyRowsIn edition V) (Expr s) t u) (sym (k ∙ ap is_some p)) (once t u (inr (inr (subst (StillRow V s t) (sym (h ∙ ap (λ o. unwrap_or o t) p)) (written_row V s t w has made))), tt))
+    go None p absent rests h k = subst (AppliedHere (SteadyRowsIn edition V) (Expr s) t u) (sym (k ∙ ap is_some p)) (h ∙ ap (λ o. unwrap_or o t) p, none)
       where
-        none : (w : Tree) → SteadyRow V (Expr s) t w → ⊥
-        none w (inl r) = unwritten_rests V s t absent w r
-        none w (inr (inl r)) = rests w r
-        none w (inr (inr r)) = unread V s t p w r
+        none : (w : Tree) → SteadyRowsIn edition V (Expr s) t w → ⊥
+        none w (inl r, a) = unwritten_rests edition V s t absent w (r, a)
+        none w (inr (inl r), a) = rests w r
+        none w (inr (inr r), a) = unread V s t p w r

@@ -1,6 +1,6 @@
 -- What is done to members of `this` and of steady names, of which V says what is known of the body
 -- around: 35, 38 and 45.
-use Rattle.std.specs.Prelude.{◌≡◌, Bool, true, false, ◌&&◌, ◌||◌, List, [], ◌∷◌, Option, Some, None, is_some, unwrap_or, if◌then◌else◌, ◌⊎◌}
+use Rattle.std.specs.Prelude.{◌≡◌, ℕ, nat_le, Bool, true, false, ◌&&◌, ◌||◌, List, [], ◌∷◌, Option, Some, None, is_some, unwrap_or, if◌then◌else◌, ◌⊎◌}
 use Rattle.std.proofs.Common.{ap, inl, inr}
 use Rattle.mini_model.specs.declared.name.Name.{Name}
 use Rattle.mini_model.specs.declared.name.SymbolId.{SymbolId}
@@ -18,6 +18,7 @@ use Rattle.mini_node.specs.Equal.{same_tree}
 use Rattle.mini_node.specs.Kinds.{assignment_operator, binary_operator, is_computed_member, is_conditional, is_identifier, is_sequence, logical_operator}
 use Rattle.mini_rows.specs.Choices.{keeps_parentheses, ChosenRow, ChosenMemberRow, ChosenIndexedRow}
 use Rattle.mini_rows.specs.Members.{begins_at, MemberRow}
+use Rattle.mini_rows.specs.Editions.{SteadyIn, SteadyRowsIn}
 use Rattle.mini_rows.specs.Steady.{SteadyRow}
 use Rattle.mini_choices.specs.Assigning.{is_plain, has_written_key}
 use Rattle.mini_choices.specs.MinimizeConditionalBranches.{is_seated, assigned}
@@ -125,39 +126,52 @@ chosen_written V s t = if chooses_member V s t then Some (assigned t) else None
 abbrev pub combined_written : Assured → Seat → Tree → Option Tree
 combined_written V s t = if computes_this V t then Some (member_combined t) else chosen_written V s t
 
-abbrev pub last_written : Assured → Seat → Tree → Option Tree
-last_written V s t = if decides_last V s t then Some (last_decided t) else combined_written V s t
+abbrev pub last_written : Bool → Assured → Seat → Tree → Option Tree
+last_written late V s t = if late && decides_last V s t then Some (last_decided t) else combined_written V s t
 
-abbrev pub written : Assured → Seat → Tree → Option Tree
-written V s t = if decides_member V t then Some (member_decided t) else last_written V s t
+-- told whether the edition has `||=` and its like
+abbrev pub written_by : Bool → Assured → Seat → Tree → Option Tree
+written_by late V s t = if late && decides_member V t then Some (member_decided t) else last_written late V s t
+
+-- which came with that of 2021
+abbrev pub written : ℕ → Assured → Seat → Tree → Option Tree
+written e V s t = written_by (nat_le 2021 e) V s t
+
+-- a row of members that an edition has
+abbrev pub MemberIn : ℕ → Assured → Seat → Tree → Tree → Type 0
+MemberIn e V s n w = (r : MemberRow V s n w) × SteadyIn e V (Expr s) n w (inl r)
 
 -- what is written is what a row says, and where nothing is no row reads the expression
 abbrev pub MembersAreRows : Type 0
-MembersAreRows = (V : Assured) (s : Seat) (n w : Tree) → written V s n ≡ Some w → MemberRow V s n w
+MembersAreRows = (e : ℕ) (V : Assured) (s : Seat) (n w : Tree) → written e V s n ≡ Some w → MemberIn e V s n w
 
 abbrev pub UnwrittenMembersRest : Type 0
-UnwrittenMembersRest = (V : Assured) (s : Seat) (n : Tree) → written V s n ≡ None → (w : Tree) → MemberRow V s n w → ⊥
+UnwrittenMembersRest = (e : ℕ) (V : Assured) (s : Seat) (n : Tree) → written e V s n ≡ None → (w : Tree) → MemberIn e V s n w → ⊥
 
 -- ---- as rows of the own code of a body
 
-pub members_open : ReadsOpen SteadyRow
-members_open V (Expr s) n w (inl (inl r)) = ap is_open r.shape
-members_open V (Expr s) n w (inl (inr (inl r))) = ap is_open r.shape
-members_open V (Expr s) n w (inl (inr (inr (inl r)))) = ap is_open r.shape
-members_open V (Expr s) n w (inl (inr (inr (inr r)))) = ap is_open r.shape
-members_open V (Expr s) n w (inr (inl (inl r))) = ap is_open r.shape
-members_open V (Expr s) n w (inr (inl (inr r))) = ap is_open r.shape
-members_open V (Expr s) n w (inr (inr (inl r))) = ap is_open r.row.shape
-members_open V (Expr s) n w (inr (inr (inr (inl r)))) = ap is_open r.shape
-members_open V (Expr s) n w (inr (inr (inr (inr (inl r))))) = ap is_open r.row.shape
-members_open V (Expr s) n w (inr (inr (inr (inr (inr (inl r)))))) = ap is_open r.row.shape
-members_open V (Expr s) n w (inr (inr (inr (inr (inr (inr r)))))) = chosen_open r.row
+members_are_open : ReadsOpen SteadyRow
+members_are_open V (Expr s) n w (inl (inl r)) = ap is_open r.shape
+members_are_open V (Expr s) n w (inl (inr (inl r))) = ap is_open r.shape
+members_are_open V (Expr s) n w (inl (inr (inr (inl r)))) = ap is_open r.shape
+members_are_open V (Expr s) n w (inl (inr (inr (inr r)))) = ap is_open r.shape
+members_are_open V (Expr s) n w (inr (inl (inl r))) = ap is_open r.shape
+members_are_open V (Expr s) n w (inr (inl (inr r))) = ap is_open r.shape
+members_are_open V (Expr s) n w (inr (inr (inl r))) = ap is_open r.row.shape
+members_are_open V (Expr s) n w (inr (inr (inr (inl r)))) = ap is_open r.shape
+members_are_open V (Expr s) n w (inr (inr (inr (inr (inl r))))) = ap is_open r.row.shape
+members_are_open V (Expr s) n w (inr (inr (inr (inr (inr (inl r)))))) = ap is_open r.row.shape
+members_are_open V (Expr s) n w (inr (inr (inr (inr (inr (inr r)))))) = chosen_open r.row
   where
     chosen_open : ChosenRow false s n w ⊎ (ChosenMemberRow false s n w ⊎ ChosenIndexedRow false s n w) → is_open n ≡ true
     chosen_open (inl c) = ap is_open c.shape
     chosen_open (inr (inl c)) = ap is_open c.shape
     chosen_open (inr (inr c)) = ap is_open c.shape
-members_open V (Stmt q) n w (inl r) = ap is_open r.shape
-members_open V (Stmt q) n w (inr (inl r)) = ap is_open r.shape
-members_open V (Stmt q) n w (inr (inr r)) = ap is_open r.shape
-members_open V p n w r = absurd r
+members_are_open V (Stmt q) n w (inl r) = ap is_open r.shape
+members_are_open V (Stmt q) n w (inr (inl r)) = ap is_open r.shape
+members_are_open V (Stmt q) n w (inr (inr r)) = ap is_open r.shape
+members_are_open V p n w r = absurd r
+
+-- whichever edition has them
+pub members_open : (e : ℕ) → ReadsOpen (SteadyRowsIn e)
+members_open e V p n w r = members_are_open V p n w r.0

@@ -10,8 +10,8 @@ ghost use Rattle.mini_node.specs.Children.{names};
 ghost use Rattle.mini_choices.specs.MinimizeLogicalSequence.{parts_of};
 ghost use Rattle.mini_steady.specs.Declarations.{known_of};
 ghost use Rattle.mini_steady.specs.Members as row;
-ghost use Rattle.mini_rows.proofs.SteadyKept.{steady_more};
-ghost use Rattle.mini_rows.specs.Steady.{SteadyRow};
+ghost use Rattle.mini_rows.proofs.SteadyKept.{steady_rows_more};
+ghost use Rattle.mini_rows.specs.Editions.{SteadyRowsIn};
 ghost use Rattle.mini_steady.specs.Keeping.{members_keep};
 ghost use Rattle.mini_steady.specs.Members.{members_open, written};
 ghost use Rattle.mini_steady.specs.Own.{AppliedHere};
@@ -32,6 +32,9 @@ use mini_node::{
     is_sequence, logical_operator, taken,
 };
 use std::alloc::Global;
+
+// The edition of ECMA-262 that `&&=`, `||=` and `??=` came with, as a year.
+const DECIDING: u16 = 2021;
 
 // Whether a scope declares the name, and it is steady in the body.
 fn is_steady<S: SteadyNames>(name: &Option<Name>, body: &BodyCode, steady: &S) -> bool
@@ -250,7 +253,8 @@ fn combined_member(alloc: Global, node: Node) -> Result<Node, OutOfMemory>
 }
 
 /// `x.k || (x.k = b)` becomes `x.k ||= b`, and so of `&&` and `??`, and of a sequence that ends in
-/// the assignment, where x is steady in the body with this number, or is `this`;
+/// the assignment, where x is steady in the body with this number, or is `this`, and the edition of
+/// the options has it;
 /// `this.k = this.k + b` becomes `this.k += b`, and `a ? this.k = b : this.k = c`
 /// `this.k = a ? b : c`, and so of x.k, where a reads x first. The answer says whether it did; the
 /// only error is that memory runs out, and then the expression is fit only to be dropped.
@@ -261,12 +265,13 @@ pub fn minimize_members<S: SteadyNames>(
     body: &BodyCode,
     steady: &S,
 ) -> Result<bool, OutOfMemory>
-    ensures tree { OnOk result (node.new ≡ unwrap_or (written (known_of (S.sets steady.now) body.now) seat node.old) node.old) }
-    ensures said { IfOk result (λ changed. changed ≡ is_some (written (known_of (S.sets steady.now) body.now) seat node.old)) }
+    ensures tree { OnOk result (node.new ≡ unwrap_or (written (S.orders steady.now).edition (known_of (S.sets steady.now) body.now) seat node.old) node.old) }
+    ensures said { IfOk result (λ changed. changed ≡ is_some (written (S.orders steady.now).edition (known_of (S.sets steady.now) body.now) seat node.old)) }
 {
-    let made = if decides_member(node, body, steady) {
+    let late = DECIDING <= steady.orders().edition;
+    let made = if late && decides_member(node, body, steady) {
         decided_member(alloc, taken(alloc, node))?
-    } else if decides_last(node, seat, body, steady) {
+    } else if late && decides_last(node, seat, body, steady) {
         decided_before(alloc, taken(alloc, node))?
     } else if computes_this(node, body, steady) {
         combined_member(alloc, taken(alloc, node))?
@@ -287,7 +292,7 @@ fn minimize_expression<S: SteadyNames>(
     body: &BodyCode,
     steady: &S,
 ) -> Result<bool, OutOfMemory>
-    ensures { IfOk result (λ changed. AppliedHere (SteadyRow (known_of (S.sets steady.now) body.now)) (Position.Expr seat) node.old node.new changed) }
+    ensures { IfOk result (λ changed. AppliedHere (SteadyRowsIn (S.orders steady.now).edition (known_of (S.sets steady.now) body.now)) (Position.Expr seat) node.old node.new changed) }
 {
     if minimize_members(alloc, node, seat, body, steady)? {
         return Ok(true);
@@ -304,7 +309,7 @@ fn minimize_expression<S: SteadyNames>(
 pub struct SteadyMembers;
 
 impl<S: SteadyNames> OwnRewrites<S> for SteadyMembers {
-    ghost rows = { λ o. SteadyRow };
+    ghost rows = { λ o. SteadyRowsIn o.edition };
 
     fn rewrite(
         &self,
@@ -321,9 +326,9 @@ impl<S: SteadyNames> OwnRewrites<S> for SteadyMembers {
         }
     }
 
-    ghost opens = { λ o. members_open };
+    ghost opens = { λ o. members_open o.edition };
 
-    ghost more = { λ o. steady_more };
+    ghost more = { λ o. steady_rows_more o.edition };
 
-    ghost keeps = { λ o. members_keep };
+    ghost keeps = { λ o. members_keep o.edition };
 }

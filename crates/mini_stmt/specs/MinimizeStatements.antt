@@ -22,7 +22,7 @@ use Rattle.mini_stmt.specs.SplitIf.{splits}
 use Rattle.mini_stmt.specs.SpreadBlock.{spreads}
 
 abbrev pub switches_of : CompressOptions → Switches
-switches_of o = record { sequences = o.sequences; join_vars = o.join_vars; keep_function_names = o.keep_names.function; keep_class_names = o.keep_names.class }
+switches_of o = record { sequences = o.sequences; join_vars = o.join_vars; keep_function_names = o.keep_names.function; keep_class_names = o.keep_names.class; edition = o.edition }
 
 -- a row reads the statement by itself
 abbrev pub is_read : Switches → Tree → Bool

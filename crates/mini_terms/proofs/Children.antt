@@ -6,7 +6,7 @@ use Rattle.mini_model.specs.Tree.{Tree, Trees, node, none, ◌▸◌, children, 
 use Rattle.mini_node.specs.Children.{part, names_of, rest_children}
 use Rattle.mini_node.specs.Walks.{next_child, no_rest}
 use Rattle.mini_laws.specs.Naming.{kinds}
-use Rattle.mini_terms.specs.Kind.{is_primitive, Undetermined, nth_kind, last_kind, kind_by, kind, each_kind}
+use Rattle.mini_terms.specs.Kind.{Kind, IsUndefined, IsNull, IsBoolean, IsNumber, IsBigInt, IsString, IsObject, common, is_primitive, Undetermined, nth_kind, last_kind, kind_by, kind, each_kind}
 use Rattle.mini_terms.specs.Effects.{nth_true, all_true, all_primitive, primitive_items, each_primitive, is_identifier, each_identifier, ef_by, ef, each_ef}
 use Rattle.mini_terms.specs.Reading.{is_plain_part_by, first_of, is_plain_part, are_plain_parts}
 use Rattle.mini_terms.specs.Parts.{leaves_nothing_by, leaves_nothing, leave_nothing, is_link, is_several, first_is_several, first_is_link, is_template_by, second_is_template, weighs_over, weighs}
@@ -193,3 +193,74 @@ no_template (node h xs n (a ▸ (b ▸ ts))) e = absurd (omega (arith, e))
 
 pub weighs_is : (t : Tree) → weighs t ≡ weighs_over (shape_of t) (names_of t) (children t)
 weighs_is (node h xs n ts) = refl
+
+-- ---- of two kinds
+
+pub unknown_left : (k : Kind) → common Undetermined k ≡ Undetermined
+unknown_left k = refl
+
+pub common_turned : (j k : Kind) → common j k ≡ common k j
+common_turned IsUndefined IsUndefined = refl
+common_turned IsUndefined IsNull = refl
+common_turned IsUndefined IsBoolean = refl
+common_turned IsUndefined IsNumber = refl
+common_turned IsUndefined IsBigInt = refl
+common_turned IsUndefined IsString = refl
+common_turned IsUndefined IsObject = refl
+common_turned IsUndefined Undetermined = refl
+common_turned IsNull IsUndefined = refl
+common_turned IsNull IsNull = refl
+common_turned IsNull IsBoolean = refl
+common_turned IsNull IsNumber = refl
+common_turned IsNull IsBigInt = refl
+common_turned IsNull IsString = refl
+common_turned IsNull IsObject = refl
+common_turned IsNull Undetermined = refl
+common_turned IsBoolean IsUndefined = refl
+common_turned IsBoolean IsNull = refl
+common_turned IsBoolean IsBoolean = refl
+common_turned IsBoolean IsNumber = refl
+common_turned IsBoolean IsBigInt = refl
+common_turned IsBoolean IsString = refl
+common_turned IsBoolean IsObject = refl
+common_turned IsBoolean Undetermined = refl
+common_turned IsNumber IsUndefined = refl
+common_turned IsNumber IsNull = refl
+common_turned IsNumber IsBoolean = refl
+common_turned IsNumber IsNumber = refl
+common_turned IsNumber IsBigInt = refl
+common_turned IsNumber IsString = refl
+common_turned IsNumber IsObject = refl
+common_turned IsNumber Undetermined = refl
+common_turned IsBigInt IsUndefined = refl
+common_turned IsBigInt IsNull = refl
+common_turned IsBigInt IsBoolean = refl
+common_turned IsBigInt IsNumber = refl
+common_turned IsBigInt IsBigInt = refl
+common_turned IsBigInt IsString = refl
+common_turned IsBigInt IsObject = refl
+common_turned IsBigInt Undetermined = refl
+common_turned IsString IsUndefined = refl
+common_turned IsString IsNull = refl
+common_turned IsString IsBoolean = refl
+common_turned IsString IsNumber = refl
+common_turned IsString IsBigInt = refl
+common_turned IsString IsString = refl
+common_turned IsString IsObject = refl
+common_turned IsString Undetermined = refl
+common_turned IsObject IsUndefined = refl
+common_turned IsObject IsNull = refl
+common_turned IsObject IsBoolean = refl
+common_turned IsObject IsNumber = refl
+common_turned IsObject IsBigInt = refl
+common_turned IsObject IsString = refl
+common_turned IsObject IsObject = refl
+common_turned IsObject Undetermined = refl
+common_turned Undetermined IsUndefined = refl
+common_turned Undetermined IsNull = refl
+common_turned Undetermined IsBoolean = refl
+common_turned Undetermined IsNumber = refl
+common_turned Undetermined IsBigInt = refl
+common_turned Undetermined IsString = refl
+common_turned Undetermined IsObject = refl
+common_turned Undetermined Undetermined = refl

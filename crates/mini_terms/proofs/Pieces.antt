@@ -1,11 +1,12 @@
 -- What is evident of the children of a node, and of the parts of a template, one after another.
 use Rattle.std.proofs.Common.{◌≡◌, ℕ, zero, suc, ◌<◌, ◌+◌, ◌≤◌, Bool, true, false, Option, Some, None, refl, sym, ap, ◌∙◌, true≢false, eq-eqb, arith}
 use Rattle.std.specs.Prelude.{◌-◌, ◌||◌, nat_eq, if◌then◌else◌}
+use Rattle.mini_model.specs.declared.operator.LogicalOperator.{LogicalOperator}
 use Rattle.mini_model.specs.Tree.{Tree, Trees, node, none, ◌▸◌, children, count, shape_of, child_or_absent}
 use Rattle.mini_node.specs.Children.{part, names_of, rest_children}
 use Rattle.mini_node.specs.Walks.{from_first, next_child, no_rest}
 use Rattle.mini_laws.specs.Naming.{kinds}
-use Rattle.mini_terms.specs.Evident.{units_in, units_of, either, units_between, text_if, nth_items, are_lists, template_evidence, nth_evidence, last_evidence, evidence_by, evidence, each_evidence, items_in, each_items}
+use Rattle.mini_terms.specs.Evident.{Evidence, logical_evidence, units_in, units_of, either, units_between, text_if, nth_items, are_lists, template_evidence, nth_evidence, last_evidence, evidence_by, evidence, each_evidence, items_in, each_items}
 
 pub evidence_is : (t : Tree) → evidence t ≡ evidence_by (shape_of t) (kinds (names_of t)) (children t) (each_evidence (children t)) (each_items (children t))
 evidence_is (node h xs n ts) = refl
@@ -129,3 +130,10 @@ of_lists t e h =
 
 pub no_lists : (t : Tree) → are_lists (children t) ≡ false → template_evidence (children t) (each_items (children t)) ≡ None
 no_lists t e = ap (λ b. if b then text_if (units_between (children (part t 0)) (nth_items (each_items (children t)) 1)) else None) e
+
+-- ---- of two sides
+
+pub no_right : (o : LogicalOperator) (left right : Option Evidence) → None ≡ right → None ≡ logical_evidence o left right
+no_right o (Some x) None e = refl
+no_right o None None e = refl
+no_right o left (Some y) e = cc e

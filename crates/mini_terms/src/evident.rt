@@ -11,7 +11,7 @@ ghost use Rattle.mini_terms.specs.Evident.{nth_evidence, last_evidence as its_la
 ghost use Rattle.mini_terms.specs.Values.{value_in};
 
 use crate::kinds::Kind;
-use crate::known::kind_of;
+use crate::known::{is_choice_at, kind_of};
 use crate::names::is_undefined_name;
 use crate::numbers::{of_numbers, over_number};
 use crate::texts::text_number;
@@ -406,10 +406,31 @@ fn operator_evidence(operator: BinaryOperator, node: &Node) -> Option<Evidence>
     }
 }
 
+fn first_decided(
+    operator: LogicalOperator,
+    left: Option<Evidence>,
+    right: Evidence,
+) -> Option<Evidence>
+    ensures { result ≡ term.logical_evidence operator left (Some right) }
+{
+    match left {
+        Some(evidence) => Some(decided(operator, evidence, right)),
+        None => None,
+    }
+}
+
+// The left side is looked at last where it may nest deep, and else the right one.
 #[cycle(evidence)]
+#[tactic(auto, using(crate::proofs::Pieces::no_right))]
 fn logical_evidence(operator: LogicalOperator, node: &Node) -> Option<Evidence>
     ensures { result ≡ term.logical_evidence operator (nth_evidence (each_evidence (children node.now)) 0) (nth_evidence (each_evidence (children node.now)) 1) }
 {
+    if is_choice_at(node, 0) {
+        return match child_evidence(node, 1) {
+            Some(right) => first_decided(operator, child_evidence(node, 0), right),
+            None => None,
+        };
+    }
     match child_evidence(node, 0) {
         Some(left) => last_decided(operator, left, child_evidence(node, 1)),
         None => None,

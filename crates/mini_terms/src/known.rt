@@ -1,6 +1,6 @@
 //! The Kind of an expression, in code.
 
-ghost use Rattle.std.specs.Prelude.{◌≡◌};
+ghost use Rattle.std.specs.Prelude.{◌≡◌, true};
 ghost use Rattle.mini_model.specs.declared.operator.BinaryOperator.TheVariants.{Addition};
 ghost use Rattle.mini_model.specs.Tree.{children};
 ghost use Rattle.mini_laws.specs.Value.{choose};
@@ -76,6 +76,13 @@ pub fn common(left: Kind, right: Kind) -> Kind
         (Kind::Object, Kind::Object) => Kind::Object,
         _ => Kind::Undetermined,
     }
+}
+
+// Nothing is known.
+fn is_unknown(kind: Kind) -> bool
+    ensures { result ≡ true → kind ≡ Undetermined }
+{
+    matches!(kind, Kind::Undetermined)
 }
 
 fn unary_kind(operator: UnaryOperator, operand: Kind) -> Kind
@@ -159,6 +166,42 @@ fn last_kind(node: &Node) -> Kind
     }
 }
 
+/// Whether the child at a place is of a logical operator or a conditional, so that it may nest deep.
+pub fn is_choice_at(node: &Node, at: usize) -> bool {
+    at < node.children().len()
+        && matches!(
+            node.child(at).shape(),
+            Shape::LogicalExpression(_) | Shape::ConditionalExpression
+        )
+}
+
+// The Kind of the children at two places, where both have one: the other is looked at only where
+// something is known of the first.
+#[cycle(kinds)]
+#[tactic(auto, using(crate::proofs::Children::unknown_left))]
+fn kind_after(node: &Node, first: usize, second: usize) -> Kind
+    ensures { result ≡ common_kind (nth_kind (each_kind (children node.now)) first) (nth_kind (each_kind (children node.now)) second) }
+{
+    let kind = child_kind(node, first);
+    if is_unknown(kind) {
+        return Kind::Undetermined;
+    }
+    common(kind, child_kind(node, second))
+}
+
+// The same, of which one that nests deep is looked at last.
+#[cycle(kinds)]
+#[tactic(auto, using(crate::proofs::Children::common_turned))]
+fn kind_of_both(node: &Node, first: usize, second: usize) -> Kind
+    ensures { result ≡ common_kind (nth_kind (each_kind (children node.now)) first) (nth_kind (each_kind (children node.now)) second) }
+{
+    if is_choice_at(node, first) {
+        kind_after(node, second, first)
+    } else {
+        kind_after(node, first, second)
+    }
+}
+
 /// What type of value an expression has, where that is known from its text.
 #[cycle(kinds)]
 #[tactic(auto, using(crate::proofs::Children::kind_is))]
@@ -177,8 +220,8 @@ pub fn kind_of(node: &Node) -> Kind
         Shape::BinaryExpression(operator) => {
             binary_kind(*operator, child_kind(node, 0), child_kind(node, 1))
         }
-        Shape::LogicalExpression(_) => common(child_kind(node, 0), child_kind(node, 1)),
-        Shape::ConditionalExpression => common(child_kind(node, 1), child_kind(node, 2)),
+        Shape::LogicalExpression(_) => kind_of_both(node, 0, 1),
+        Shape::ConditionalExpression => kind_of_both(node, 1, 2),
         Shape::InnerExpression | Shape::SequenceExpression => child_kind(node, 0),
         Shape::AssignmentExpression(AssignmentOperator::Assign) => child_kind(node, 1),
         Shape::RegExpLiteral(_, _)

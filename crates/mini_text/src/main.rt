@@ -1,5 +1,5 @@
 //! JavaScript text of a program: ESTree JSON, or an answer of the minifier, from standard input to
-//! standard output.
+//! standard output; or the text of its minified program.
 #![tactic(auto)]
 
 use mini_run::{StdSink, StdSource, Words};
@@ -32,5 +32,5 @@ fn start(rt: &HostRuntime) -> Status {
     let mut source = StdSource::new(rt.stdin());
     let mut sink = StdSink::new(rt.stdout());
     let mut notes = StdSink::new(rt.stderr());
-    run_text(alloc, &words, &mut source, &mut sink, &mut notes)
+    run_text(alloc, words, &mut source, &mut sink, &mut notes)
 }

@@ -1,2 +1,4 @@
-pub mod Named
+pub mod Minified
+pub mod Ordered
 pub mod Told
+pub mod Read

@@ -1,12 +1,13 @@
 // The words of the command line.
 
-ghost use Rattle.std.specs.Prelude.{◌≡◌, ◌≢◌, ◌≤◌, ◌↔◌, ◌++◌, ◌∷◌, [], ℕ, codes, IsTrue, MatchOption};
-ghost use Rattle.std.specs.Fmt.{decimal};
-ghost use Rattle.mini_run.specs.declared.choice.Choice.TheVariants as words;
-ghost use Rattle.mini_texts.specs.Options.{NameOptions, options_with};
-ghost use Rattle.mini_texts.specs.declared.options.TextOptions.{TextOptions};
+ghost use Rattle.std.specs.Prelude.{◌≡◌, ◌||◌, codes, map, string_bytes, MatchOption};
+ghost use Rattle.mini_run.specs.Words.{NameOrders};
+ghost use Rattle.mini_peephole.specs.Answer.{to_read};
+ghost use Rattle.mini_tree.specs.declared.options.CompressOptions.{CompressOptions};
+ghost use Rattle.mini_texts.specs.Options.{NameTextOrders, names_depth, all_name_depths};
+ghost use Rattle.mini_texts.specs.declared.options.TextOrders.{TextOrders};
 
-use mini_run::{Choice, Words, read_choice};
+use mini_run::{Words, read_orders};
 use mini_tree::CompressOptions;
 
 /// How the text of a program is written, and how deep the program may nest.
@@ -19,69 +20,67 @@ pub struct TextOptions {
     pub max_depth: u32,
 }
 
-fn chosen_depth(choice: Choice) -> Option<u32>
-    ensures { MatchOption result ((n : ℕ) → choice ≢ words.MaxDepth n) (λ n. choice ≡ words.MaxDepth n) }
+/// The orders that good words give.
+#[derive(Clone, Copy)]
+pub struct TextOrders {
+    /// Whether a blank stands between any two tokens.
+    pub spaced: bool,
+    /// Whether the program is minified.
+    pub minify: bool,
+    /// The options of the minifier. A program that isn't minified is read to their depth.
+    pub options: CompressOptions,
+}
+
+// The options of words that order to read; None for those that order a script, and bad ones.
+fn read_minifying(words: &Words) -> Option<CompressOptions>
+    ensures { MatchOption result ((o : CompressOptions) → NameOrders words.now (to_read o) → ⊥) (λ o. NameOrders words.now (to_read o)) }
 {
-    match choice {
-        Choice::MaxDepth(depth) => Some(depth),
-        _ => None,
+    let orders = read_orders(words)?;
+    match orders.generate {
+        None => Some(orders.options),
+        Some(_) => None,
     }
 }
 
-// The depth that a word names, as `--max-depth=200`.
-fn read_depth(word: &str) -> Option<u32>
-    ensures { MatchOption result
-        ((n : ℕ) → 1 ≤ n → n ≤ 1000 → word.now ≢ codes "--max-depth=" ++ decimal n)
-        (λ n. (1 ≤ n) × (n ≤ 1000) × (word.now ≡ codes "--max-depth=" ++ decimal n)) }
+// Whether a word begins as one that names a depth.
+#[tactic(auto, using(std::proofs::lemmas::Str::Pattern::starts_text))]
+fn names_depth(word: &str) -> bool
+    ensures { result ≡ names_depth word.now }
 {
-    chosen_depth(read_choice(word)?)
+    word.starts_with("--max-depth=")
 }
 
-fn is_spaced(word: &str) -> bool
-    ensures { IsTrue result ↔ (word.now ≡ codes "--spaced") }
+fn all_name_depths(words: &[String]) -> bool
+    ensures { result ≡ all_name_depths (map string_bytes words.now) }
 {
-    word == "--spaced"
+    match words {
+        [] => true,
+        [word, rest @ ..] => names_depth(word.as_str()) && all_name_depths(rest),
+    }
 }
 
-fn options_of(spaced: bool, depth: Option<u32>) -> TextOptions
-    ensures { result ≡ options_with spaced depth }
+// Without `--minify` no word of the minifier may stand but a depth.
+fn may_stand(minify: bool, words: &Words) -> bool
+    ensures { result ≡ (minify || all_name_depths words.now) }
 {
-    TextOptions {
+    minify || all_name_depths(words.as_slice())
+}
+
+/// What the words ask for, without memory: `--spaced`, `--minify`, and the words of the minifier but
+/// `--generate=N`; without `--minify` none of these but `--max-depth=N`. Each stands at most once,
+/// in any order. None exactly where a word is another, or one stands twice.
+pub fn read_text_orders(words: &mut Words) -> Option<TextOrders>
+    ensures { MatchOption result ((o : TextOrders) → NameTextOrders words.old o → ⊥) (NameTextOrders words.old) }
+{
+    let spaced = words.take("--spaced");
+    let minify = words.take("--minify");
+    if !may_stand(minify, words) {
+        return None;
+    }
+    let options = read_minifying(words)?;
+    Some(TextOrders {
         spaced,
-        max_depth: depth.unwrap_or(CompressOptions::new().max_depth),
-    }
-}
-
-fn read_one(word: &str) -> Option<TextOptions>
-    ensures { MatchOption result ((o : TextOptions) → NameOptions (word.now ∷ []) o → ⊥) (NameOptions (word.now ∷ [])) }
-{
-    if is_spaced(word) {
-        return Some(options_of(true, None));
-    }
-    Some(options_of(false, Some(read_depth(word)?)))
-}
-
-fn read_two(first: &str, second: &str) -> Option<TextOptions>
-    ensures { MatchOption result ((o : TextOptions) → NameOptions (first.now ∷ second.now ∷ []) o → ⊥) (NameOptions (first.now ∷ second.now ∷ [])) }
-{
-    if is_spaced(first) {
-        return Some(options_of(true, Some(read_depth(second)?)));
-    }
-    if is_spaced(second) {
-        return Some(options_of(true, Some(read_depth(first)?)));
-    }
-    None
-}
-
-/// The options that the words name, without memory: `--spaced` and `--max-depth=N`, each at most
-/// once. None exactly where a word is another, or one stands twice.
-pub fn read_text_options(words: &Words) -> Option<TextOptions>
-    ensures { MatchOption result ((o : TextOptions) → NameOptions words.now o → ⊥) (NameOptions words.now) }
-{
-    match words.as_slice() {
-        [] => Some(options_of(false, None)),
-        [word] => read_one(word.as_str()),
-        [first, second] => read_two(first.as_str(), second.as_str()),
-        _ => None,
-    }
+        minify,
+        options,
+    })
 }

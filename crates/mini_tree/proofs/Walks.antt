@@ -1,7 +1,7 @@
 -- A walk over the children of a node, one after another, and then over the node.
 use Rattle.std.proofs.Common.{◌≡◌, ℕ, suc, ◌+◌, ◌<◌, ◌≤◌, Bool, true, false, refl, sym, ap, ◌∙◌, subst, arith}
 use borrow.Author.Count.{below_more}
-use Rattle.std.specs.Prelude.{◌||◌}
+use Rattle.std.specs.Prelude.{◌||◌, Result, Ok, Err, OnOk}
 use Rattle.mini_model.specs.declared.shape.Shape.{Shape}
 use Rattle.mini_model.specs.Tree.{Tree, Trees, node, none, ◌▸◌, count, children, shape_of, child_or_absent, node_count}
 use Rattle.mini_model.specs.declared.place.Position.{Position}
@@ -14,6 +14,11 @@ use Rattle.mini_tree.specs.Rule.{Moves, Applied, IsLighter}
 use Rattle.mini_tree.specs.Walk.{Walked, WalkedBelow}
 use Rattle.mini_tree.proofs.Edits.{count_with, others_with, with_same, part_within}
 use Rattle.mini_tree.proofs.Reaching.{reaches_trans, reaches_lighter, reaches_at, moves_reach, moves_trans, moves_lighter, moves_at}
+
+-- what an answer tells, told otherwise
+pub on_ok : {A E P Q : Type 0} → (r : Result A E) → (P → Q) → OnOk r P → OnOk r Q
+on_ok (Ok x) f h = f h
+on_ok (Err e) f h = h
 
 -- where the child at an index stands
 abbrev pub place_in : Position → Tree → ℕ → Position
@@ -146,10 +151,10 @@ module _ (R : Position → Tree → Tree → Type 0) (D : Position → Tree → 
   here_reached p t u true x = moves_reach R x
   here_reached p t u false x = subst (Reaches R p t) (sym x.0) (done p t)
 
-  pub tried_child : (p q : Position) (h : Shape) (k at : ℕ) (t u x v : Tree) (ts : Trees) (b : Bool) → (q ≡ child_position h p k at) × (h ≡ shape_of u) × (k ≡ count (children t)) × (ts ≡ children u) × (x ≡ child_or_absent ts at) → at < k → TriedTo p t u → Applied R D q x v b → TriedTo p t (with_children u (with_child ts at v))
-  tried_child p q h k at t u x v ts b (placed, shaped, counted, these, child) below w m =
+  pub tried_through : (p q : Position) (h : Shape) (k at : ℕ) (t u x v : Tree) (ts : Trees) → (q ≡ child_position h p k at) × (h ≡ shape_of u) × (k ≡ count (children t)) × (ts ≡ children u) × (x ≡ child_or_absent ts at) → at < k → TriedTo p t u → Reaches R q x v → TriedTo p t (with_children u (with_child ts at v))
+  tried_through p q h k at t u x v ts (placed, shaped, counted, these, child) below w m =
       let stands : q ≡ place_in p u at = placed ∙ ap (λ g. child_position g p k at) shaped ∙ ap (λ c. child_position (shape_of u) p c at) (counted ∙ sym w.counted) in
-      let stood = subst (λ o. Reaches R o x v) stands (here_reached q x v b m) in
+      let stood = subst (λ o. Reaches R o x v) stands m in
       let there = subst (λ o. Reaches R (place_in p u at) o v) (child ∙ ap (λ us. child_or_absent us at) these) stood in
       let kept = like_with u at v in
       let made : TriedTo p t (with_part u at v) = record {
@@ -158,3 +163,13 @@ module _ (R : Position → Tree → Tree → Type 0) (D : Position → Tree → 
         counted = kept.1 ∙ w.counted;
       } in
       subst (TriedTo p t) (sym (edited u ts at v these)) made
+
+  pub tried_child : (p q : Position) (h : Shape) (k at : ℕ) (t u x v : Tree) (ts : Trees) (b : Bool) → (q ≡ child_position h p k at) × (h ≡ shape_of u) × (k ≡ count (children t)) × (ts ≡ children u) × (x ≡ child_or_absent ts at) → at < k → TriedTo p t u → Applied R D q x v b → TriedTo p t (with_children u (with_child ts at v))
+  tried_child p q h k at t u x v ts b stands below w m = tried_through p q h k at t u x v ts stands below w (here_reached q x v b m)
+
+  -- a node, and then what it holds
+  pub through : (p : Position) (t u v : Tree) (b : Bool) → Applied R D p t u b → Reaches R p u v → Reaches R p t v
+  through p t u v b x r = reaches_trans R (here_reached p t u b x) r
+
+  pub through_here : (p : Position) (t u : Tree) (b : Bool) → Applied R D p t u b → Reaches R p t u
+  through_here = here_reached

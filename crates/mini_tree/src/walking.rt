@@ -9,7 +9,7 @@ ghost use Rattle.mini_tree.specs.Walk.{Walked, WalkedBelow};
 use crate::place::child_place;
 use crate::rule::{Context, Rule};
 use mini_model::{OutOfMemory, Position};
-use mini_node::Node;
+use mini_node::{Node, is_block};
 use std::alloc::Global;
 
 /// Walks over a node, its children first, and at each node applies the rule until it answers false.
@@ -62,7 +62,9 @@ fn walk_children<C: Context, R: Rule<C>>(
 }
 
 // The node itself, until the rule answers false. What the rule has made is looked at one level down
-// as well, so that a statement that becomes an expression is done in one walk.
+// as well, and so is the list of a block there: a statement that becomes an expression is done in
+// one walk, and so is `for (;;) { if (a) break; b(); if (c) break; }`, of which the second guard
+// leads only once the rule has been at the list.
 fn settle<C: Context, R: Rule<C>>(
     rule: &R,
     alloc: Global,
@@ -102,7 +104,7 @@ fn repeat<C: Context, R: Rule<C>>(
 }
 
 // The rule at each child of the node, until it answers false there.
-fn repeat_below<C: Context, R: Rule<C>>(
+fn repeat_parts<C: Context, R: Rule<C>>(
     rule: &R,
     alloc: Global,
     node: &mut Node,
@@ -118,6 +120,47 @@ fn repeat_below<C: Context, R: Rule<C>>(
         let stands = child_place(node.shape(), place, parts, at);
         let child = node.children_mut().child_mut(at);
         let _changed = repeat(rule, alloc, child, stands, context)?;
+    }
+    Ok(())
+}
+
+// The rule at the node, until it answers false, and then at the list of a block.
+fn repeat_through<C: Context, R: Rule<C>>(
+    rule: &R,
+    alloc: Global,
+    node: &mut Node,
+    place: Position,
+    context: &mut C,
+) -> Result<(), OutOfMemory>
+    requires { KnowsSome C.knows context.old }
+    ensures reached { OnOk result (ByKnown C.knows context.old (λ o q. Reaches (R.gives o q) place node.old node.new)) }
+    ensures known { OnOk result (KnowsAsBefore C.knows context.old context.new) }
+{
+    let _changed = repeat(rule, alloc, node, place, context)?;
+    if !is_block(node) {
+        return Ok(());
+    }
+    repeat_parts(rule, alloc, node, place, context)
+}
+
+// The rule at each child of the node, and at the list of a child that is a block, until it answers
+// false there.
+fn repeat_below<C: Context, R: Rule<C>>(
+    rule: &R,
+    alloc: Global,
+    node: &mut Node,
+    place: Position,
+    context: &mut C,
+) -> Result<(), OutOfMemory>
+    requires { KnowsSome C.knows context.old }
+    ensures reached { OnOk result (ByKnown C.knows context.old (λ o q. Reaches (R.gives o q) place node.old node.new)) }
+    ensures known { OnOk result (KnowsAsBefore C.knows context.old context.new) }
+{
+    let parts = node.children().len();
+    for at in 0..parts {
+        let stands = child_place(node.shape(), place, parts, at);
+        let child = node.children_mut().child_mut(at);
+        repeat_through(rule, alloc, child, stands, context)?;
     }
     Ok(())
 }

@@ -22,7 +22,7 @@ use Rattle.mini_rows.proofs.HiddenHeads.{Hidden, hidden, Taken, taken}
 use Rattle.mini_rows.specs.Switches.{Liberties}
 use Rattle.mini_unused.specs.declared.tallies.Tallies.{Tallies}
 use Rattle.mini_unused.specs.RemoveUnusedDeclaration.{declares_list, is_alone, list_at, let_left, statement_left, list_left}
-use Rattle.mini_unused.specs.SubstituteNext.{reads_in, put_named, is_read_then, declarators_next, list_next, NextGone}
+use Rattle.mini_unused.specs.SubstituteNext.{reads_in, put_named, is_read_then, is_mentioned_beside, is_mentioned_elsewhere, declarators_next, list_next, NextGone}
 use Rattle.mini_unused.specs.SubstituteSingleUse.{reads_next, is_read_once, declaration_left, declared_names, initializer, list_single, last_place, NameGone, ReadGone, Gone}
 use Rattle.mini_unused.specs.Tallies.{number_of, bucket, hash_of, one_if, own_tally, tally, tallies, Counted, Covers, Tallied, HasFew, IsRare}
 use Rattle.mini_unused.proofs.Unused.{parts_of, a_declaration, Declares}
@@ -124,7 +124,7 @@ module _ (f : Name → ℕ) (b : ℕ) where
       let less = statement_without (part l i) j in
       omega (arith, whole, less)
 
-  list_moved : (l : Tree) (i j : ℕ) → tally f b (list_single l i j) ≤ tally f b l
+  pub list_moved : (l : Tree) (i j : ℕ) → tally f b (list_single l i j) ≤ tally f b l
   list_moved l i j =
       let left = declaration_left (part l i) j in
       let init = initializer l i j in
@@ -151,7 +151,7 @@ module _ (f : Name → ℕ) (b : ℕ) where
       let value = part_of (part l j) 1 in
       omega (arith, whole, next, put, others, o, value)
 
-  list_next_fewer : (l : Tree) (i j : ℕ) → tally f b (list_next l i j) ≤ tally f b l
+  pub list_next_fewer : (l : Tree) (i j : ℕ) → tally f b (list_next l i j) ≤ tally f b l
   list_next_fewer l i j =
       let t = part l i in
       let ds = declarators_next (part t 0) j in
@@ -168,14 +168,18 @@ module _ (f : Name → ℕ) (b : ℕ) where
       by (inr (inr x)) = let less = list_next_fewer l x.at x.which in let same = ap (tally f b) x.left in omega (arith, less, same)
       by (inr (inl x)) = let less = list_moved l x.at (last_place (children (list_at (children l) x.at))) in let same = ap (tally f b) x.left in omega (arith, less, same)
 
-pub still_covers : (by_symbol : Bool) (counts : List ℕ) (W : Liberties) (o l n : Tree) → Gone W o l n → Covers by_symbol counts o l → Covers by_symbol counts o n
-still_covers by_symbol counts W o l n g c b h k =
-    let less = gone_fewer (bucket by_symbol (length counts)) b W o l n g in
+-- of a list in which each name stands at most as often
+fewer_covers : (by_symbol : Bool) (counts : List ℕ) (o l n : Tree) → ((f : Name → ℕ) (b : ℕ) → tally f b n ≤ tally f b l) → Covers by_symbol counts o l → Covers by_symbol counts o n
+fewer_covers by_symbol counts o l n e c b h k =
+    let less = e (bucket by_symbol (length counts)) b in
     let before = c b h k in
     omega (arith, less, before)
 
+pub fewer_tallied : (c : Tallies) (o l n : Tree) → ((f : Name → ℕ) (b : ℕ) → tally f b n ≤ tally f b l) → Tallied c o l → Tallied c o n
+fewer_tallied c o l n e t = record { symbols = fewer_covers true c.by_symbol.items o l n e t.symbols; spellings = fewer_covers false c.by_spelling.items o l n e t.spellings }
+
 pub still_tallied : (c : Tallies) (W : Liberties) (o l n : Tree) → Gone W o l n → Tallied c o l → Tallied c o n
-still_tallied c W o l n g t = record { symbols = still_covers true c.by_symbol.items W o l n g t.symbols; spellings = still_covers false c.by_spelling.items W o l n g t.spellings }
+still_tallied c W o l n g = fewer_tallied c o l n (λ f b. gone_fewer f b W o l n g)
 
 -- ---- a name whose buckets nothing else is in
 
@@ -372,13 +376,13 @@ module _ (T : Tallies) (o : Tree) (ts : Trees) (i j : ℕ) (h : i < count ts) (d
 
   -- ---- and the next statement reads it
 
-  module _ (next : suc i < count ts) (reads : reads_next x init ts i ≡ true) (spelled : 1 ≤ tally (bucket false r) (bucket false r x) (child_or_absent ts (suc i))) where
-    abbrev head : Tree
-    head = child_or_absent ts (suc i)
+  abbrev head : Tree
+  head = child_or_absent ts (suc i)
 
-    abbrev after : Trees
-    after = rest_children (suc (suc i)) ts
+  abbrev after : Trees
+  after = rest_children (suc (suc i)) ts
 
+  module _ (next : suc i < count ts) (counted : (m : ℕ) → 1 ≤ tally (bucket true m) (bucket true m x) head) (spelled : 1 ≤ tally (bucket false r) (bucket false r x) head) where
     abbrev Once : (Name → ℕ) → Type 0
     Once f = (tally f (f x) o ≡ 0) × (tally f (f x) init ≡ 0) × (tallies f (f x) (first_children j ds) ≡ 0) × (tallies f (f x) (first_children i ts) ≡ 0) × (tallies f (f x) after ≡ 0)
 
@@ -389,28 +393,33 @@ module _ (T : Tallies) (o : Tree) (ts : Trees) (i j : ℕ) (h : i < count ts) (d
         let rest = ap (tallies f (f x)) (next_child ts (suc i) next) in
         (omega (arith, e, read, sum, own, rest), omega (arith, e, read, sum, own, rest), omega (arith, e, read, sum, own, rest), omega (arith, e, read, sum, own, rest), omega (arith, e, read, sum, own, rest))
 
-    pub rare_read : IsRare T x 2 → is_read_once (x ∷ []) o init ds j ts i ≡ true
-    rare_read rare =
-        let a = once (bucket true n) (within_few true T.by_symbol.items o (listed ts) x 2 (omega arith) told.symbols rare.symbols) (taken_counted n x init head reads) in
+    -- the name stands outside of the list, in its initializer, in a declarator or a statement before it, or behind the next statement
+    pub rare_around : IsRare T x 2 → (names x o ≡ false) × (names x init ≡ false) × (any_names x (first_children j ds) ≡ false) × (any_names x (first_children i ts) ≡ false) × (any_names x after ≡ false)
+    rare_around rare =
+        let a = once (bucket true n) (within_few true T.by_symbol.items o (listed ts) x 2 (omega arith) told.symbols rare.symbols) (counted n) in
         let b = once (bucket false r) (within_few false T.by_spelling.items o (listed ts) x 2 (omega arith) told.spellings rare.spellings) spelled in
         let one_of = unmentioned x n r in
         let all_of = all_unmentioned x n r in
-        let p = one_of o a.0 b.0 in
-        let q = one_of init a.1 b.1 in
-        let u = all_of (first_children j ds) a.2 b.2 in
-        let v = all_of (first_children i ts) a.3 b.3 in
-        let w = all_of after a.4 b.4 in
-        λ k. not (p k) && (reads k && (not (q k || u k) && not (w k || v k)))
+        (one_of o a.0 b.0, one_of init a.1 b.1, all_of (first_children j ds) a.2 b.2, all_of (first_children i ts) a.3 b.3, all_of after a.4 b.4)
+
+  -- where a statement reads the name at its head
+  pub rare_around_head : suc i < count ts → reads_head x head ≡ true → 1 ≤ tally (bucket false r) (bucket false r x) head → IsRare T x 2 → (names x o ≡ false) × (names x init ≡ false) × (any_names x (first_children j ds) ≡ false) × (any_names x (first_children i ts) ≡ false) × (any_names x after ≡ false)
+  rare_around_head next read = rare_around next (λ m. head_counted m x head read)
+
+  pub rare_read : suc i < count ts → reads_next x init ts i ≡ true → 1 ≤ tally (bucket false r) (bucket false r x) head → IsRare T x 2 → is_read_once (x ∷ []) o init ds j ts i ≡ true
+  rare_read next read spelled rare =
+      let (p, q, u, v, w) = rare_around next (λ m. taken_counted m x init head read) spelled rare in
+      λ k. not (p k) && (read k && (not (q k || u k) && not (w k || v k)))
 
   -- ---- or the next declarator does
 
-  module _ (next : suc j < count ds) (other : part (list_at ts i) (suc j) ≡ declarator (part (part (list_at ts i) (suc j)) 0) (part (part (list_at ts i) (suc j)) 1)) (first : reads_in x init (part (part (list_at ts i) (suc j)) 1) ≡ true) (spelled : 1 ≤ tally (bucket false r) (bucket false r x) (part (part (list_at ts i) (suc j)) 1)) where
-    abbrev following : Tree
-    following = part (list_at ts i) (suc j)
+  abbrev following : Tree
+  following = part (list_at ts i) (suc j)
 
-    abbrev behind : Trees
-    behind = rest_children (suc (suc j)) ds
+  abbrev behind : Trees
+  behind = rest_children (suc (suc j)) ds
 
+  module _ (next : suc j < count ds) (other : following ≡ declarator (part following 0) (part following 1)) (first : is_first x false (part following 1) ≡ true) (spelled : 1 ≤ tally (bucket false r) (bucket false r x) (part following 1)) where
     abbrev Beside : (Name → ℕ) → Type 0
     Beside f = (tally f (f x) o ≡ 0) × (tally f (f x) init ≡ 0) × (tally f (f x) (part following 0) ≡ 0) × (tallies f (f x) (first_children j ds) ≡ 0) × (tallies f (f x) behind ≡ 0) × (tallies f (f x) (first_children i ts) ≡ 0) × (tallies f (f x) (rest_children (suc i) ts) ≡ 0)
 
@@ -429,9 +438,10 @@ module _ (T : Tallies) (o : Tree) (ts : Trees) (i j : ℕ) (h : i < count ts) (d
           omega (arith, e, read, sum, own, rest, there),
         )
 
-    pub rare_next : IsRare T x 2 → is_read_then (x ∷ []) (part (list_at ts i) j) following o ds j ts i ≡ true
-    rare_next rare =
-        let a = beside (bucket true n) (within_few true T.by_symbol.items o (listed ts) x 2 (omega arith) told.symbols rare.symbols) (first_counted n x false (part following 1) (and_parts (is_first x false (part following 1)) (are_passed x init (part following 1)) first).0) in
+    -- the name stands beside its declarator and the next one, outside of the list, or in another statement
+    pub rare_beside : IsRare T x 2 → (not (is_mentioned_beside x (part (list_at ts i) j) following ds j) && (not (names x o) && not (is_mentioned_elsewhere x ts i))) ≡ true
+    rare_beside rare =
+        let a = beside (bucket true n) (within_few true T.by_symbol.items o (listed ts) x 2 (omega arith) told.symbols rare.symbols) (first_counted n x false (part following 1) first) in
         let b = beside (bucket false r) (within_few false T.by_spelling.items o (listed ts) x 2 (omega arith) told.spellings rare.spellings) spelled in
         let one_of = unmentioned x n r in
         let all_of = all_unmentioned x n r in
@@ -442,7 +452,12 @@ module _ (T : Tallies) (o : Tree) (ts : Trees) (i j : ℕ) (h : i < count ts) (d
         let u = all_of behind a.4 b.4 in
         let v = all_of (first_children i ts) a.5 b.5 in
         let w = all_of (rest_children (suc i) ts) a.6 b.6 in
-        λ k. first k && (not (q k || (s k || (t k || u k))) && (not (p k) && not (v k || w k)))
+        λ k. not (q k || (s k || (t k || u k))) && (not (p k) && not (v k || w k))
+
+  pub rare_next : suc j < count ds → following ≡ declarator (part following 0) (part following 1) → reads_in x init (part following 1) ≡ true → 1 ≤ tally (bucket false r) (bucket false r x) (part following 1) → IsRare T x 2 → is_read_then (x ∷ []) (part (list_at ts i) j) following o ds j ts i ≡ true
+  rare_next next other read spelled rare =
+      let first = (and_parts (is_first x false (part following 1)) (are_passed x init (part following 1)) read).0 in
+      λ k. read k && rare_beside next other first spelled rare k
 
 -- ---- heads
 

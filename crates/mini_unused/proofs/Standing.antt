@@ -1,5 +1,5 @@
 -- Where a name stands in a tree, child by child.
-use Rattle.std.proofs.Common.{◌≡◌, ℕ, zero, suc, ◌+◌, ◌<◌, ◌≤◌, Bool, true, false, List, refl, sym, ap, ◌∙◌, add-one, arith}
+use Rattle.std.proofs.Common.{◌≡◌, ℕ, zero, suc, ◌+◌, ◌<◌, ◌≤◌, Bool, true, false, List, refl, sym, ap, ◌∙◌, true≢false, add-one, arith}
 use Rattle.std.specs.Prelude.{◌||◌}
 use Rattle.mini_model.specs.declared.name.Name.{Name}
 use Rattle.mini_model.specs.Tree.{Tree, Trees, node, none, ◌▸◌, count, child_or_absent, children}
@@ -31,6 +31,16 @@ module _ (x : Name) where
 
   pub mention_end : (ts : Trees) (i : ℕ) → count ts ≤ i → any_names x (rest_children i ts) ≡ false
   mention_end ts i h = ap (any_names x) (no_rest ts i h)
+
+  -- where a child mentions it
+  any_there : (ts : Trees) (i : ℕ) → names x (child_or_absent ts i) ≡ true → any_names x ts ≡ true
+  any_there none i e = absurd (true≢false (sym e))
+  any_there (t ▸ ts) zero e = ap (λ b. b || any_names x ts) e
+  any_there (t ▸ ts) (suc i) e = ap (λ b. names x t || b) (any_there ts i e) ∙ or_true (names x t)
+
+  pub part_mentioned : (n t : Tree) (ts : Trees) (i : ℕ) (b : Bool) → ts ≡ children n → t ≡ child_or_absent ts i → b ≡ names x t → b ≡ true → names x n ≡ true
+  part_mentioned n t ts i b e f g h =
+      opened n ∙ ap (λ c. is_like_one x (names_of n) || c) (any_there (children n) i (ap (λ us. names x (child_or_absent us i)) (sym e) ∙ ap (names x) (sym f) ∙ sym g ∙ h)) ∙ or_true (is_like_one x (names_of n))
 
   -- of those before an index
 

@@ -11,7 +11,7 @@ use Rattle.mini_context.specs.Tables.{mark_at}
 
 -- the options, as the rows read them
 abbrev pub switches_of : CompressOptions → Switches
-switches_of o = record { sequences = o.sequences; join_vars = o.join_vars; keep_function_names = o.keep_names.function; keep_class_names = o.keep_names.class }
+switches_of o = record { sequences = o.sequences; join_vars = o.join_vars; keep_function_names = o.keep_names.function; keep_class_names = o.keep_names.class; edition = o.edition }
 
 -- the variables that a table marks, by symbol
 abbrev pub marked : Facts → VariableSet

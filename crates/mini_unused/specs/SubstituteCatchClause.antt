@@ -1,5 +1,5 @@
 -- 63, `substitute_catch_clause`: `catch (e) { f(); }` becomes `catch { f(); }`.
-use Rattle.std.specs.Prelude.{Bool, true, false, not, ◌&&◌, List, [], ◌∷◌}
+use Rattle.std.specs.Prelude.{ℕ, Bool, true, false, not, ◌&&◌, List, [], ◌∷◌}
 use Rattle.mini_model.specs.declared.name.Name.{Name}
 use Rattle.mini_model.specs.declared.place.Position.{Position}
 use Rattle.mini_model.specs.declared.shape.Shape.{Shape}
@@ -8,7 +8,9 @@ use Rattle.mini_model.specs.Tree.{Tree, shape_of, absent}
 use Rattle.mini_laws.specs.ScopeList.{has_eval}
 use Rattle.mini_node.specs.Children.{names_of, part, with_part, is_bare}
 use Rattle.mini_rows.specs.Catches.{CatchRow, CatchContracts}
+use Rattle.mini_rows.specs.Editions.{CatchesIn}
 use Rattle.mini_rows.specs.Unused.{names}
+use Rattle.mini_tree.specs.declared.options.CompressOptions.{CompressOptions}
 use Rattle.mini_tree.specs.Rule as rule
 use Rattle.mini_unused.specs.RemoveUnusedDeclaration.{is_resolved_binding}
 
@@ -32,6 +34,20 @@ nameless t = with_part t 0 absent
 abbrev pub Rests : Position → Tree → Type 0
 Rests p n = (w : Tree) → CatchRow p n w → ⊥
 
--- one call of the rule
+-- what the rule makes where the edition that is asked for has a `catch` without a parameter, and
+-- there alone
+abbrev pub Gives : CompressOptions → Position → Tree → Tree → Type 0
+Gives o = CatchesIn o.edition
+
+abbrev pub RestsIn : ℕ → Position → Tree → Type 0
+RestsIn e p n = (w : Tree) → CatchesIn e p n w → ⊥
+
+abbrev pub RestsUnder : CompressOptions → Position → Tree → Type 0
+RestsUnder o = RestsIn o.edition
+
+abbrev pub AppliedIn : ℕ → Position → Tree → Tree → Bool → Type 0
+AppliedIn e = rule.Applied (CatchesIn e) (RestsIn e)
+
+-- one call of the rewrite
 abbrev pub Applied : Position → Tree → Tree → Bool → Type 0
 Applied = rule.Applied CatchContracts Rests

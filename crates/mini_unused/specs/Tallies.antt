@@ -94,3 +94,7 @@ AreRead c xs r t = ⊥
 abbrev pub AreReadIn : Tallies → List Name → Tree → Tree → Type 0
 AreReadIn c (x ∷ []) r v = IsRare c x 2 × (reads_in x r v ≡ true) × (1 ≤ tally (bucket false (length c.by_spelling.items)) (bucket false (length c.by_spelling.items) x) v)
 AreReadIn c xs r v = ⊥
+
+-- at most two names are in its buckets, and one with its spelling stands in a tree
+abbrev pub IsRareIn : Tallies → Name → Tree → Type 0
+IsRareIn c x t = IsRare c x 2 × (1 ≤ tally (bucket false (length c.by_spelling.items)) (bucket false (length c.by_spelling.items) x) t)

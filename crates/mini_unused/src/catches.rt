@@ -5,10 +5,9 @@ ghost use Rattle.std.specs.Prelude.{◌≡◌, ◌<◌, true};
 ghost use Rattle.mini_model.specs.declared.place.Position.TheVariants.{Elsewhere};
 ghost use Rattle.mini_model.specs.Tree.{children, count};
 ghost use Rattle.mini_node.specs.Children.{names};
-ghost use Rattle.mini_rows.specs.Catches.{CatchContracts};
 ghost use Rattle.mini_unused.specs.Lighter.{catch_is_lighter};
 ghost use Rattle.mini_unused.specs.SubstituteCatchClause as row;
-ghost use Rattle.mini_unused.specs.SubstituteCatchClause.{Applied, Rests};
+ghost use Rattle.mini_unused.specs.SubstituteCatchClause.{Applied, AppliedIn, Gives, RestsUnder};
 
 use crate::declarations::{is_resolved_binding, take_child};
 use crate::evals::has_eval;
@@ -17,6 +16,9 @@ use mini_model::{Name, OutOfMemory, Position, Shape};
 use mini_node::{Node, discard};
 use mini_tree::{Context, Rule};
 use std::alloc::Global;
+
+// The edition of ECMA-262 that a `catch` without a parameter came with, as a year.
+const BARE_CATCH: u16 = 2019;
 
 // Nothing in the body mentions the name, and no direct eval stands there, which would see it.
 fn is_unseen(name: &Option<Name>, body: &Node) -> bool
@@ -51,27 +53,37 @@ pub fn substitute_catch_clause(node: &mut Node) -> bool
     true
 }
 
-/// Row 63 as a rule: of each handler.
+// The same of what stands at a place, where the edition has a `catch` without a parameter.
+fn substitute_catch_in(node: &mut Node, place: Position, edition: u16) -> bool
+    ensures { AppliedIn edition place node.old node.new result }
+{
+    if edition < BARE_CATCH {
+        return false;
+    }
+    match place {
+        Position::Elsewhere => substitute_catch_clause(node),
+        _ => false,
+    }
+}
+
+/// Row 63 as a rule: of each handler, where the edition of the options has a `catch` without a
+/// parameter.
 pub struct SubstituteCatches;
 
 impl<C: Context> Rule<C> for SubstituteCatches {
-    ghost gives = { λ o q. CatchContracts };
+    ghost gives = { λ o q. Gives o };
 
-    ghost rests = { λ o q. Rests };
+    ghost rests = { λ o q. RestsUnder o };
 
-    ghost lighter = { λ o q. catch_is_lighter };
+    ghost lighter = { λ o q. catch_is_lighter o };
 
-    #[tactic(auto, using(crate::proofs::Catching::elsewhere))]
     fn apply(
         &self,
         _alloc: Global,
         node: &mut Node,
         place: Position,
-        _context: &mut C,
+        context: &mut C,
     ) -> Result<bool, OutOfMemory> {
-        match place {
-            Position::Elsewhere => Ok(substitute_catch_clause(node)),
-            _ => Ok(false),
-        }
+        Ok(substitute_catch_in(node, place, context.options().edition))
     }
 }

@@ -15,7 +15,7 @@ ghost use Rattle.mini_unused.specs.SubstituteSingleUse.{Removed};
 
 use crate::declares::declares_nothing;
 use crate::evals::either_has_eval;
-use crate::mentions::{is_mentioned, is_mentioned_before, is_mentioned_from};
+use crate::mentions::{is_mentioned, is_mentioned_before, is_mentioned_from, is_mentioned_outside};
 use crate::single_uses::substitute_single_uses;
 use crate::sweeping::sweep;
 use mini_context::TraverseCtx;
@@ -197,7 +197,7 @@ pub fn is_alone(
     match name {
         Some(name) => {
             is_alone_inside(name, init, declarators, which, statements, at)
-                && !is_mentioned(name, outside)
+                && !is_mentioned_outside(name, outside)
         }
         None => false,
     }

@@ -43,4 +43,5 @@ pub use single_uses::{
     is_declared_over, is_mentioned_around, last_declarator, may_move, substitute_in_list,
     substitute_single_uses,
 };
-pub use sweeping::{declarators_at, has_next};
+pub use sweeping::{declarators_at, has_next, tally_from};
+pub use tallies::{Tallies, has_rare_name, is_rare_in, is_rare_in_head};

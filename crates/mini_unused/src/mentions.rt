@@ -80,6 +80,29 @@ pub fn is_mentioned_from(name: &Name, nodes: &Nodes, from: usize) -> bool
     false
 }
 
+// It stands in the last part of a node.
+fn is_mentioned_last(name: &Name, node: &Node) -> bool
+    ensures { result ≡ true → names name.now node.now ≡ true }
+{
+    let count = node.children().len();
+    if count == 0 {
+        return false;
+    }
+    is_mentioned(name, node.child(count - 1))
+}
+
+/// Whether a name that has the spelling of this one, or its symbol, stands in what is outside of
+/// some statements, of which the last part is looked at first: of the nodes above a list that is the
+/// nearest one.
+pub fn is_mentioned_outside(name: &Name, outside: &Node) -> bool
+    ensures { result ≡ names name.now outside.now }
+{
+    if is_mentioned_last(name, outside) {
+        return true;
+    }
+    is_mentioned(name, outside)
+}
+
 /// Whether a name that has the spelling of this one, or its symbol, stands in one of these nodes,
 /// before an index.
 pub fn is_mentioned_before(name: &Name, nodes: &Nodes, end: usize) -> bool

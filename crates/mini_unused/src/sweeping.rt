@@ -18,7 +18,9 @@ use crate::declarations::{
 };
 use crate::next_uses::{is_declarator, is_read_then, substitute_next};
 use crate::single_uses::{is_read_once, last_declarator, may_move, reads_next, substitute_in_list};
-use crate::tallies::{Tallies, has_rare_name, is_rarely_read, is_rarely_read_in, tally_list};
+use crate::tallies::{
+    Tallies, has_rare_name, is_rarely_read, is_rarely_read_in, tally_if_many, tally_list,
+};
 use mini_context::TraverseCtx;
 use mini_model::OutOfMemory;
 use mini_node::{Node, Nodes};
@@ -412,6 +414,14 @@ fn count_declarators(list: &Node, from: usize) -> usize {
         declarators = declarators.saturating_add(declarators_at(list, at));
     }
     declarators
+}
+
+/// The tallies of a list that is swept from a place on, and of what is outside of it. Where it has
+/// few declarators, or memory runs out, nothing is counted.
+pub fn tally_from(alloc: Global, outside: &Node, list: &Node, from: usize) -> Tallies
+    ensures { Tallied result outside.now list.now }
+{
+    tally_if_many(alloc, outside, list, count_declarators(list, from))
 }
 
 // From a place on, with the tables.

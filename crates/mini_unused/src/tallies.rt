@@ -6,7 +6,7 @@ ghost use Rattle.std.specs.Prelude.{◌≡◌, ◌≤◌, ◌<◌, ◌+◌, ◌^
 ghost use Rattle.mini_model.specs.Tree.{child_or_absent, count};
 ghost use Rattle.mini_node.specs.Children.{names, rest_children};
 ghost use Rattle.mini_unused.specs.Tallies as row;
-ghost use Rattle.mini_unused.specs.Tallies.{hash_of, number_of, bucket, one_if, own_tally, tally, tallies, Counted, Covers, Tallied, HasFew, IsRare, AreRare, AreRead, AreReadIn};
+ghost use Rattle.mini_unused.specs.Tallies.{hash_of, number_of, bucket, one_if, own_tally, tally, tallies, Counted, Covers, Tallied, HasFew, IsRare, IsRareIn, AreRare, AreRead, AreReadIn};
 
 use crate::heads::{evaluated, evaluated_hidden};
 use crate::mentions::is_same_text;
@@ -226,6 +226,22 @@ pub fn is_rarely_read_in(tallies: &Tallies, name: &Option<Name>, init: &Node, va
     }
 }
 
+/// Whether no more than two names are in each of the buckets of this one, and a name with its
+/// spelling stands in the tree.
+pub fn is_rare_in(tallies: &Tallies, name: &Name, node: &Node) -> bool
+    ensures { result ≡ true → IsRareIn tallies.now name.now node.now }
+{
+    is_rare(tallies, name, 2) && is_counted_in(name, node)
+}
+
+/// Whether no more than two names are in each of the buckets of this one, and a name with its
+/// spelling stands in what the statement evaluates first.
+pub fn is_rare_in_head(tallies: &Tallies, name: &Name, node: &Node) -> bool
+    ensures { result ≡ true → IsRareIn tallies.now name.now node.now }
+{
+    is_rare(tallies, name, 2) && is_counted_in_head(name, node)
+}
+
 // So many buckets, all empty.
 fn no_counts(alloc: Global, buckets: usize) -> Result<Vec<u8>, OutOfMemory>
     ensures { IfOk result (λ counts. counts.items ≡ replicate buckets 0) }
@@ -275,4 +291,18 @@ pub fn tally_list(
         by_symbol,
         by_spelling,
     })
+}
+
+/// The tallies of a list with that many declarators, and of what is outside of it. Where they are
+/// few, or memory runs out, nothing is counted.
+pub fn tally_if_many(alloc: Global, outside: &Node, list: &Node, declarators: usize) -> Tallies
+    ensures { Tallied result outside.now list.now }
+{
+    match tally_list(alloc, outside, list, declarators) {
+        Ok(tallies) => tallies,
+        Err(_) => Tallies {
+            by_symbol: Vec::new(alloc),
+            by_spelling: Vec::new(alloc),
+        },
+    }
 }

@@ -37,6 +37,10 @@ class Marks {
     this.names = new Map();
     /** The module and the marked functions: the number in their marks is their place. */
     this.frames = [];
+    /** What a call of a name stands for: `wait`, `iterate` or `give`. */
+    this.calls = new Map();
+    /** The frame of each directive that marks a function. */
+    this.frameOf = new Map();
   }
 
   /** The name of a literal. */
@@ -64,6 +68,8 @@ class Marks {
       waits: 0,
     };
     this.frames.push(frame);
+    this.frameOf.set(frame.directive, frame);
+    for (const kind of ["wait", "iterate", "give"]) this.calls.set(frame[kind], kind);
     return frame;
   }
 

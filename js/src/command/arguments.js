@@ -15,6 +15,7 @@ const OWN = {
   "no-adapt": flag(),
   "source-map": flag(),
   program: text(),
+  printer: text(),
   quiet: flag("q"),
   help: flag("h"),
   version: flag("v"),
@@ -43,14 +44,16 @@ goes to standard output; of several files, OUT is a folder. A file that is refus
 
   --passes=N              at most N passes
   --max-depth=N           how deep the code may nest, 1 to 1000
+  --edition=N             no form newer than ECMAScript N is written, 2015 to 2022
   --no-sequences          statements aren't joined by commas
   --no-join-vars          declarations aren't joined
   --keep-function-names   names of function expressions stay
   --keep-class-names      names of class expressions stay
-  --program PATH          the proved program (else MINI_APP, else crates/mini_app/out/mini_app)
+  --program PATH          the program that rewrites (else MINI_APP, else crates/mini_app/out/mini_app)
+  --printer PATH          the one that prints (else MINI_TEXT, else crates/mini_text/out/mini_text)
 
 It ends with status 0; with 1 where a file is refused and --strict is there; with 2 where the call
-is wrong, a file can't be read or written, or the program or the parser isn't there.
+is wrong, a file can't be read or written, or a program or the parser isn't there.
 `;
 
 function numberOf(word, value) {
@@ -61,7 +64,8 @@ function numberOf(word, value) {
 /** The options of `minify` that the words stand for. */
 function optionsOf(values) {
   const is = (word) => values[word] === true;
-  const options = { program: values.program, adapt: !is("no-adapt"), sourceMap: is("source-map") };
+  const { program, printer } = values;
+  const options = { program, printer, adapt: !is("no-adapt"), sourceMap: is("source-map") };
   if (is("module")) options.module = true;
   for (const [option, word] of Object.entries(NUMBERS)) {
     if (values[word] !== undefined) options[option] = numberOf(word, values[word]);

@@ -12,22 +12,18 @@ const { toJson } = require("../../src/json.js");
 const { decode, encode } = require("../../src/mappings.js");
 const { numbered } = require("../../src/numbered.js");
 const { parse } = require("../../src/parser.js");
-const { print } = require("../../src/print.js");
-const { programPath, runProgram } = require("../../src/program.js");
+const { runProgram } = require("../../src/program.js");
 const { origins, sourceMap } = require("../../src/source-map.js");
+const { skip } = require("../built.js");
 const { checkMap, leadsTo, segmentsOf } = require("./maps.js");
 
-const isBuilt = fs.existsSync(programPath());
-const skip = isBuilt ? false : "the program isn't built: MINI_APP can name one";
 
 /** The map of a text of which another is the answer, with the same functions. */
-function mapped(code, answer, more = {}) {
+function mapped(code, text, more = {}) {
   const { ast } = parse(code);
-  const program = parse(answer).ast;
-  const positions = [];
-  const text = print(program, { positions });
+  const [program, tree] = [parse(text).ast, parse(text, { isPlaced: false }).ast];
   const kept = more.kept ?? numbered(program).map((node, number) => number);
-  return { text, ...sourceMap({ code, ast, program, kept, text, positions, file: "in.js", ...more }) };
+  return { text, ...sourceMap({ code, ast, program, kept, text, tree, file: "in.js", ...more }) };
 }
 
 test("numbers are written and read", () => {
@@ -68,8 +64,7 @@ test("pairs are equal and ascend", () => {
 
 test("each leaf leads to its place", () => {
   const code = "// a comment\nif (first) {\n  second(third);\n}\n";
-  const { text, map } = mapped(code, "first && second(third)");
-  assert.equal(text, "first&&second(third)");
+  const { text, map } = mapped(code, "first&&second(third)");
   assert.equal(leadsTo(map, text, "first"), "in.js:2:5");
   assert.equal(leadsTo(map, text, "second"), "in.js:3:3");
   assert.equal(leadsTo(map, text, "third"), "in.js:3:10");
@@ -87,11 +82,10 @@ test("what can't be told leads nowhere", () => {
 
 test("bodies are told apart", () => {
   const code = "function f() { return x }\nfunction g() { return x }\nfunction h() { return x }";
-  const answer = "function f() { return x } function h() { return x }";
-  const { text, map } = mapped(code, answer, { kept: [0, 1, 3] });
+  const answer = "function f(){return x}function h(){return x}";
+  const { map } = mapped(code, answer, { kept: [0, 1, 3] });
   const place = ({ sourceLine, sourceColumn }) => `${sourceLine}:${sourceColumn}`;
   const places = segmentsOf(map).map(place);
-  assert.equal(text, "function f(){return x}function h(){return x}");
   assert.deepEqual(places, ["0:9", "0:22", "2:9", "2:22"]);
 });
 

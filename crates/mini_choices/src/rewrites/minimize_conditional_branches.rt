@@ -10,7 +10,7 @@ ghost use Rattle.mini_node.specs.Children.{part};
 ghost use Rattle.mini_node.specs.Kinds.{assignment_operator as operator_of, binary_operator as its_operator};
 ghost use Rattle.mini_rows.specs.Choices.{may_choose as may_it_choose};
 ghost use Rattle.mini_choices.specs.Assigning.{is_plain};
-ghost use Rattle.mini_choices.specs.MinimizeConditionalBranches.{may_take as may_it_take, assigns_alike as they_assign_alike, assigns_either as it_assigns_either, assigns_indexed as they_assign_indexed, indexes_either as it_indexes_either, is_seated as is_it_seated, assigned as assigned_of, is_equal_in, is_unequal_in, is_beside_null as is_it_beside_null, is_own_if_equal as is_it_own_if_equal, is_own_if_unequal as is_it_own_if_unequal, is_own_consequent as is_it_own_consequent, is_own_alternate as is_it_own_alternate, written};
+ghost use Rattle.mini_choices.specs.MinimizeConditionalBranches.{may_take as may_it_take, assigns_alike as they_assign_alike, assigns_either as it_assigns_either, assigns_indexed as they_assign_indexed, indexes_either as it_indexes_either, is_seated as is_it_seated, assigned as assigned_of, is_equal_in, is_unequal_in, is_beside_null as is_it_beside_null, is_own_if_equal as is_it_own_if_equal, is_own_if_unequal as is_it_own_if_unequal, is_own_consequent as is_it_own_consequent, is_own_alternate as is_it_own_alternate, consequent_written, written};
 
 use crate::assigning::{assigns_by, is_declared, is_same_indexed, is_same_member, is_same_name};
 use crate::calling::{called, calls_either};
@@ -238,9 +238,37 @@ fn and_consequent(alloc: Global, node: Node) -> Result<Node, OutOfMemory>
 }
 
 /// `x ? x : b` becomes `x || b`, `x ? b : x` becomes `x && b`, `a ? x = b : x = c` becomes
-/// `x = a ? b : c`, and so of `+=`, `x == null ? b : x` becomes `x ?? b`, and
-/// `a ? f(p, r) : f(q, r)` becomes `f(a ? p : q, r)`. The answer says whether it did; the only
-/// error is that memory runs out, and then the expression is fit only to be dropped.
+/// `x = a ? b : c`, and so of `+=`, and `a ? f(p, r) : f(q, r)` becomes `f(a ? p : q, r)`. The
+/// answer says whether it did; the only error is that memory runs out, and then the expression is
+/// fit only to be dropped.
+pub fn minimize_older_branches(
+    alloc: Global,
+    node: &mut Node,
+    seat: Seat,
+) -> Result<bool, OutOfMemory>
+    ensures tree { OnOk result (node.new ≡ unwrap_or (consequent_written seat node.old) node.old) }
+    ensures said { IfOk result (λ changed. changed ≡ is_some (consequent_written seat node.old)) }
+{
+    let made = if is_own_consequent(node, seat) {
+        or_alternate(alloc, taken(alloc, node))?
+    } else if is_own_alternate(node, seat) {
+        and_consequent(alloc, taken(alloc, node))?
+    } else if is_seated(seat) && assigns_either(node, true) {
+        assigned(alloc, taken(alloc, node))?
+    } else if is_seated(seat) && indexes_either(node, true) {
+        assigned(alloc, taken(alloc, node))?
+    } else if calls_either(node, true) {
+        called(alloc, taken(alloc, node))?
+    } else {
+        return Ok(false);
+    };
+    *node = made;
+    Ok(true)
+}
+
+/// `x == null ? b : x` becomes `x ?? b`, and what `minimize_older_branches` changes becomes what
+/// that makes of it. The answer says whether it did; the only error is that memory runs out, and
+/// then the expression is fit only to be dropped.
 pub fn minimize_conditional_branches(
     alloc: Global,
     node: &mut Node,
@@ -253,18 +281,8 @@ pub fn minimize_conditional_branches(
         with_alternate(alloc, taken(alloc, node))?
     } else if is_own_if_unequal(node) {
         with_consequent(alloc, taken(alloc, node))?
-    } else if is_own_consequent(node, seat) {
-        or_alternate(alloc, taken(alloc, node))?
-    } else if is_own_alternate(node, seat) {
-        and_consequent(alloc, taken(alloc, node))?
-    } else if is_seated(seat) && assigns_either(node, true) {
-        assigned(alloc, taken(alloc, node))?
-    } else if is_seated(seat) && indexes_either(node, true) {
-        assigned(alloc, taken(alloc, node))?
-    } else if calls_either(node, true) {
-        called(alloc, taken(alloc, node))?
     } else {
-        return Ok(false);
+        return minimize_older_branches(alloc, node, seat);
     };
     *node = made;
     Ok(true)

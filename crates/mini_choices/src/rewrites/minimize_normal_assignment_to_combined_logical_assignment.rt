@@ -4,9 +4,11 @@
 ghost use Rattle.std.specs.Prelude.{◌≡◌, is_some, unwrap_or, OnOk, IfOk};
 ghost use Rattle.mini_choices.specs.MinimizeNormalAssignmentToCombinedLogicalAssignment as row;
 ghost use Rattle.mini_choices.specs.MinimizeNormalAssignmentToCombinedLogicalAssignment.{marked, written, Gives, Rests};
+ghost use Rattle.mini_choices.specs.Choices.{since};
 ghost use Rattle.mini_choices.specs.Lighter.{writes_lighter};
 ghost use Rattle.mini_choices.specs.Writes.{conditional_written, written as written_for};
 
+use crate::editions::{COALESCING, DECIDING};
 use crate::assigning::{is_same_name, writes_name};
 use crate::rewrites::inject_assigned_chaining::inject_assigned_chaining;
 use crate::rewrites::minimize_assigned_comparison::minimize_assigned_comparison;
@@ -77,36 +79,71 @@ fn minimize_assigned_conditional(
     inject_assigned_chaining(alloc, node, seat, scopes)
 }
 
-// What a row says of the expression in its seat, if one reads it.
+// `x = x || b` becomes `x ||= b`, where the edition has that.
+fn decide_assignment(
+    alloc: Global,
+    node: &mut Node,
+    scopes: &Scopes,
+    edition: u16,
+) -> Result<bool, OutOfMemory>
+    ensures tree { OnOk result (node.new ≡ unwrap_or (since 2021 edition (written (marked scopes.now) node.old)) node.old) }
+    ensures said { IfOk result (λ changed. changed ≡ is_some (since 2021 edition (written (marked scopes.now) node.old))) }
+{
+    if DECIDING <= edition {
+        minimize_normal_assignment_to_combined_logical_assignment(alloc, node, scopes)
+    } else {
+        Ok(false)
+    }
+}
+
+// `(x = a) == null ? b : x` becomes `(x = a) ?? b`, and what is of members `(x = a)?.m`, where the
+// edition has that.
+fn ask_assigned(
+    alloc: Global,
+    node: &mut Node,
+    seat: Seat,
+    scopes: &Scopes,
+    edition: u16,
+) -> Result<bool, OutOfMemory>
+    ensures tree { OnOk result (node.new ≡ unwrap_or (since 2020 edition (conditional_written (marked scopes.now) seat node.old)) node.old) }
+    ensures said { IfOk result (λ changed. changed ≡ is_some (since 2020 edition (conditional_written (marked scopes.now) seat node.old))) }
+{
+    if COALESCING <= edition {
+        minimize_assigned_conditional(alloc, node, seat, scopes)
+    } else {
+        Ok(false)
+    }
+}
+
+// What a row says of the expression in its seat, if one reads it and the edition has its form.
 fn minimize_write(
     alloc: Global,
     node: &mut Node,
     seat: Seat,
     scopes: &Scopes,
+    edition: u16,
 ) -> Result<bool, OutOfMemory>
-    ensures tree { OnOk result (node.new ≡ unwrap_or (written_for (marked scopes.now) seat node.old) node.old) }
-    ensures said { IfOk result (λ changed. changed ≡ is_some (written_for (marked scopes.now) seat node.old)) }
+    ensures tree { OnOk result (node.new ≡ unwrap_or (written_for edition (marked scopes.now) seat node.old) node.old) }
+    ensures said { IfOk result (λ changed. changed ≡ is_some (written_for edition (marked scopes.now) seat node.old)) }
 {
     match node.shape() {
-        Shape::AssignmentExpression(_) => {
-            minimize_normal_assignment_to_combined_logical_assignment(alloc, node, scopes)
-        }
+        Shape::AssignmentExpression(_) => decide_assignment(alloc, node, scopes, edition),
         Shape::LogicalExpression(_) => minimize_assigned_nullish_comparison(alloc, node, scopes),
-        Shape::ConditionalExpression => minimize_assigned_conditional(alloc, node, seat, scopes),
+        Shape::ConditionalExpression => ask_assigned(alloc, node, seat, scopes, edition),
         _ => Ok(false),
     }
 }
 
 /// The rows of names that can be written as a rule: of each expression. Its context says which
-/// names the program that it knows lets be written.
+/// names the program that it knows lets be written, and of which edition no newer form is written.
 pub struct MinimizeWrites;
 
 impl Rule<TraverseCtx> for MinimizeWrites {
     ghost gives = { Gives };
 
-    ghost rests = { λ o q. Rests q };
+    ghost rests = { Rests };
 
-    ghost lighter = { λ o q. writes_lighter q };
+    ghost lighter = { writes_lighter };
 
     #[tactic(auto, using(crate::proofs::Writes::elsewhere))]
     fn apply(
@@ -117,7 +154,10 @@ impl Rule<TraverseCtx> for MinimizeWrites {
         context: &mut TraverseCtx,
     ) -> Result<bool, OutOfMemory> {
         match place {
-            Position::Expr(seat) => Ok(minimize_write(alloc, node, seat, &context.scopes)?),
+            Position::Expr(seat) => {
+                let edition = context.options.edition;
+                Ok(minimize_write(alloc, node, seat, &context.scopes, edition)?)
+            },
             _ => Ok(false),
         }
     }

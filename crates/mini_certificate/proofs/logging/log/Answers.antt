@@ -3,6 +3,7 @@ use Rattle.std.proofs.lemmas.Result.{IfOk-weaker}
 use Rattle.serde_json.specs.View.{view}
 use Rattle.mini_model.specs.Faults.{fault_of}
 use Rattle.mini_accept.proofs.Shaped.{program_shaped}
+use Rattle.mini_certificate.proofs.BothEnds.{accepts_tree}
 use Rattle.mini_certificate.proofs.Members.{countable_tree}
 use Rattle.mini_certificate.proofs.Told.{fault_is, told_weaker, refused_weaker}
 use Rattle.mini_certificate.proofs.logging.log.Goals as goal
@@ -17,6 +18,9 @@ log_read-requires-clause-symbols c = let (n, read, few) = countable_tree c.args.
 
 pub log_read-requires-clause-references : goal.log_read-requires-clause-references
 log_read-requires-clause-references c = let (n, read, few) = countable_tree c.args.options.now.max_depth (view c.args.value) c.in-Ok.tree c.requires c.in-Ok.ensures in few.references
+
+pub log_read-requires-clause-read : goal.log_read-requires-clause-read
+log_read-requires-clause-read c = (view c.args.value, accepts_tree c.args.options.now.max_depth (view c.args.value) c.in-Ok.tree c.in-Ok.ensures)
 
 pub returns-in-Ok-clause-answered : goal.returns-in-Ok-clause-answered
 returns-in-Ok-clause-answered c = IfOk-weaker c.log_read.result _ _ (λ text h. record { first = c.in-Ok.tree; read = c.in-Ok.ensures; holds = h }) c.log_read.ensures.answered

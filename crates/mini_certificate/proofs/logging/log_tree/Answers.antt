@@ -7,6 +7,7 @@ use Rattle.mini_writer.proofs.Programs.{units_accepted}
 use Rattle.mini_writer.proofs.Units.{shaped_units}
 use Rattle.mini_certificate.specs.Certificates.{line_of}
 use Rattle.mini_certificate.specs.Logs.{log_data}
+use Rattle.mini_certificate.proofs.BothEnds.{agreed}
 use Rattle.mini_certificate.proofs.Floats.{program_plain}
 use Rattle.mini_certificate.proofs.Told.{fault_early, told_weaker, refused_weaker}
 use Rattle.mini_certificate.proofs.logging.log_tree.Goals as goal
@@ -25,8 +26,11 @@ returns-in-Ok-make_steps-clause-answered c =
       leads = c.in-Ok-make_steps.ensures.replays;
       upheld = c.in-Ok-make_steps.ensures.upheld;
       complete = c.in-Ok-make_steps.ensures.all;
-      written = h ∙ ap (λ d. line_of (object (member (codes "log") (log_data log) (member (codes "program") d no_members)))) c.in-Ok.ensures;
+      written = h.is ∙ ap (λ d. line_of (object (member (codes "log") (log_data log) (member (codes "program") d no_members)))) c.in-Ok.ensures;
       accepted = units_accepted c.args.tree.now c.requires.shaped (shaped_units c.args.tree.now c.requires.shaped);
+      agreed = λ p u same read.
+          agreed c.accepted_logs_keep.ensures.keeps c.accepted_logs_keep.ensures.lighter c.args.options.now p c.requires.read.0 c.args.tree.now c.make_steps.new.tree u log c.requires.shaped c.requires.read.1 h.small
+          c.in-Ok-make_steps.ensures.free c.in-Ok-make_steps.ensures.replays same read;
     })
     c.tell_certificate.ensures.text
 

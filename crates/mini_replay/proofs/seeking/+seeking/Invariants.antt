@@ -1,4 +1,4 @@
-use Rattle.std.proofs.Common.{ℕ, ◌≡◌, ◌+◌, ◌*◌, ◌<◌, []}
+use Rattle.std.proofs.Common.{ℕ, ◌≡◌, ◌+◌, ◌*◌, ◌<◌}
 use Rattle.mini_model.specs.Tree.{node_count, children}
 use Rattle.mini_replay.specs.Seeking.{before, NoneAt}
 use Rattle.mini_replay.proofs.seeking.+seeking.Given as goal
@@ -18,5 +18,5 @@ decreases-seek_in g l = 4 * node_count l.node.now + 3
 abbrev pub invariant-seek_below-loop-at : goal.invariant-seek_below-loop-at
 invariant-seek_below-loop-at g l = record {
   first : l.first ≡ before (children l.node) l.at;
-  none : l.from ≡ [] → (k : ℕ) → k < l.at → NoneAt (g.S.Making.makes l.rows) l.place l.node k;
+  none : (k : ℕ) → k < l.at → NoneAt (g.S.Making.makes l.rows) l.place l.node k;
 }

@@ -7,5 +7,5 @@ use Rattle.mini_run.proofs.choice.read_orders.Given as goal
 abbrev pub invariant-words : goal.invariant-words
 invariant-words l = record {
   read : IsRead (take l.word-index (map string_bytes l.word-items)) l.slots;
-  nine : length l.slots ≡ 9;
+  ten : length l.slots ≡ 10;
 }

@@ -1,19 +1,18 @@
 use Rattle.std.proofs.Common.{◌≡◌, subst, false}
 use Rattle.std.specs.Prelude.{is_some, OnOk, IfOk}
 use Rattle.mini_choices.specs.SubstituteRotateLogicalExpression as rotate
-use Rattle.mini_choices.specs.MinimizeLogicalExpression as decide
 use Rattle.mini_choices.specs.MinimizeNullishComparison as nullish
 use Rattle.mini_choices.specs.MinimizeObjectTest as object_test
-use Rattle.mini_choices.specs.Choices.{first_of}
+use Rattle.mini_choices.specs.Choices.{first_of, decided_in}
 use Rattle.mini_choices.proofs.Choices.{second_written, second_made}
 use Rattle.mini_choices.proofs.rewrites.minimize_choices.minimize_logical.Goals as goal
 
 pub returns-clause-tree : goal.returns-clause-tree
 returns-clause-tree c =
     let none : false ≡ is_some (rotate.written c.args.node.now) = cc (c.if-branch.false, c.in_ok-substitute_rotate_logical_expression.ensures.said) in
-    subst (λ x. OnOk c.minimize_operands.result (c.minimize_operands.new.node ≡ x)) (second_made rotate.written (λ t. first_of (decide.written t) (first_of (nullish.written t) (object_test.written t))) c.args.node.now c.substitute_rotate_logical_expression.new.node c.in_ok-substitute_rotate_logical_expression.ensures.tree none) c.minimize_operands.ensures.tree
+    subst (λ x. OnOk c.minimize_operands.result (c.minimize_operands.new.node ≡ x)) (second_made rotate.written (λ t. first_of (decided_in c.args.edition t) (first_of (nullish.written t) (object_test.written t))) c.args.node.now c.substitute_rotate_logical_expression.new.node c.in_ok-substitute_rotate_logical_expression.ensures.tree none) c.minimize_operands.ensures.tree
 
 pub returns-clause-said : goal.returns-clause-said
 returns-clause-said c =
     let none : false ≡ is_some (rotate.written c.args.node.now) = cc (c.if-branch.false, c.in_ok-substitute_rotate_logical_expression.ensures.said) in
-    subst (λ x. IfOk c.minimize_operands.result (λ changed. changed ≡ is_some x)) (second_written rotate.written (λ t. first_of (decide.written t) (first_of (nullish.written t) (object_test.written t))) c.args.node.now c.substitute_rotate_logical_expression.new.node c.in_ok-substitute_rotate_logical_expression.ensures.tree none) c.minimize_operands.ensures.said
+    subst (λ x. IfOk c.minimize_operands.result (λ changed. changed ≡ is_some x)) (second_written rotate.written (λ t. first_of (decided_in c.args.edition t) (first_of (nullish.written t) (object_test.written t))) c.args.node.now c.substitute_rotate_logical_expression.new.node c.in_ok-substitute_rotate_logical_expression.ensures.tree none) c.minimize_operands.ensures.said

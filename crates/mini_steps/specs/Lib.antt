@@ -1,0 +1,5 @@
+pub mod Called
+pub mod Steps
+pub mod Taken
+pub mod Rows
+pub mod Laws
