@@ -23,7 +23,7 @@ use Rattle.mini_again.proofs.SpellingsAgain.{spelling_row_again}
 use Rattle.mini_again.proofs.TemplatesAgain.{template_row_again}
 use Rattle.mini_again.proofs.TurnsAgain.{turn_row_again}
 use Rattle.mini_again.proofs.UnusedAgain.{unused_contracts_again}
-use Rattle.mini_again.proofs.WritesAgain.{write_contracts_again, write_in_again}
+use Rattle.mini_again.proofs.WritesAgain.{writes_in_again}
 use Rattle.mini_again.specs.Again.{Renaming, again, with_others_in}
 use Rattle.mini_laws.specs.Value.{VariableSet}
 use Rattle.mini_model.specs.Tree.{Tree}
@@ -64,5 +64,5 @@ rewrites_again ρ o W p n w (inl r) = inl (contracts_again ρ o p n w r)
 rewrites_again ρ o W p n w (inr (inl r)) = inr (inl (unused_contracts_again ρ (liberties o W) p n w r))
 rewrites_again ρ o W p n w (inr (inr (inl r))) = inr (inr (inl (name_contracts_again ρ o p n w r)))
 rewrites_again ρ o W p n w (inr (inr (inr (inl r)))) = inr (inr (inr (inl (catch_contracts_again ρ p n w r.0, r.1))))
-rewrites_again ρ o W p n w (inr (inr (inr (inr (inl r))))) = inr (inr (inr (inr (inl (write_contracts_again ρ W p n w r.0, write_in_again o.edition ρ W p n w r.0.row r.1)))))
+rewrites_again ρ o W p n w (inr (inr (inr (inr (inl r))))) = inr (inr (inr (inr (inl (writes_in_again o.edition ρ W p n w r)))))
 rewrites_again ρ o W p n w (inr (inr (inr (inr (inr r))))) = inr (inr (inr (inr (inr (let_contracts_again ρ W p n w r)))))

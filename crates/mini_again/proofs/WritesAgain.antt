@@ -15,7 +15,7 @@ use Rattle.mini_rows.specs.Chains.{chain, spine}
 use Rattle.mini_rows.specs.Choices.{assign, joining, loosely, strictly}
 use Rattle.mini_rows.specs.Lists.{resolved}
 use Rattle.mini_rows.specs.Spellings.{binary}
-use Rattle.mini_rows.specs.Editions.{WriteIn}
+use Rattle.mini_rows.specs.Editions.{WriteIn, WritesIn}
 use Rattle.mini_rows.specs.Writes.{Row34, Row37Assigned, Row46Assigned, Row46AssignedChain, WriteContracts, WriteRow, if_null}
 use Rattle.mini_terms.specs.Exact.{by_value, is_guarded}
 use Rattle.std.proofs.Common.{ap, inl, inr}
@@ -102,3 +102,7 @@ write_in_again e ρ W (Expr s) n w (inr (inl r)) a = a
 write_in_again e ρ W (Expr s) n w (inr (inr (inl r))) a = tt
 write_in_again e ρ W (Expr s) n w (inr (inr (inr r))) a = a
 write_in_again e ρ W p n w r a = absurd r
+
+pub writes_in_again : (e : ℕ) (ρ : Renaming) (W : VariableSet) (p : Position) (n w : Tree) → WritesIn e (with_others_in ρ W) p n w → WritesIn e W p (again ρ n) (again ρ w)
+unfolding write_contracts_again
+writes_in_again e ρ W p n w r = (write_contracts_again ρ W p n w r.0, write_in_again e ρ W p n w r.0.row r.1)

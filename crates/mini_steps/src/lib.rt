@@ -1,5 +1,11 @@
-//! Rewrites by a list of steps, in any order and at any places: what they keep of a program, and
-//! what is known of its names afterwards.
+//! Rewrites by a list of steps, each a call by its name at a path of a program, in any order and at
+//! any places: what they keep of the program, and what is known of its names afterwards.
+//!
+//! A path has the index of the child to go to at each node, from the program on. The children of a
+//! node are the nodes of ESTree below it, list by list in the order of its fields; a part that is
+//! absent is none, and neither is a directive. `MinimizeUnary` at `[0, 0, 1]` makes `x = a != b;` of
+//! `x = !(a == b);`. A name takes the node that its call takes: of 51, and of 52 of object literals,
+//! the literal; of 52 of what is declared the declarator or the `catch`; of 63 the `catch`.
 #![tactic(auto)]
 
 mod calling;
