@@ -9,7 +9,7 @@ use Rattle.mini_steps.proofs.Families.{rewrites}
 use Rattle.mini_steps.proofs.Following.{followed_reaches}
 
 pub are_rewrites : StepsAreRewrites
-are_rewrites o W steps t u n f = followed_reaches (CallRows W) (Rewrites o W) (rewrites o W) f
+are_rewrites o W steps t u n f = followed_reaches (CallRows o W) (Rewrites o W) (rewrites o W) f
 
 pub keep : StepsKeep
 keep o W steps t u n f shaped = loosely_keeps (Rewrites o W) (let_go o) W (all_loose o W) t u (are_rewrites o W steps t u n f) shaped

@@ -30,10 +30,10 @@ StepsTold R = (path : Path) (p : Position) (t u : Tree) (b : Bool) → AtPath R 
 
 -- each call makes what rows of the table say
 abbrev pub StepsAreRewrites : Type 0
-StepsAreRewrites = (o : Switches) (W : VariableSet) (steps : List Step) (t u : Tree) (n : ℕ) → Followed (CallRows W) steps t u n → Reaches (Rewrites o W) Elsewhere t u
+StepsAreRewrites = (o : Switches) (W : VariableSet) (steps : List Step) (t u : Tree) (n : ℕ) → Followed (CallRows o W) steps t u n → Reaches (Rewrites o W) Elsewhere t u
 
 -- and so any list of steps keeps all that a program has to keep: it stays well shaped and resolved,
 -- each of its bodies is Same as the one with its number before the first step, where nobody else
 -- sees a variable that it doesn't declare, and frames and names are kept
 abbrev pub StepsKeep : Type 0
-StepsKeep = (o : Switches) (W : VariableSet) (steps : List Step) (t u : Tree) (n : ℕ) → Followed (CallRows W) steps t u n → IsWellShaped t → ProgramIsKeptLoosely (let_go o) W t u
+StepsKeep = (o : Switches) (W : VariableSet) (steps : List Step) (t u : Tree) (n : ℕ) → Followed (CallRows o W) steps t u n → IsWellShaped t → ProgramIsKeptLoosely (let_go o) W t u
