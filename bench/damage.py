@@ -268,15 +268,17 @@ def wrap_node(program, chance):
 def change_text(program, chance):
     """Gives a name, a type or another text that of another place."""
     found = [(at, here) for at, here in places(program) if type(at[here]) is str]
-    (at, here), (to, there) = chance.choice(found), chance.choice(found)
-    at[here] = to[there]
+    if found:
+        (at, here), (to, there) = chance.choice(found), chance.choice(found)
+        at[here] = to[there]
 
 
 def change_plain(program, chance):
     found = [(at, here) for at, here in places(program) if type(at[here]) not in (dict, list)]
-    at, here = chance.choice(found)
     numbers, texts = (0, 1, -1, 1.5, 2**53, 10**400), ("", "a", "eval", "arguments", "\ud800")
-    at[here] = chance.choice((None, True, False, *numbers, *texts, [], {}))
+    if found:
+        at, here = chance.choice(found)
+        at[here] = chance.choice((None, True, False, *numbers, *texts, [], {}))
 
 
 SHORT_DAMAGES = (

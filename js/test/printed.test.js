@@ -2,7 +2,6 @@
 // The proved program that prints, and what becomes of the marks in its text: the parser reads just
 // the tree that was printed.
 const assert = require("node:assert/strict");
-const fs = require("node:fs");
 const test = require("node:test");
 const { adapt } = require("../src/adapter.js");
 const { difference, placeOf } = require("../src/guard.js");
@@ -10,10 +9,7 @@ const { toJson } = require("../src/json.js");
 const { numbered } = require("../src/numbered.js");
 const { parse } = require("../src/parser.js");
 const { printed } = require("../src/printer.js");
-const { printerPath } = require("../src/program.js");
-
-const isBuilt = fs.existsSync(printerPath());
-const skip = isBuilt ? false : "the program isn't built: MINI_TEXT can name one";
+const { skip } = require("./built.js");
 
 /** The text of a program that nothing rewrites, if the parser reads that program. */
 function textOf(code, module) {
@@ -130,12 +126,11 @@ test("modules", { skip }, () => {
   for (const code of MODULES) textOf(code, true);
 });
 
-// What has no text, though it is read.
-const REFUSED = ["(let)[a] = b", "yield = 1"];
-
 test("what has no text is refused", { skip }, () => {
-  const isRefusal = ({ code, message }) => code === "Printer" && /Reserved/.test(message);
-  for (const code of REFUSED) assert.throws(() => textOf(code, false), isRefusal, code);
+  for (const code of ["(let)[a] = b", "yield = 1"]) {
+    const calls = [{ json: toJson(parse(code).ast), words: [] }];
+    assert.throws(() => printed(false, calls, (text) => text), /Reserved/, code);
+  }
 });
 
 test("an answer that isn't read as JSON is made once more", { skip }, () => {

@@ -1,4 +1,4 @@
-//! Laws: which programs of ESTree have a text.
+//! Laws: which programs of ESTree have a text, and that a text has their tokens.
 #![tactic(auto)]
 
 ghost use Rattle.std.specs.Prelude.{◌≡◌, ℕ, List, true, false, None, Ok};
@@ -32,7 +32,8 @@ pub fn programs_are_lexical()
     ensures { (style : Style) (t : Tree) → IsWellShaped t → first_fault t ≡ None → EachLexical (styled_program style t) }
 {}
 
-/// The same of a program that is read.
+/// Each token that is printed of a program that is read and has no fault is one that a text has
+/// (ECMA-262, 12), in full and in short.
 pub fn read_programs_are_lexical()
     ensures { (style : Style) (depth : ℕ) (value : Data) (t : Tree) (numbers : ℕ) → program_at depth value ≡ Ok (t, numbers) → first_fault t ≡ None → EachLexical (styled_program style t) }
 {}

@@ -10,13 +10,13 @@ use Rattle.mini_print.specs.Grammar as grammar
 use Rattle.mini_print.specs.Grammar.{Goal, Rule, Place, Part, form, place, permits, opens, ends_yield, ends_statement, inserts, opener, Anything}
 use Rattle.mini_print.specs.Printed.{Style, Full, Short, Printer, terminated, lay, lay_block, lay_items, by_production, parenthesized, braced, third_is_absent, printer, printers, parts_of, number_printer, enclosed, undirected, rule_in, styled_of, plain, seated, is_fit}
 use Rattle.mini_grammar.specs.Pieces.{parts_in, pieces_of}
-use Rattle.mini_printer.specs.Standing.{is_special, standing_of, is_open}
+use Rattle.mini_places.specs.Standing.{is_special, standing_of, is_open}
 use Rattle.mini_grammar.specs.declared.grammar.Piece.{Piece}
 use Rattle.mini_grammar.specs.declared.grammar.Piece.TheVariants as piece
 use Rattle.mini_grammar.specs.declared.grammar.Lookahead.TheVariants as look
 use Rattle.mini_printer.proofs.Laid.{laid_end}
 use Rattle.mini_grammar.proofs.Same.{same_form}
-use Rattle.mini_printer.proofs.Stands.{produced}
+use Rattle.mini_places.proofs.Stands.{produced}
 
 abbrev pub Ends : List Token → List Token → Type 0
 Ends r ts = (u : List Token) × (u ++ r ≡ ts)
@@ -105,9 +105,9 @@ pieces_end style g h (piece.Restricted look.NoDeclaration o n ∷ xs) (k ∷ ks)
 pieces_end style g h (piece.Commas o l ∷ xs) [] r a = here r
 pieces_end style g h (piece.Commas o l ∷ xs) (k ∷ ks) r a = after r _ _ (pieces_end style g h xs ks r a.1) (a.0.1 _ _ _)
 pieces_end style g h (piece.Perhaps i ∷ xs) [] r a = here r
-pieces_end style g h (piece.Perhaps i ∷ xs) (k ∷ ks) r a = after r _ _ (pieces_end style g h xs ks r a.1) (ends_if k.absent _ _ _ (here _) (enclosed_ends _ k _ _ a.0))
+pieces_end style g h (piece.Perhaps i ∷ xs) (k ∷ ks) r a = after r _ _ (pieces_end style g h xs ks r a.1) (ends_if k.absent _ _ _ (here _) (a.0.0 _ _))
 pieces_end style g h (piece.Option w o n ∷ xs) [] r a = here r
-pieces_end style g h (piece.Option w o n ∷ xs) (k ∷ ks) r a = after r _ _ (pieces_end style g h xs ks r a.1) (ends_if k.absent _ _ _ (here _) (there _ _ _ (enclosed_ends _ k _ _ a.0)))
+pieces_end style g h (piece.Option w o n ∷ xs) (k ∷ ks) r a = after r _ _ (pieces_end style g h xs ks r a.1) (ends_if k.absent _ _ _ (here _) (there _ _ _ (a.0.0 _ _)))
 pieces_end style g h (piece.Statements i ∷ xs) [] r a = here r
 pieces_end style g h (piece.Statements i ∷ xs) (k ∷ ks) r a = after r _ _ (pieces_end style g h xs ks r a.1) (a.0.2 _ _)
 pieces_end style g h (piece.Undirected ∷ xs) [] r a = here r
@@ -153,6 +153,7 @@ rule_ends style grammar.SpreadItem ks p r a = plainly style grammar.SpreadItem k
 rule_ends style grammar.Member ks p r a = plainly style grammar.Member ks p r a refl
 rule_ends style grammar.Index ks p r a = plainly style grammar.Index ks p r a refl
 rule_ends style grammar.New ks p r a = plainly style grammar.New ks p r a refl
+rule_ends style grammar.NewBare ks p r a = plainly style grammar.NewBare ks p r a refl
 rule_ends style grammar.Call ks p r a = plainly style grammar.Call ks p r a refl
 rule_ends style grammar.Import ks p r a = plainly style grammar.Import ks p r a refl
 rule_ends style (grammar.PropertyName s) ks p r a = plainly style (grammar.PropertyName s) ks p r a refl

@@ -12,9 +12,10 @@ use Rattle.mini_grammar.specs.Pieces.{piece_parts, parts_in, pieces_of, own, is_
 use Rattle.mini_grammar.specs.declared.grammar.Lookahead.{Lookahead}
 use Rattle.mini_grammar.specs.declared.grammar.Lookahead.TheVariants as look
 use Rattle.mini_grammar.specs.declared.grammar.Piece.{Piece}
-use Rattle.mini_printer.specs.Fronts.{IsFront, is_forbidden}
-use Rattle.mini_printer.specs.Nexts.{begins_default}
-use Rattle.mini_printer.specs.Standing.{is_special, standing_of, opened}
+use Rattle.mini_places.specs.Nexts.{is_forbidden}
+use Rattle.mini_printer.specs.Fronts.{IsFront}
+use Rattle.mini_places.specs.Nexts.{begins_default}
+use Rattle.mini_places.specs.Standing.{is_special, standing_of, opened}
 use Rattle.mini_printer.proofs.Walked.{produced_enclosed, produced_open, mark_piece, part_piece}
 
 -- the same tokens begin with the same one

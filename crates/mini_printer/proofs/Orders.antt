@@ -10,7 +10,7 @@ use Rattle.mini_model.specs.declared.shape.Shape.{Shape}
 use Rattle.mini_model.specs.declared.shape.Shape.TheVariants as shape
 use Rattle.mini_model.specs.Paths.{append}
 use Rattle.mini_model.specs.Tree.{Tree, Trees, node, none, ◌▸◌, absent, listed, leaf, shape_of, children, count, child_or_absent, first_or_absent, node_count, node_counts}
-use Rattle.mini_node.specs.Children.{part, with_part, with_child, with_inserted, without, rest_children, like}
+use Rattle.mini_node.specs.Children.{part, with_part, with_child, with_inserted, without, rest_children, like, with_names}
 use Rattle.mini_node.specs.Lends.{with_children}
 use Rattle.mini_node.specs.Walks.{append_none, append_one, next_child, no_rest, rest_with}
 use Rattle.mini_print.specs.Printed as printed
@@ -364,20 +364,25 @@ property_seen c xs n (t ▸ none) = refl
 property_seen c xs n (t ▸ u ▸ none) = refl
 property_seen c xs n (t ▸ u ▸ v ▸ ts) = refl
 
--- of any other shape than that of an inner expression or a function
-others_seen : (h : Shape) (xs : List Name) (n : ℕ) (ts : Trees) → (h ≡ shape.InnerExpression → ⊥) → ((d g : Bool) (ds : List (List ℕ)) → h ≡ shape.Function d g ds → ⊥) → ((ds : List (List ℕ)) → h ≡ shape.ArrowFunctionExpression ds → ⊥) → node h xs n (parts_in_order h ts) ≡ printed.seen h xs n ts
-others_seen shape.InnerExpression xs n ts a b c = absurd (a refl)
-others_seen (shape.Function d g ds) xs n ts a b c = absurd (b d g ds refl)
-others_seen (shape.ArrowFunctionExpression ds) xs n ts a b c = absurd (c ds refl)
-others_seen shape.ChainExpression xs n ts a b c = chain_seen xs n ts
-others_seen shape.TemplateLiteral xs n ts a b c = template_seen xs n ts
-others_seen (shape.MethodDefinition k d true) xs n ts a b c = method_seen k d xs n ts
-others_seen (shape.PropertyDefinition d true) xs n ts a b c = property_seen d xs n ts
-others_seen shape.ImportDeclaration xs n ts a b c = import_seen xs n ts
-others_seen shape.ExportSpecifier xs n ts a b c = export_seen xs n ts
-others_seen _ xs n ts a b c = refl
+-- a declarator has no name in a text
+pub declarator_seen : (t : Tree) → shape_of t ≡ shape.VariableDeclarator → with_names t [] ≡ seen t
+declarator_seen (node h xs n ts) e = subst (λ h. node h [] n ts ≡ printed.seen h xs n ts) (sym e) refl
 
-pub parts_seen : (t : Tree) → (shape_of t ≡ shape.InnerExpression → ⊥) → ((d g : Bool) (ds : List (List ℕ)) → shape_of t ≡ shape.Function d g ds → ⊥) → ((ds : List (List ℕ)) → shape_of t ≡ shape.ArrowFunctionExpression ds → ⊥) → like t (parts_in_order (shape_of t) (children t)) ≡ seen t
+-- of any other shape than that of an inner expression, a function or a declarator
+others_seen : (h : Shape) (xs : List Name) (n : ℕ) (ts : Trees) → (h ≡ shape.InnerExpression → ⊥) → ((d g : Bool) (ds : List (List ℕ)) → h ≡ shape.Function d g ds → ⊥) → ((ds : List (List ℕ)) → h ≡ shape.ArrowFunctionExpression ds → ⊥) → (h ≡ shape.VariableDeclarator → ⊥) → node h xs n (parts_in_order h ts) ≡ printed.seen h xs n ts
+others_seen shape.InnerExpression xs n ts a b c d = absurd (a refl)
+others_seen (shape.Function m g ds) xs n ts a b c d = absurd (b m g ds refl)
+others_seen (shape.ArrowFunctionExpression ds) xs n ts a b c d = absurd (c ds refl)
+others_seen shape.VariableDeclarator xs n ts a b c d = absurd (d refl)
+others_seen shape.ChainExpression xs n ts a b c d = chain_seen xs n ts
+others_seen shape.TemplateLiteral xs n ts a b c d = template_seen xs n ts
+others_seen (shape.MethodDefinition k m true) xs n ts a b c d = method_seen k m xs n ts
+others_seen (shape.PropertyDefinition m true) xs n ts a b c d = property_seen m xs n ts
+others_seen shape.ImportDeclaration xs n ts a b c d = import_seen xs n ts
+others_seen shape.ExportSpecifier xs n ts a b c d = export_seen xs n ts
+others_seen _ xs n ts a b c d = refl
+
+pub parts_seen : (t : Tree) → (shape_of t ≡ shape.InnerExpression → ⊥) → ((d g : Bool) (ds : List (List ℕ)) → shape_of t ≡ shape.Function d g ds → ⊥) → ((ds : List (List ℕ)) → shape_of t ≡ shape.ArrowFunctionExpression ds → ⊥) → (shape_of t ≡ shape.VariableDeclarator → ⊥) → like t (parts_in_order (shape_of t) (children t)) ≡ seen t
 parts_seen (node h xs n ts) = others_seen h xs n ts
 
 pub inner_seen : (t : Tree) → shape_of t ≡ shape.InnerExpression → inner t ≡ seen t

@@ -13,13 +13,13 @@ use Rattle.mini_print.specs.Grammar.{Goal, Rule, Place, form, place, heir, Anyth
 use Rattle.mini_print.specs.Printed.{Style, Full, Printer, third_is_absent, lay, lay_items, lay_block, by_production, parenthesized, braced, printer, printers, parts_of, number_printer, rule_in, styled, styled_of, turned, plain, seated, is_absent_shape, is_fit}
 use Rattle.mini_grammar.specs.Firsts.{is_negative, below, laid_item}
 use Rattle.mini_grammar.specs.Pieces.{piece_parts, parts_in, pieces_of, own, is_mark, is_end, takes_part}
-use Rattle.mini_printer.specs.Standing.{is_special, standing_of, opened}
+use Rattle.mini_places.specs.Standing.{is_special, standing_of, opened}
 use Rattle.mini_node.specs.Children.{trees_of, names_of}
 use Rattle.mini_grammar.specs.declared.grammar.Piece.{Piece}
 use Rattle.mini_grammar.specs.declared.grammar.Piece.TheVariants as piece
 use Rattle.mini_printer.proofs.Laid.{laid_mark, laid_end, laid_none, laid_part}
 use Rattle.mini_grammar.proofs.Same.{same_form}
-use Rattle.mini_printer.proofs.Stands.{produced, open_is}
+use Rattle.mini_places.proofs.Stands.{produced, open_is}
 
 -- the production of a node in a place
 abbrev pub rule_there : Tree → Place → Option Rule

@@ -5,20 +5,22 @@ use Rattle.std.proofs.lemmas.Bool.{false≢true}
 use Rattle.mini_model.specs.declared.shape.Shape.TheVariants as shape
 use Rattle.mini_model.specs.Tree.{Tree, node, none, ◌▸◌}
 use Rattle.mini_print.specs.Token.{Token, Quoted}
-use Rattle.mini_print.specs.Text.{AllLexical, EachLexical, Splits, text_of, is_quotable}
+use Rattle.mini_print.specs.Text.{AllLexical, EachLexical, Splits, text_of, is_quotable, slashes_follow, are_told}
 use Rattle.mini_print.specs.Compact.{SplitsCompactly, compact_text_of}
 use Rattle.mini_print.specs.Grammar.{Leading}
-use Rattle.mini_print.specs.Printed.{Style, terminated, shown, directives, printers, lay_block, styled_program, program_is_printable, are_printable, bare_program, is_module_of}
+use Rattle.mini_print.specs.Printed.{Style, Full, terminated, shown, directives, printers, lay_block, styled_program, program_is_printable, are_printable, bare_program, is_module_of}
 use Rattle.mini_print.specs.Unprintable.{first_fault, are_directives}
 use Rattle.mini_print.proofs.Split.{splits_alone, text_splits}
 use Rattle.mini_print.proofs.Compact.{compact_alone, compact_splits}
 use Rattle.mini_print.proofs.Complete.{program_alone}
 use Rattle.mini_print.proofs.Grouped.{program_grouped}
 use Rattle.mini_print.proofs.Nests.{program_stands, lexical_within}
-use Rattle.mini_printer.specs.Faults.{Tells}
+use Rattle.mini_print.proofs.Follows.{program_follows}
+use Rattle.mini_faults.specs.Faults.{Tells}
+use Rattle.mini_tokens.specs.Spelling.{IsTold}
 use Rattle.mini_printer.specs.Texts.{IsTextOf, IsRefusalOf, IsRefusedBefore, IsUnlaid, is_program, laid_program, is_laid}
-use Rattle.mini_printer.specs.declared.error.PrintError.{PrintError}
-use Rattle.mini_printer.specs.declared.error.PrintError.TheVariants as error
+use Rattle.mini_faults.specs.declared.error.PrintError.{PrintError}
+use Rattle.mini_faults.specs.declared.error.PrintError.TheVariants as error
 
 pub same_tokens : (style : Style) (t : Tree) → is_program t ≡ true → laid_program style (shown t) ≡ styled_program style t
 same_tokens style (node (shape.Program b ds) [] n (node shape.Listed [] k is ▸ none)) e = refl
@@ -54,7 +56,7 @@ unlaid_refuses style t u (error.Reserved at) s p f r = absurd r
 unlaid_refuses style t u (error.BadText at) s p f r = absurd r
 unlaid_refuses style t u error.TooDeep s p f r = absurd r
 unlaid_refuses style t u error.Unprintable s p f r =
-    (f, λ q. r (ap is_laid s ∙ (same_printable t p ∙ q.0), subst EachLexical (sym (ap (laid_program style) s ∙ same_tokens style t p)) q.1))
+    (f, λ q. r (ap is_laid s ∙ (same_printable t p ∙ q.0), subst (IsTold style) (sym (ap (laid_program style) s ∙ same_tokens style t p)) q.1))
 
 -- and what such a program is, the program is
 pub program_printable : (t u : Tree) → u ≡ shown t → is_program t ≡ true → is_laid u ≡ true → program_is_printable t ≡ true
@@ -89,10 +91,13 @@ leading_are (s ∷ ds) = leading_one (is_quotable s) (are_printable Leading fals
 standing : (style : Style) (t : Tree) → program_is_printable t ≡ true → EachLexical (styled_program style t) → AllLexical (styled_program style t)
 standing style t p l = lexical_within [] (styled_program style t) l (program_stands (is_module_of t) (bare_program t) (styled_program style t) (program_grouped style t p))
 
-pub text_is_one : (style : Style) (t : Tree) (u : List ℕ) → program_is_printable t ≡ true → EachLexical (styled_program style t) → u ≡ text_of (styled_program style t) → IsTextOf Splits t u
-text_is_one style t u p l e =
+follow : (style : Style) (t : Tree) → program_is_printable t ≡ true → slashes_follow false (styled_program style t) ≡ true
+follow style t p = program_follows (is_module_of t) (bare_program t) (styled_program style t) (program_grouped style t p)
+
+pub text_is_one : (style : Style) (t : Tree) (u : List ℕ) → program_is_printable t ≡ true → EachLexical (styled_program style t) → are_told false (styled_program style t) ≡ true → u ≡ text_of (styled_program style t) → IsTextOf Splits t u
+text_is_one style t u p l d e =
     let ts = styled_program style t in
-    let split : Splits u ts = subst (λ v. Splits v ts) (sym e) (text_splits ts (standing style t p l)) in
+    let split : Splits u ts = subst (λ v. Splits v ts) (sym e) (text_splits ts (standing style t p l) (follow style t p) d) in
     record {
       tokens = ts;
       split = split;
@@ -104,7 +109,7 @@ text_is_one style t u p l e =
 pub compact_is_one : (style : Style) (t : Tree) (u : List ℕ) → program_is_printable t ≡ true → EachLexical (styled_program style t) → u ≡ compact_text_of (styled_program style t) → IsTextOf SplitsCompactly t u
 compact_is_one style t u p l e =
     let ts = styled_program style t in
-    let split : SplitsCompactly u ts = subst (λ v. SplitsCompactly v ts) (sym e) (compact_splits ts (standing style t p l)) in
+    let split : SplitsCompactly u ts = subst (λ v. SplitsCompactly v ts) (sym e) (compact_splits ts (standing style t p l) (follow style t p)) in
     record {
       tokens = ts;
       split = split;
@@ -114,12 +119,13 @@ compact_is_one style t u p l e =
     }
 
 -- of a text over the program in the order of its text
-pub text_of_one : (style : Style) (t s : Tree) (ts : List Token) (u : List ℕ) → s ≡ shown t → is_program t ≡ true → (is_laid s ≡ true) × EachLexical (laid_program style s) → ts ≡ laid_program style s → u ≡ text_of ts → IsTextOf Splits t u
-text_of_one style t s ts u e p l f g =
-    let same = program_tokens style t s e p in
-    text_is_one style t u (program_printable t s e p l.0) (subst EachLexical same l.1) (g ∙ ap text_of (f ∙ same))
+pub text_of_one : (t s : Tree) (ts : List Token) (u : List ℕ) → s ≡ shown t → is_program t ≡ true → (is_laid s ≡ true) × IsTold Full (laid_program Full s) → ts ≡ laid_program Full s → u ≡ text_of ts → IsTextOf Splits t u
+text_of_one t s ts u e p l f g =
+    let same = program_tokens Full t s e p in
+    let told = subst (IsTold Full) same l.1 in
+    text_is_one Full t u (program_printable t s e p l.0) told.0 told.1 (g ∙ ap text_of (f ∙ same))
 
-pub compact_of_one : (style : Style) (t s : Tree) (ts : List Token) (u : List ℕ) → s ≡ shown t → is_program t ≡ true → (is_laid s ≡ true) × EachLexical (laid_program style s) → ts ≡ laid_program style s → u ≡ compact_text_of ts → IsTextOf SplitsCompactly t u
+pub compact_of_one : (style : Style) (t s : Tree) (ts : List Token) (u : List ℕ) → s ≡ shown t → is_program t ≡ true → (is_laid s ≡ true) × IsTold style (laid_program style s) → ts ≡ laid_program style s → u ≡ compact_text_of ts → IsTextOf SplitsCompactly t u
 compact_of_one style t s ts u e p l f g =
     let same = program_tokens style t s e p in
-    compact_is_one style t u (program_printable t s e p l.0) (subst EachLexical same l.1) (g ∙ ap compact_text_of (f ∙ same))
+    compact_is_one style t u (program_printable t s e p l.0) (subst (IsTold style) same l.1).0 (g ∙ ap compact_text_of (f ∙ same))

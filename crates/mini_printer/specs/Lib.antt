@@ -1,10 +1,3 @@
-pub mod Depth
-pub mod Faults
 pub mod Fronts
-pub mod Nexts
 pub mod Ordered
-pub mod Spelling
-pub mod Standing
 pub mod Texts
-pub mod There
-pub mod Wants

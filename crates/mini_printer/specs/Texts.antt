@@ -5,14 +5,14 @@ use Rattle.mini_model.specs.declared.shape.Shape.TheVariants as shape
 use Rattle.mini_model.specs.Tree.{Tree, Trees, none, ◌▸◌, shape_of, children}
 use Rattle.mini_node.specs.Children.{names_of}
 use Rattle.mini_print.specs.Token.{Token}
-use Rattle.mini_print.specs.Text.{EachLexical}
 use Rattle.mini_print.specs.Grammar.{Leading}
 use Rattle.mini_print.specs.Groups.{GroupsProgram, items_goal}
 use Rattle.mini_print.specs.Printed.{Style, printers, lay_block, undirected, directives, styled_program, program_is_printable, are_printable, bare_program, is_module_of, is_list, has_no_names}
 use Rattle.mini_print.specs.Unprintable.{Reserved, BadText, first_fault}
-use Rattle.mini_printer.specs.Depth.{may_print}
-use Rattle.mini_printer.specs.declared.error.PrintError.{PrintError}
-use Rattle.mini_printer.specs.declared.error.PrintError.TheVariants as error
+use Rattle.mini_tokens.specs.Spelling.{IsTold}
+use Rattle.mini_faults.specs.Depth.{may_print}
+use Rattle.mini_faults.specs.declared.error.PrintError.{PrintError}
+use Rattle.mini_faults.specs.declared.error.PrintError.TheVariants as error
 
 -- a text that is one program's: it splits into tokens in one way, and these group to that program
 -- and to no other. Numbers, symbols and the nodes that stand round inner expressions count for
@@ -24,9 +24,9 @@ pub record IsTextOf (splits : List ℕ → List Token → Type 0) (t : Tree) (u 
   pub groups : GroupsProgram (is_module_of t) (bare_program t) tokens
   pub only : (v : Tree) → GroupsProgram (is_module_of t) v tokens → v ≡ bare_program t
 
--- the grammar has the tokens of the program, and each is one that a text has
+-- the grammar has the tokens of the program, and a text has them
 abbrev pub IsPrintable : Style → Tree → Type 0
-IsPrintable style t = (program_is_printable t ≡ true) × EachLexical (styled_program style t)
+IsPrintable style t = (program_is_printable t ≡ true) × IsTold style (styled_program style t)
 
 -- what an error says of the program: its first fault, that it nests too deep, or that it has no
 -- fault and can't be printed.
@@ -92,4 +92,4 @@ IsUnlaid style t error.OutOfMemory = Unit {0}
 IsUnlaid style t (error.Reserved at) = ⊥
 IsUnlaid style t (error.BadText at) = ⊥
 IsUnlaid style t error.TooDeep = ⊥
-IsUnlaid style t error.Unprintable = (is_laid t ≡ true) × EachLexical (laid_program style t) → ⊥
+IsUnlaid style t error.Unprintable = (is_laid t ≡ true) × IsTold style (laid_program style t) → ⊥

@@ -11,18 +11,19 @@ ghost use Rattle.mini_print.specs.Printed.{printer, printers, by_production, lay
 ghost use Rattle.mini_grammar.specs.Pieces.{parts_in, piece_parts, look_of, is_mark};
 ghost use Rattle.mini_grammar.specs.Views.{rule_of, place_of, aim_of, token_of};
 ghost use Rattle.mini_printer.specs.Fronts.{IsFront};
-ghost use Rattle.mini_printer.specs.Nexts.{style_of};
-ghost use Rattle.mini_printer.specs.Standing.{standing_of, is_special};
+ghost use Rattle.mini_tokens.specs.Styles.{style_of};
+ghost use Rattle.mini_places.specs.Standing.{standing_of, is_special};
 
-use crate::asks::is_forbidden;
-use crate::places::{goal_in, has_gaps, in_place, left_operand, list_goal, plain, seated};
-use crate::standing::{Standing, is_enclosed, standing_of};
-use crate::style::Style;
 use crate::walk::{below_zero, is_end, is_mark, styled};
 use mini_grammar::{
     Aim, Lookahead, Piece, Place, Punct, Rule, Token, own_token, pieces_of, rule_in, units_of,
 };
 use mini_node::Node;
+use mini_places::{
+    Standing, goal_in, has_gaps, in_place, is_enclosed, is_forbidden, left_operand, list_goal,
+    plain, seated, standing_of,
+};
+use mini_tokens::Style;
 
 /// Whether a node in its place begins with a token that a restriction forbids, whatever follows
 /// it. Where that isn't told without writing it the answer is no.

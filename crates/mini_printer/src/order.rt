@@ -6,17 +6,17 @@ ghost use Rattle.mini_model.specs.declared.shape.Shape.TheVariants as shape;
 ghost use Rattle.mini_model.specs.Tree as tree;
 ghost use Rattle.mini_model.specs.Paths.{append};
 ghost use Rattle.mini_model.specs.Tree.{none, ◌▸◌, children, child_or_absent, shape_of, count, node_count};
-ghost use Rattle.mini_node.specs.Children.{names, part, like, with_part, with_child, rest_children};
+ghost use Rattle.mini_node.specs.Children.{names, part, like, with_names, with_part, with_child, rest_children};
 ghost use Rattle.mini_print.specs.Grammar.{constructor_shape};
 ghost use Rattle.mini_print.specs.Printed as printed;
 ghost use Rattle.mini_printer.specs.Ordered as ordered;
 ghost use Rattle.mini_printer.specs.Ordered.{IsUnlinked};
 
-use crate::writable::spells;
 use mini_model::{MethodDefinitionKind, OutOfMemory, Shape, Text, TextList};
 use mini_node::{
     Node, Nodes, absent, discard, listed, of_one, of_three, of_two, one, string_literal, take_first,
 };
+use mini_tokens::spells;
 use std::alloc::Global;
 use std::mem;
 
@@ -313,13 +313,25 @@ fn is_namespace(specifier: &Node) -> bool
     matches!(specifier.shape(), Shape::ImportNamespaceSpecifier) && is_over_binding(specifier)
 }
 
+fn begins_with_default(specifiers: &Nodes) -> bool
+    ensures { result ≡ ordered.has_default specifiers.now }
+{
+    !specifiers.is_empty() && is_default(specifiers.child(0))
+}
+
+fn is_namespace_alone(specifiers: &Nodes) -> bool
+    ensures { result ≡ ordered.has_namespace specifiers.now }
+{
+    specifiers.len() == 1 && is_namespace(specifiers.child(0))
+}
+
 // Takes the local name of the default out, which is the first specifier; an absent part where there
 // is no default.
 fn take_default(specifiers: &mut Nodes) -> Node
     ensures value { result ≡ ordered.local_if (ordered.has_default specifiers.old) specifiers.old }
     ensures rest { specifiers.new ≡ ordered.rest_if (ordered.has_default specifiers.old) specifiers.old }
 {
-    if !specifiers.is_empty() && is_default(specifiers.child(0)) {
+    if begins_with_default(specifiers) {
         one(take_first(specifiers))
     } else {
         absent(specifiers.allocator())
@@ -331,7 +343,7 @@ fn take_namespace(specifiers: &mut Nodes) -> Node
     ensures value { result ≡ ordered.local_if (ordered.has_namespace specifiers.old) specifiers.old }
     ensures rest { specifiers.new ≡ ordered.rest_if (ordered.has_namespace specifiers.old) specifiers.old }
 {
-    if specifiers.len() == 1 && is_namespace(specifiers.child(0)) {
+    if is_namespace_alone(specifiers) {
         one(take_first(specifiers))
     } else {
         absent(specifiers.allocator())
@@ -529,6 +541,16 @@ fn over_parts(node: Node) -> Result<Node, OutOfMemory>
     Ok(node.over(parts))
 }
 
+// A node without the name that it carries: a declarator that has one writes another variable than
+// the one that it declares, which no text says.
+fn nameless(node: Node) -> Node
+    ensures { result ≡ with_names node [] }
+{
+    let mut node = node;
+    node.set_name(None);
+    node
+}
+
 // A node whose parts are in the order of their texts.
 fn seen(node: Node) -> Result<Node, OutOfMemory>
     ensures { IfOk result (λ made. made ≡ ordered.seen node) }
@@ -537,6 +559,7 @@ fn seen(node: Node) -> Result<Node, OutOfMemory>
         Shape::InnerExpression => Ok(inner(node)),
         Shape::Function(..) => function(node),
         Shape::ArrowFunctionExpression(_) => arrow(node),
+        Shape::VariableDeclarator => Ok(nameless(node)),
         _ => over_parts(node),
     }
 }

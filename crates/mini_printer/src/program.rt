@@ -1,9 +1,9 @@
 // The text of a program.
 
-ghost use Rattle.std.specs.Prelude.{◌≡◌, true, None, OnOk, IfOk, IfErr};
+ghost use Rattle.std.specs.Prelude.{◌≡◌, ◌↔◌, true, IsTrue, None, OnOk, IfOk, IfErr};
 ghost use Rattle.mini_model.specs.Tree.{children};
 ghost use Rattle.mini_node.specs.Children.{trees_of};
-ghost use Rattle.mini_print.specs.Text.{EachLexical, Splits, text_of};
+ghost use Rattle.mini_print.specs.Text.{Splits, text_of};
 ghost use Rattle.mini_print.specs.Compact.{SplitsCompactly, compact_text_of};
 ghost use Rattle.mini_print.specs.Grammar as grammar;
 ghost use Rattle.mini_print.specs.Groups as groups;
@@ -11,24 +11,20 @@ ghost use Rattle.mini_print.specs.Printed as printed;
 ghost use Rattle.mini_print.specs.Printed.{lay_block, printers, printed_program, short_program};
 ghost use Rattle.mini_print.specs.Unprintable as unprintable;
 ghost use Rattle.mini_grammar.specs.Views.{goal_of};
-ghost use Rattle.mini_printer.specs.Nexts.{style_of};
+ghost use Rattle.mini_tokens.specs.Spelling.{IsTold};
+ghost use Rattle.mini_tokens.specs.Styles.{style_of};
 ghost use Rattle.mini_printer.specs.Texts.{IsTextOf, IsRefusalOf, IsRefusedBefore, IsUnlaid, is_program, is_plain_list, has_none, is_one_list, is_laid, laid_program, first_children};
 
-use crate::asks::undirect;
-use crate::compact::compact_text_of;
-use crate::defects::refuse_defects;
-use crate::depth::may_print;
-use crate::error::PrintError;
-use crate::lexical::are_lexical;
 use crate::order::shown;
-use crate::printable::are_printable;
-use crate::style::{Style, terminate};
-use crate::text::text_of;
 use crate::walk::write_block;
-use crate::writable::are_directives;
+use mini_faults::{PrintError, are_printable, may_print, refuse_defects};
 use mini_grammar::{Goal, Token, Tokens};
 use mini_model::{OutOfMemory, Shape, Text, TextList};
 use mini_node::Node;
+use mini_places::undirect;
+use mini_tokens::{
+    Style, are_directives, are_lexical, are_told_in, compact_text_of, terminate, text_of,
+};
 use std::alloc::Global;
 
 fn is_plain_list(node: &Node) -> bool
@@ -138,21 +134,28 @@ fn program_tokens<'a>(
     Ok(tokens)
 }
 
-// The same, each one that a text has.
+// Whether a text has the tokens.
+fn is_text<'a>(style: Style, tokens: &Tokens<'a>) -> bool
+    ensures { IsTrue result ↔ IsTold (style_of style) tokens.now }
+{
+    are_lexical(tokens) && are_told_in(style, tokens)
+}
+
+// The same, which a text has.
 fn lexical_tokens<'a>(
     alloc: Global,
     style: Style,
     program: &'a Node,
 ) -> Result<Tokens<'a>, PrintError>
     ensures exact { IfOk result (λ tokens. tokens ≡ laid_program (style_of style) program.now) }
-    ensures printable { IfOk result (λ tokens. (is_laid program.now ≡ true) × EachLexical (laid_program (style_of style) program.now)) }
+    ensures printable { IfOk result (λ tokens. (is_laid program.now ≡ true) × IsTold (style_of style) (laid_program (style_of style) program.now)) }
     ensures refused { IfErr result (λ error. IsUnlaid (style_of style) program.now error) }
 {
     if !is_laid(alloc, program)? {
         return Err(PrintError::Unprintable);
     }
     let tokens = program_tokens(alloc, style, program)?;
-    if are_lexical(&tokens) {
+    if is_text(style, &tokens) {
         Ok(tokens)
     } else {
         Err(PrintError::Unprintable)
@@ -185,7 +188,9 @@ fn in_order(alloc: Global, program: Node) -> Result<Node, PrintError>
 ///
 /// `Reserved` and `BadText` tell the first node, in preorder, that no text has; `TooDeep` says that
 /// the program nests deeper than 1,000 levels, and `Unprintable` that no node is such a one and the
-/// grammar has no text of the program.
+/// grammar has no text of the program, or that a regular expression that begins with a blank, or
+/// with a `=` and a blank, stands right behind an operand, a word or a bracket that closes, where it
+/// would be taken for a division.
 #[tactic(auto, using(crate::proofs::Whole::program_tokens, crate::proofs::Whole::before_refuses, crate::proofs::Whole::unlaid_refuses, crate::proofs::Whole::text_of_one))]
 pub fn print_program(alloc: Global, program: Node) -> Result<Text, PrintError>
     ensures exact { IfOk result (λ text. text ≡ text_of (printed_program program)) }
@@ -199,14 +204,15 @@ pub fn print_program(alloc: Global, program: Node) -> Result<Text, PrintError>
 }
 
 /// The JavaScript text of a program, with no `;` that is inserted where it lacks (ECMA-262, 12.10),
-/// no parentheses round the one name of an arrow function (15.3), and with a blank only where two
-/// tokens would run together.
+/// no parentheses round the one name of an arrow function (15.3) and behind a `new` without
+/// arguments (13.3.5), and with a blank only where two tokens would run together.
 ///
 /// However it is split into tokens and however these are grouped, they are those of this program
 /// and of no other.
 ///
-/// `Reserved` and `BadText` tell the first node, in preorder, that no text has; `Unprintable` says
-/// that there is none and that the grammar has no text of the program.
+/// `Reserved` and `BadText` tell the first node, in preorder, that no text has; `TooDeep` says that
+/// the program nests deeper than 1,000 levels, and `Unprintable` that no node is such a one and the
+/// grammar has no text of the program.
 #[tactic(auto, using(crate::proofs::Whole::program_tokens, crate::proofs::Whole::before_refuses, crate::proofs::Whole::unlaid_refuses, crate::proofs::Whole::compact_of_one))]
 pub fn print_compact(alloc: Global, program: Node) -> Result<Text, PrintError>
     ensures exact { IfOk result (λ text. text ≡ compact_text_of (short_program program)) }

@@ -1,6 +1,6 @@
 // The walk: the tokens of a node before those that follow.
 
-ghost use Rattle.std.specs.Prelude.{◌≡◌, List, [], ◌∷◌, OnOk, IfOk, MatchOption, Some, true, false, not, ◌&&◌, if◌then◌else◌};
+ghost use Rattle.std.specs.Prelude.{◌≡◌, List, [], ◌∷◌, OnOk, MatchOption, Some, true, false, not, ◌&&◌, if◌then◌else◌};
 ghost use Rattle.mini_model.specs.declared.operator.UnaryOperator.TheVariants.{UnaryNegation};
 ghost use Rattle.mini_model.specs.declared.shape.Shape.TheVariants as shape;
 ghost use Rattle.mini_node.specs.Children.{trees_of};
@@ -8,27 +8,25 @@ ghost use Rattle.mini_print.specs.Token as marks;
 ghost use Rattle.mini_print.specs.Grammar as grammar;
 ghost use Rattle.mini_print.specs.Grammar.{opens, permits, ends_yield as yield_ends};
 ghost use Rattle.mini_print.specs.Printed as printed;
-ghost use Rattle.mini_print.specs.Printed.{printer, printers, by_production, number_printer, lay, lay_items, lay_block, braced, third_is_absent, enclosed, holds_head_in, undirected, Printer, is_fit};
+ghost use Rattle.mini_print.specs.Printed.{printer, printers, by_production, number_printer, lay, lay_items, lay_block, braced, third_is_absent, enclosed, undirected, Printer, is_fit};
 ghost use Rattle.mini_grammar.specs.Firsts.{is_negative, below, laid_item};
-ghost use Rattle.mini_printer.specs.Nexts.{style_of};
+ghost use Rattle.mini_tokens.specs.Styles.{style_of};
 ghost use Rattle.mini_grammar.specs.Pieces.{parts_in, piece_parts, look_of, opener_of, is_mark, is_end, takes_part};
-ghost use Rattle.mini_printer.specs.Standing.{standing_of, is_special};
+ghost use Rattle.mini_places.specs.Standing.{standing_of, is_special};
 ghost use Rattle.mini_grammar.specs.Views.{rule_of, place_of, goal_of, aim_of, token_of};
 
-use crate::asks::{ends_yield, holds_in, is_permitted, opens_else, undirect};
 use crate::front::begins_forbidden;
-use crate::places::{
-    at, goal_in, has_gaps, heir, in_place, left_operand, list_goal, plain, right_operand, seated,
-};
-use crate::standing::{Standing, is_enclosed, standing_of};
-use crate::style::{Style, terminate};
 use mini_grammar::{
     Aim, Fixed, Goal, Keyword, Lookahead, Opener, Piece, Place, Punct, Rule, Token, Tokens,
     is_absent, own_text, own_token, pieces_of, rule_in, short_rule, units_of,
 };
 use mini_model::{AssignmentOperator, OutOfMemory, Shape, UnaryOperator};
 use mini_node::Node;
-use std::alloc::Global;
+use mini_places::{
+    Standing, at, ends_yield, goal_in, has_gaps, heir, in_place, is_enclosed, is_permitted,
+    left_operand, list_goal, plain, right_operand, seated, standing_of, undirect, wants_braces,
+};
+use mini_tokens::{Style, terminate};
 
 fn size_below(value: i64) -> Option<u64>
     ensures { MatchOption result (is_negative (shape.NumericLiteral value) ≡ false) (λ n. shape.NumericLiteral value ≡ below n) }
@@ -156,30 +154,6 @@ fn write_rule<'a>(
         Standing::Yield => write_yield(tokens, there),
         _ => write_production(tokens, style, rule, parts, there),
     }
-}
-
-fn has_no_else(parts: &[Node]) -> bool
-    ensures { result ≡ third_is_absent (printers printed.Full (trees_of parts.now)) }
-{
-    let Some((_, more)) = parts.split_first() else {
-        return false;
-    };
-    let Some((_, more)) = more.split_first() else {
-        return false;
-    };
-    let Some((third, more)) = more.split_first() else {
-        return false;
-    };
-    match more.split_first() {
-        Some(_) => false,
-        None => is_absent(third),
-    }
-}
-
-fn wants_braces<'a>(tokens: &Tokens<'a>, parts: &[Node]) -> bool
-    ensures { result ≡ (third_is_absent (printers printed.Full (trees_of parts.now)) && opens grammar.Else tokens.now) }
-{
-    has_no_else(parts) && opens_else(tokens)
 }
 
 // An `if`, in braces where it would take an `else` that follows.
@@ -401,26 +375,6 @@ fn write_restricted<'a>(
     write_enclosed(tokens, style, part, true, there)
 }
 
-// Whether a part in the head of a loop holds an `in` that is inside nothing.
-#[cycle(writing)]
-fn holds_head_in<'a>(
-    alloc: Global,
-    style: Style,
-    goal: Aim<'a>,
-    part: &'a Node,
-) -> Result<bool, OutOfMemory>
-    ensures { IfOk result (λ holds. holds ≡ holds_head_in (aim_of goal.entry) (printer (style_of style) part.now)) }
-{
-    match goal {
-        Aim::Plain(Goal::WithoutIn) => {
-            let mut inside = Tokens::new(alloc);
-            write_node(&mut inside, style, part, at(Goal::Anything, 0))?;
-            Ok(holds_in(inside))
-        }
-        _ => Ok(false),
-    }
-}
-
 // A part that may be absent.
 #[cycle(writing)]
 #[tactic(auto, using(crate::proofs::Walked::absent_is))]
@@ -430,13 +384,12 @@ fn write_perhaps<'a>(
     part: &'a Node,
     there: Place<'a>,
 ) -> Result<(), OutOfMemory>
-    ensures { OnOk result (tokens.new ≡ (if (printer (style_of style) part.now).absent then tokens.old else enclosed (holds_head_in (place_of there.entry).goal (printer (style_of style) part.now)) (printer (style_of style) part.now) (place_of there.entry) tokens.old)) }
+    ensures { OnOk result (tokens.new ≡ (if (printer (style_of style) part.now).absent then tokens.old else (printer (style_of style) part.now).one (place_of there.entry) tokens.old)) }
 {
     if is_absent(part) {
         return Ok(());
     }
-    let holds = holds_head_in(tokens.allocator(), style, there.goal, part)?;
-    write_enclosed(tokens, style, part, holds, there)
+    write_node(tokens, style, part, there)
 }
 
 fn opener_token<'a>(opener: Opener) -> Token<'a>
@@ -462,7 +415,7 @@ fn write_option<'a>(
     opener: Opener,
     there: Place<'a>,
 ) -> Result<(), OutOfMemory>
-    ensures { OnOk result (tokens.new ≡ (if (printer (style_of style) part.now).absent then tokens.old else grammar.opener (opener_of opener) ∷ enclosed (holds_head_in (place_of there.entry).goal (printer (style_of style) part.now)) (printer (style_of style) part.now) (place_of there.entry) tokens.old)) }
+    ensures { OnOk result (tokens.new ≡ (if (printer (style_of style) part.now).absent then tokens.old else grammar.opener (opener_of opener) ∷ (printer (style_of style) part.now).one (place_of there.entry) tokens.old)) }
 {
     if is_absent(part) {
         return Ok(());

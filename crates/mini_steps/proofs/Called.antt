@@ -20,6 +20,7 @@ use Rattle.mini_rows.specs.Catches.{CatchContracts}
 use Rattle.mini_rows.specs.DeMorgan.{Row50}
 use Rattle.mini_rows.specs.Sequences.{SequenceContracts}
 use Rattle.mini_rows.specs.SpellKeys.{KeyContracts}
+use Rattle.mini_rows.specs.Switches.{Switches}
 use Rattle.mini_tree.specs.Rule.{Applied}
 use Rattle.mini_fold.specs.FoldSequences as sequences
 use Rattle.mini_logic.specs.DeMorganForVoidExpr as de_morgan
@@ -71,69 +72,69 @@ both : {P : Type 0} {Q S : Bool → Type 0} (r : Result Bool OutOfMemory) → ((
 both (Ok b) f x y = f b x y
 both (Err e) f x y = y
 
-module _ (W : VariableSet) where
+module _ (o : Switches) (W : VariableSet) where
   -- it made something, and it made nothing
-  made : (r : RuleName) (p : Position) (t u : Tree) → CallRow W r p t u → weight p u < weight p t → Called (CallRows W r) p t u true
+  made : (r : RuleName) (p : Position) (t u : Tree) → CallRow o W r p t u → weight p u < weight p t → Called (CallRows o W r) p t u true
   made r p t u row less = record { next = u; step = rewriting.here p t u (record { row = row; lighter = less }); others = rewriting.done p u }
 
-  pub left : (r : RuleName) (p : Position) (t : Tree) → (weight p t < 2 ^ 64 → (w : Tree) → CallRow W r p t w → weight p w < weight p t → ⊥) → Called (CallRows W r) p t t false
+  pub left : (r : RuleName) (p : Position) (t : Tree) → (weight p t < 2 ^ 64 → (w : Tree) → CallRow o W r p t w → weight p w < weight p t → ⊥) → Called (CallRows o W r) p t t false
   left r p t f = (refl, λ small w c. f small w c.row c.lighter)
 
-  by_written : (r : RuleName) (p : Position) (f : Tree → Option Tree) → Tells p f (CallRow W r p) → (t u : Tree) (b : Bool) (x : Option Tree) → f t ≡ x → u ≡ unwrap_or x t → b ≡ is_some x → Called (CallRows W r) p t u b
-  by_written r p f law t u b None e g h = subst (λ c. Called (CallRows W r) p t u c) (sym h) (subst (λ v. Called (CallRows W r) p t v false) (sym g) (left r p t (law.unwritten t e)))
-  by_written r p f law t u b (Some w) e g h = subst (λ c. Called (CallRows W r) p t u c) (sym h) (subst (λ v. Called (CallRows W r) p t v true) (sym g) (made r p t w (law.written t w e) (law.lighter t w e)))
+  by_written : (r : RuleName) (p : Position) (f : Tree → Option Tree) → Tells p f (CallRow o W r p) → (t u : Tree) (b : Bool) (x : Option Tree) → f t ≡ x → u ≡ unwrap_or x t → b ≡ is_some x → Called (CallRows o W r) p t u b
+  by_written r p f law t u b None e g h = subst (λ c. Called (CallRows o W r) p t u c) (sym h) (subst (λ v. Called (CallRows o W r) p t v false) (sym g) (left r p t (law.unwritten t e)))
+  by_written r p f law t u b (Some w) e g h = subst (λ c. Called (CallRows o W r) p t u c) (sym h) (subst (λ v. Called (CallRows o W r) p t v true) (sym g) (made r p t w (law.written t w e) (law.lighter t w e)))
 
   -- the rule is this one, whose call is that function
-  pub told : (q r : RuleName) (p : Position) (f : Tree → Option Tree) (t u : Tree) → q ≡ r → Tells p f (CallRow W r p) → (b : Bool) → u ≡ unwrap_or (f t) t → b ≡ is_some (f t) → Called (CallRows W q) p t u b
-  told q r p f t u e law b g h = subst (λ x. Called (CallRows W x) p t u b) (sym e) (by_written r p f law t u b (f t) refl g h)
+  pub told : (q r : RuleName) (p : Position) (f : Tree → Option Tree) (t u : Tree) → q ≡ r → Tells p f (CallRow o W r p) → (b : Bool) → u ≡ unwrap_or (f t) t → b ≡ is_some (f t) → Called (CallRows o W q) p t u b
+  told q r p f t u e law b g h = subst (λ x. Called (CallRows o W x) p t u b) (sym e) (by_written r p f law t u b (f t) refl g h)
 
-  pub told_if_ok : (q r : RuleName) (p : Position) (f : Tree → Option Tree) (t u : Tree) → q ≡ r → Tells p f (CallRow W r p) → (result : Result Bool OutOfMemory) → OnOk result (u ≡ unwrap_or (f t) t) → IfOk result (λ b. b ≡ is_some (f t)) → IfOk result (λ b. Called (CallRows W q) p t u b)
+  pub told_if_ok : (q r : RuleName) (p : Position) (f : Tree → Option Tree) (t u : Tree) → q ≡ r → Tells p f (CallRow o W r p) → (result : Result Bool OutOfMemory) → OnOk result (u ≡ unwrap_or (f t) t) → IfOk result (λ b. b ≡ is_some (f t)) → IfOk result (λ b. Called (CallRows o W q) p t u b)
   told_if_ok q r p f t u e law result g h = both result (told q r p f t u e law) g h
 
   -- of a call that says whether it changes the node
-  by_changing : (r : RuleName) (p : Position) (c : Tree → Bool) (m : Tree → Tree) → Changing c m (CallRow W r p) → ((n w : Tree) → CallRow W r p n w → weight p w < weight p n) → (t u : Tree) (b x : Bool) → c t ≡ x → u ≡ m t → b ≡ x → Called (CallRows W r) p t u b
-  by_changing r p c m law less t u b true e g h = subst (λ y. Called (CallRows W r) p t u y) (sym h) (subst (λ v. Called (CallRows W r) p t v true) (sym g) (made r p t (m t) (law.written t e) (less t (m t) (law.written t e))))
-  by_changing r p c m law less t u b false e g h = subst (λ y. Called (CallRows W r) p t u y) (sym h) (subst (λ v. Called (CallRows W r) p t v false) (sym (g ∙ law.kept t e)) (left r p t (λ small w row l. law.unwritten t e w row)))
+  by_changing : (r : RuleName) (p : Position) (c : Tree → Bool) (m : Tree → Tree) → Changing c m (CallRow o W r p) → ((n w : Tree) → CallRow o W r p n w → weight p w < weight p n) → (t u : Tree) (b x : Bool) → c t ≡ x → u ≡ m t → b ≡ x → Called (CallRows o W r) p t u b
+  by_changing r p c m law less t u b true e g h = subst (λ y. Called (CallRows o W r) p t u y) (sym h) (subst (λ v. Called (CallRows o W r) p t v true) (sym g) (made r p t (m t) (law.written t e) (less t (m t) (law.written t e))))
+  by_changing r p c m law less t u b false e g h = subst (λ y. Called (CallRows o W r) p t u y) (sym h) (subst (λ v. Called (CallRows o W r) p t v false) (sym (g ∙ law.kept t e)) (left r p t (λ small w row l. law.unwritten t e w row)))
 
-  pub changing_if_ok : (q r : RuleName) (p : Position) (c : Tree → Bool) (m : Tree → Tree) (t u : Tree) → q ≡ r → Changing c m (CallRow W r p) → ((n w : Tree) → CallRow W r p n w → weight p w < weight p n) → (result : Result Bool OutOfMemory) → OnOk result (u ≡ m t) → IfOk result (λ b. b ≡ c t) → IfOk result (λ b. Called (CallRows W q) p t u b)
-  changing_if_ok q r p c m t u e law less result g h = both result (λ b x y. subst (λ z. Called (CallRows W z) p t u b) (sym e) (by_changing r p c m law less t u b (c t) refl x y)) g h
+  pub changing_if_ok : (q r : RuleName) (p : Position) (c : Tree → Bool) (m : Tree → Tree) (t u : Tree) → q ≡ r → Changing c m (CallRow o W r p) → ((n w : Tree) → CallRow o W r p n w → weight p w < weight p n) → (result : Result Bool OutOfMemory) → OnOk result (u ≡ m t) → IfOk result (λ b. b ≡ c t) → IfOk result (λ b. Called (CallRows o W q) p t u b)
+  changing_if_ok q r p c m t u e law less result g h = both result (λ b x y. subst (λ z. Called (CallRows o W z) p t u b) (sym e) (by_changing r p c m law less t u b (c t) refl x y)) g h
 
 -- ---- a call whose contract is that of a rule
 
-module _ (W : VariableSet) where
-  applied : (q r : RuleName) (G : Relation) (D : Position → Tree → Type 0) (p : Position) (t u : Tree) → q ≡ r → ((s : Position) (n w : Tree) → G s n w → CallRows W r s n w) → (D p t → Unread (CallRows W r) p t) → (b : Bool) → Applied G D p t u b → Called (CallRows W q) p t u b
+module _ (o : Switches) (W : VariableSet) where
+  applied : (q r : RuleName) (G : Relation) (D : Position → Tree → Type 0) (p : Position) (t u : Tree) → q ≡ r → ((s : Position) (n w : Tree) → G s n w → CallRows o W r s n w) → (D p t → Unread (CallRows o W r) p t) → (b : Bool) → Applied G D p t u b → Called (CallRows o W q) p t u b
   applied q r G D p t u e gives rests true m =
-      subst (λ x. Called (CallRows W x) p t u true) (sym e)
-      (record { next = m.next; step = step_more G (CallRows W r) gives m.step; others = reaches_more G (CallRows W r) gives m.others })
-  applied q r G D p t u e gives rests false d = subst (λ x. Called (CallRows W x) p t u false) (sym e) (d.0, rests d.1)
+      subst (λ x. Called (CallRows o W x) p t u true) (sym e)
+      (record { next = m.next; step = step_more G (CallRows o W r) gives m.step; others = reaches_more G (CallRows o W r) gives m.others })
+  applied q r G D p t u e gives rests false d = subst (λ x. Called (CallRows o W x) p t u false) (sym e) (d.0, rests d.1)
 
   -- the same of what a family contracts
-  of_sequences : (p : Position) (n w : Tree) → SequenceContracts p n w → CallRows W name.FoldSequenceExpression p n w
+  of_sequences : (p : Position) (n w : Tree) → SequenceContracts p n w → CallRows o W name.FoldSequenceExpression p n w
   of_sequences (Expr s) n w c = record { row = c.row; lighter = c.lighter }
   of_sequences _ n w c = absurd c.row
 
-  pub sequences_called : (q : RuleName) (s : Seat) (t u : Tree) → q ≡ name.FoldSequenceExpression → (b : Bool) → Applied SequenceContracts sequences.Rests (Expr s) t u b → Called (CallRows W q) (Expr s) t u b
+  pub sequences_called : (q : RuleName) (s : Seat) (t u : Tree) → q ≡ name.FoldSequenceExpression → (b : Bool) → Applied SequenceContracts sequences.Rests (Expr s) t u b → Called (CallRows o W q) (Expr s) t u b
   sequences_called q s t u e b m = applied q name.FoldSequenceExpression SequenceContracts sequences.Rests (Expr s) t u e of_sequences (λ d small w c. d w c.row) b m
 
-  of_arrows : (p : Position) (n w : Tree) → ArrowContracts p n w → CallRows W name.SubstituteArrowExpression p n w
+  of_arrows : (p : Position) (n w : Tree) → ArrowContracts p n w → CallRows o W name.SubstituteArrowExpression p n w
   of_arrows (Expr s) n w c = record { row = c.row; lighter = c.lighter }
   of_arrows _ n w c = absurd c.row
 
-  pub arrows_called : (q : RuleName) (s : Seat) (t u : Tree) → q ≡ name.SubstituteArrowExpression → (b : Bool) → u ≡ unwrap_or (arrows.written t) t → b ≡ is_some (arrows.written t) → Called (CallRows W q) (Expr s) t u b
+  pub arrows_called : (q : RuleName) (s : Seat) (t u : Tree) → q ≡ name.SubstituteArrowExpression → (b : Bool) → u ≡ unwrap_or (arrows.written t) t → b ≡ is_some (arrows.written t) → Called (CallRows o W q) (Expr s) t u b
   arrows_called q s t u e b g h = applied q name.SubstituteArrowExpression ArrowContracts arrows.Rests (Expr s) t u e of_arrows (λ d small w c. d w c.row) b (arrow_law.applied s t u b g h)
 
-  of_objects : (p : Position) (n w : Tree) → KeyContracts p n w → CallRows W name.SubstituteObjectProperty p n w
+  of_objects : (p : Position) (n w : Tree) → KeyContracts p n w → CallRows o W name.SubstituteObjectProperty p n w
   of_objects (Expr s) n w c = record { row = c.row; lighter = c.lighter }
   of_objects _ n w c = absurd c.row
 
-  pub objects_called : (q : RuleName) (s : Seat) (t u : Tree) → q ≡ name.SubstituteObjectProperty → (b : Bool) → u ≡ objects.written t → b ≡ objects.is_written t → Called (CallRows W q) (Expr s) t u b
+  pub objects_called : (q : RuleName) (s : Seat) (t u : Tree) → q ≡ name.SubstituteObjectProperty → (b : Bool) → u ≡ objects.written t → b ≡ objects.is_written t → Called (CallRows o W q) (Expr s) t u b
   objects_called q s t u e b g h = applied q name.SubstituteObjectProperty KeyContracts objects.Rests (Expr s) t u e of_objects (λ d small w c. d w c.row) b (object_law.applied s t u b g h)
 
-  of_catches : (p : Position) (n w : Tree) → CatchContracts p n w → CallRows W name.SubstituteCatchClause p n w
+  of_catches : (p : Position) (n w : Tree) → CatchContracts p n w → CallRows o W name.SubstituteCatchClause p n w
   of_catches Elsewhere n w c = record { row = c.row; lighter = c.lighter }
   of_catches _ n w c = absurd c.row
 
-  pub catches_called : (q : RuleName) (t u : Tree) → q ≡ name.SubstituteCatchClause → (b : Bool) → Applied CatchContracts catches.Rests Elsewhere t u b → Called (CallRows W q) Elsewhere t u b
+  pub catches_called : (q : RuleName) (t u : Tree) → q ≡ name.SubstituteCatchClause → (b : Bool) → Applied CatchContracts catches.Rests Elsewhere t u b → Called (CallRows o W q) Elsewhere t u b
   catches_called q t u e b m = applied q name.SubstituteCatchClause CatchContracts catches.Rests Elsewhere t u e of_catches (λ d small w c. d w c.row) b m
 
 -- what two clauses say of an answer, one of the tree and one of the answer

@@ -1,12 +1,19 @@
 -- The rows of each call are rows of the families, and so rewrites.
-use Rattle.std.specs.Prelude.{◌<◌, true}
-use Rattle.std.proofs.Common.{inl, inr}
+use Rattle.std.specs.Prelude.{ℕ, zero, suc, ◌≡◌, refl, Some, ◌<◌, true}
+use Rattle.std.proofs.Common.{arith, inl, inr, sym, subst}
+use Rattle.std.proofs.lemmas.Option.{none-some}
 use Rattle.mini_model.specs.declared.place.Position.{Position}
-use Rattle.mini_model.specs.declared.place.Position.TheVariants.{Expr, Stmt, Elsewhere}
+use Rattle.mini_model.specs.declared.place.Position.TheVariants.{Expr, Stmt, StatementList, BodyList, Elsewhere}
 use Rattle.mini_model.specs.declared.seat.Seat.{Seat}
 use Rattle.mini_model.specs.declared.seat.StmtSeat.{StmtSeat}
 use Rattle.mini_model.specs.Redex.{Row23}
-use Rattle.mini_model.specs.Tree.{Tree}
+use Rattle.mini_model.specs.declared.shape.Shape.{Shape}
+use Rattle.mini_model.specs.declared.shape.Shape.TheVariants as shape
+use Rattle.mini_model.specs.Position.{child_position}
+use Rattle.mini_model.specs.Rewriting.{Reaches}
+use Rattle.mini_model.specs.Rewriting as rewriting
+use Rattle.mini_model.specs.Tree.{Tree, count, children, shape_of}
+use Rattle.mini_node.specs.Children.{part}
 use Rattle.mini_model.specs.Weight.{weight}
 use Rattle.mini_laws.specs.Value.{VariableSet}
 use Rattle.mini_rows.specs.Booleans as boolean
@@ -18,14 +25,17 @@ use Rattle.mini_rows.specs.DeadCases.{DeadCaseRow}
 use Rattle.mini_rows.specs.DeMorgan.{Row50}
 use Rattle.mini_rows.specs.Folding.{FoldingRow, Row9}
 use Rattle.mini_rows.specs.KeyHolders.{HeldKeyRow, Row52Declared, Row53}
+use Rattle.mini_rows.specs.Lists.{ListRow}
 use Rattle.mini_rows.specs.Loops.{Row84}
 use Rattle.mini_rows.specs.Operands as operand
 use Rattle.mini_rows.specs.Operators as operator
-use Rattle.mini_rows.specs.Redex.{Row, Rewrites, AsTest, AsSpelling, AsBranch, AsKey, AsChoice, AsFolding, AsTurn, AsArrow, AsConstant, AsHeldKey, AsBoolean, AsDeMorgan, AsSequence, AsOperand, AsTemplate}
+use Rattle.mini_rows.specs.Redex.{Row, Rewrites, AsTest, AsSpelling, AsBranch, AsList, AsKey, AsChoice, AsFolding, AsTurn, AsArrow, AsConstant, AsHeldKey, AsBoolean, AsDeMorgan, AsSequence, AsOperand, AsTemplate}
 use Rattle.mini_rows.specs.Sequences.{SequenceRow}
 use Rattle.mini_rows.specs.SpellKeys.{KeyRow}
 use Rattle.mini_rows.specs.Spellings as spelling
-use Rattle.mini_rows.specs.Switches.{Switches}
+use Rattle.mini_rows.specs.Editions.{HasEach}
+use Rattle.mini_rows.specs.Switches.{Switches, of_every_edition}
+use Rattle.mini_rows.proofs.Latest.{latest_has_each}
 use Rattle.mini_rows.specs.Writes.{WriteRow, Row34}
 use Rattle.mini_rows.proofs.ArrowWeights.{arrows_lighter}
 use Rattle.mini_rows.proofs.BranchWeights.{branch_lighter}
@@ -33,6 +43,7 @@ use Rattle.mini_rows.proofs.CatchWeights.{catches_lighter}
 use Rattle.mini_rows.proofs.ChoiceWeights as choice_weights
 use Rattle.mini_rows.proofs.FoldWeights as fold_weights
 use Rattle.mini_rows.proofs.KeysJoined.{held_keys_lighter}
+use Rattle.mini_rows.proofs.ListWeights.{lists_lighter}
 use Rattle.mini_rows.proofs.OperandWeights as operand_weights
 use Rattle.mini_rows.proofs.SequenceWeights as sequence_weights
 use Rattle.mini_rows.proofs.SpellKeyWeights as key_weights
@@ -43,23 +54,40 @@ use Rattle.mini_logic.specs.MinimizeIfStatement as if_statement
 use Rattle.mini_calls.specs.OwnRows.{AndOrRow, BinaryRow, BitwiseRow, CoalesceRow, CoalescedRow, CombinedRow, ComparisonRow, ConditionalRow, DecisionRow, DottedRow, HeldKey, LogicalRow, LooseRow, ObjectRow, OperatorRow, PlusRow, SideRow, TargetKey, TypeofRow, UnaryRow, UndefinedRow, ZeroRow}
 use Rattle.mini_steps.specs.declared.names.RuleName.{RuleName}
 use Rattle.mini_steps.specs.declared.names.RuleName.TheVariants as name
-use Rattle.mini_steps.specs.Rows.{SeatRow, StatementRow, PartRow, CallRows}
+use Rattle.mini_steps.specs.Rows.{SeatRow, StatementRow, PartRow, RowOfList, HeldListRow, list_index, CallRows}
+use Rattle.mini_steps.proofs.Following.{reaches_at}
+
+-- such a list stands as one of statements
+pub list_stands : (h : Shape) (p : Position) (n k : ℕ) → list_index h ≡ Some k → child_position h p n k ≡ StatementList
+list_stands (shape.Program m ds) p n k e = refl
+list_stands shape.BlockStatement p n k e = refl
+list_stands shape.StaticBlock p n k e = refl
+list_stands shape.SwitchCase p n zero e = absurd (cc e)
+list_stands shape.SwitchCase p n (suc k) e = refl
+list_stands h p n k e = absurd (none-some k e)
 
 -- any options: what is lighter is so under all
 pub any : Switches
-any = record { sequences = true; join_vars = true; keep_function_names = true; keep_class_names = true }
+any = record { sequences = true; join_vars = true; keep_function_names = true; keep_class_names = true; edition = 2022 }
 
 module _ (o : Switches) (W : VariableSet) where
   abbrev In : Seat → Tree → Tree → Type 0
-  In s n w = Rewrites o W (Expr s) n w
+  In s n w = Rewrites (of_every_edition o) W (Expr s) n w
+
+  -- calls write forms of every edition
+  latest : HasEach 2022
+  latest = latest_has_each 2022 (omega arith)
+
+  as_choice : {s : Seat} {n w : Tree} → choice.Choice s n w → Row (of_every_edition o) (Expr s) n w
+  as_choice {s = s} {n = n} {w = w} r = AsChoice r (latest.choices (Expr s) n w r)
 
   -- ---- a row of a family that is lighter everywhere
 
   pub record Falls (p : Position) (n w : Tree) : Type 0 where
-    pub rewrites : Rewrites o W p n w
+    pub rewrites : Rewrites (of_every_edition o) W p n w
     pub lighter : weight p w < weight p n
 
-  of_row : {p : Position} {n w : Tree} → Row o p n w → weight p w < weight p n → Falls p n w
+  of_row : {p : Position} {n w : Tree} → Row (of_every_edition o) p n w → weight p w < weight p n → Falls p n w
   of_row r l = record { rewrites = inl (record { row = r; lighter = l }); lighter = l }
 
   of_operand : {s : Seat} {n w : Tree} → operand.Operand s n w → Falls (Expr s) n w
@@ -75,7 +103,7 @@ module _ (o : Switches) (W : VariableSet) where
   of_spelling {s = s} {n = n} {w = w} r = of_row (AsSpelling r) (spell_weights.lighter (Expr s) n w r)
 
   of_choice : {s : Seat} {n w : Tree} → choice.LighterRow s n w → Falls (Expr s) n w
-  of_choice {s = s} {n = n} {w = w} r = of_row (AsChoice (choice.Shorter r)) (choice_weights.lighter s n w r)
+  of_choice {s = s} {n = n} {w = w} r = of_row (as_choice (choice.Shorter r)) (choice_weights.lighter s n w r)
 
   of_branch : {q : StmtSeat} {n w : Tree} → BranchRow (Stmt q) n w → Falls (Stmt q) n w
   of_branch {q = q} {n = n} {w = w} r = of_row (AsBranch r) (branch_lighter (Stmt q) n w r)
@@ -86,20 +114,20 @@ module _ (o : Switches) (W : VariableSet) where
   of_write : {s : Seat} {n w : Tree} → WriteRow W (Expr s) n w → Falls (Expr s) n w
   of_write {s = s} {n = n} {w = w} r =
       let l = writes_lighter W (Expr s) n w r in
-      record { rewrites = inr (inr (inr (inr (inl (record { row = r; lighter = l }))))); lighter = l }
+      record { rewrites = inr (inr (inr (inr (inl (record { row = r; lighter = l }, latest.writes W (Expr s) n w r))))); lighter = l }
 
   of_sequence : {s : Seat} {n w : Tree} → SequenceRow (Expr s) n w → Falls (Expr s) n w
   of_sequence {s = s} {n = n} {w = w} r = of_row (AsSequence r) (sequence_weights.lighter (Expr s) n w r)
 
   -- ---- those of operators
 
-  zero : (s : Seat) (n w : Tree) → ZeroRow s n w → Falls (Expr s) n w
-  zero s n w (inl r) = of_operand (operand.BitsBesideZero r)
-  zero s n w (inr (inl r)) = of_operand (operand.ShiftAsked r)
-  zero s n w (inr (inr r)) = of_operand (operand.ShiftEnclosed r)
+  zeroed : (s : Seat) (n w : Tree) → ZeroRow s n w → Falls (Expr s) n w
+  zeroed s n w (inl r) = of_operand (operand.BitsBesideZero r)
+  zeroed s n w (inr (inl r)) = of_operand (operand.ShiftAsked r)
+  zeroed s n w (inr (inr r)) = of_operand (operand.ShiftEnclosed r)
 
   pub binary : (s : Seat) (n w : Tree) → BinaryRow s n w → Falls (Expr s) n w
-  binary s n w (inl r) = zero s n w r
+  binary s n w (inl r) = zeroed s n w r
   binary s n w (inr (inl r)) = of_folding (inr (inr (inl r)))
   binary s n w (inr (inr r)) = of_operand (operand.BooleanBesideTruth r)
 
@@ -237,15 +265,15 @@ module _ (o : Switches) (W : VariableSet) where
   pub nameless : (n w : Tree) → CatchRow Elsewhere n w → Falls Elsewhere n w
   nameless n w r =
       let l = catches_lighter Elsewhere n w r in
-      record { rewrites = inr (inr (inr (inl (record { row = r; lighter = l })))); lighter = l }
+      record { rewrites = inr (inr (inr (inl (record { row = r; lighter = l }, omega arith)))); lighter = l }
 
   -- ---- a row of a family that may be heavier, where it is lighter
 
-  contract : {p : Position} {n w : Tree} → Row o p n w → weight p w < weight p n → Rewrites o W p n w
+  contract : {p : Position} {n w : Tree} → Row (of_every_edition o) p n w → weight p w < weight p n → Rewrites (of_every_edition o) W p n w
   contract r l = inl (record { row = r; lighter = l })
 
-  written : {s : Seat} {n w : Tree} → WriteRow W (Expr s) n w → weight (Expr s) w < weight (Expr s) n → Rewrites o W (Expr s) n w
-  written r l = inr (inr (inr (inr (inl (record { row = r; lighter = l })))))
+  written : {s : Seat} {n w : Tree} → WriteRow W (Expr s) n w → weight (Expr s) w < weight (Expr s) n → Rewrites (of_every_edition o) W (Expr s) n w
+  written {s = s} {n = n} {w = w} r l = inr (inr (inr (inr (inl (record { row = r; lighter = l }, latest.writes W (Expr s) n w r)))))
 
   pub negation : (s : Seat) (n w : Tree) → Row23 s n w → weight (Expr s) w < weight (Expr s) n → In s n w
   negation s n w r l = contract (AsTest (inl r)) l
@@ -253,7 +281,7 @@ module _ (o : Switches) (W : VariableSet) where
   pub truth : (s : Seat) (n w : Tree) → boolean.BooleanRow (Expr s) n w → weight (Expr s) w < weight (Expr s) n → In s n w
   truth s n w r l = contract (AsBoolean r) l
 
-  pub turned : (q : StmtSeat) (n w : Tree) → Row50 n w → weight (Stmt q) w < weight (Stmt q) n → Rewrites o W (Stmt q) n w
+  pub turned : (q : StmtSeat) (n w : Tree) → Row50 n w → weight (Stmt q) w < weight (Stmt q) n → Rewrites (of_every_edition o) W (Stmt q) n w
   turned q n w r l = contract (AsDeMorgan r) l
 
   pub unary : (s : Seat) (n w : Tree) → UnaryRow s n w → weight (Expr s) w < weight (Expr s) n → In s n w
@@ -270,20 +298,20 @@ module _ (o : Switches) (W : VariableSet) where
   operation s n w (inr (inr (inr (inr r)))) l = contract (AsTemplate (inr (inr r))) l
 
   pub chained : (s : Seat) (n w : Tree) → FoldedRow s n w → weight (Expr s) w < weight (Expr s) n → In s n w
-  chained s n w (inl r) l = contract (AsChoice (choice.ChainEnd r)) l
-  chained s n w (inr r) l = contract (AsChoice (choice.ChainLink r)) l
+  chained s n w (inl r) l = contract (as_choice (choice.ChainEnd r)) l
+  chained s n w (inr r) l = contract (as_choice (choice.ChainLink r)) l
 
   shared : (s : Seat) (n w : Tree) → SharedRow s n w → weight (Expr s) w < weight (Expr s) n → In s n w
-  shared s n w (inl (inl r)) l = contract (AsChoice (choice.Shorter (choice.NullishIfEqual r))) l
-  shared s n w (inl (inr r)) l = contract (AsChoice (choice.Shorter (choice.NullishIfUnequal r))) l
-  shared s n w (inr (inl r)) l = contract (AsChoice (choice.TestedBranch r)) l
-  shared s n w (inr (inr (inl (inl r)))) l = contract (AsChoice (choice.Shorter (choice.Chosen r))) l
-  shared s n w (inr (inr (inl (inr (inl r))))) l = contract (AsChoice (choice.Shorter (choice.ChosenMember r))) l
-  shared s n w (inr (inr (inl (inr (inr r))))) l = contract (AsChoice (choice.ChosenIndexed r)) l
-  shared s n w (inr (inr (inr r))) l = contract (AsChoice (choice.JoinedCall r)) l
+  shared s n w (inl (inl r)) l = contract (as_choice (choice.Shorter (choice.NullishIfEqual r))) l
+  shared s n w (inl (inr r)) l = contract (as_choice (choice.Shorter (choice.NullishIfUnequal r))) l
+  shared s n w (inr (inl r)) l = contract (as_choice (choice.TestedBranch r)) l
+  shared s n w (inr (inr (inl (inl r)))) l = contract (as_choice (choice.Shorter (choice.Chosen r))) l
+  shared s n w (inr (inr (inl (inr (inl r))))) l = contract (as_choice (choice.Shorter (choice.ChosenMember r))) l
+  shared s n w (inr (inr (inl (inr (inr r))))) l = contract (as_choice (choice.ChosenIndexed r)) l
+  shared s n w (inr (inr (inr r))) l = contract (as_choice (choice.JoinedCall r)) l
 
   coalesced : (s : Seat) (n w : Tree) → CoalescedRow W s n w → weight (Expr s) w < weight (Expr s) n → In s n w
-  coalesced s n w (inl r) l = contract (AsChoice (choice.OptionalChain r)) l
+  coalesced s n w (inl r) l = contract (as_choice (choice.OptionalChain r)) l
   coalesced s n w (inr (inl r)) l = written (inr (inl r)) l
   coalesced s n w (inr (inr r)) l = written (inr (inr (inr r))) l
 
@@ -293,10 +321,10 @@ module _ (o : Switches) (W : VariableSet) where
   conditional s n w (inr (inl r)) l = contract (AsBoolean r.0) l
   conditional s n w (inr (inr (inl r))) l = contract (AsFolding (inr (inr (inr (inl r))))) l
   conditional s n w (inr (inr (inr (inl r)))) l = shared s n w r l
-  conditional s n w (inr (inr (inr (inr (inl r))))) l = contract (AsChoice (choice.SharedBranch r)) l
+  conditional s n w (inr (inr (inr (inr (inl r))))) l = contract (as_choice (choice.SharedBranch r)) l
   conditional s n w (inr (inr (inr (inr (inr r))))) l = coalesced s n w r l
 
-  pub if_row : (q : StmtSeat) (n w : Tree) → if_statement.IsRow n w → weight (Stmt q) w < weight (Stmt q) n → Rewrites o W (Stmt q) n w
+  pub if_row : (q : StmtSeat) (n w : Tree) → if_statement.IsRow n w → weight (Stmt q) w < weight (Stmt q) n → Rewrites (of_every_edition o) W (Stmt q) n w
   if_row q n w (inl r) l = contract (AsTest r) l
   if_row q n w (inr (inl r)) l = contract (AsBranch (inr (inr r))) l
   if_row q n w (inr (inr r)) l = contract (AsTurn r) l
@@ -337,27 +365,49 @@ module _ (o : Switches) (W : VariableSet) where
   in_seat name.SubstituteYieldExpression s n w r l = (yielded s n w r).rewrites
   in_seat _ s n w r l = absurd r
 
-  of_statement : (r : RuleName) (q : StmtSeat) (n w : Tree) → StatementRow r n w → weight (Stmt q) w < weight (Stmt q) n → Rewrites o W (Stmt q) n w
-  of_statement name.DeMorganForVoidExpr q n w r l = turned q n w r l
-  of_statement name.SubstituteReturnStatement q n w r l = (returning q n w r).rewrites
-  of_statement name.TryMinimizeIf q n w r l = if_row q n w r l
-  of_statement name.DropUnreachableSwitchCases q n w r l = (dead_cases q n w r).rewrites
-  of_statement name.UnwrapBlock q n w r l = (block q n w r).rewrites
-  of_statement name.MinimizeForStatement q n w r l = (leaving q n w r).rewrites
+  -- ---- of the list that a node holds
+
+  one : {p : Position} {n w : Tree} → Rewrites (of_every_edition o) W p n w → Reaches (Rewrites (of_every_edition o) W) p n w
+  one {p = p} {n = n} {w = w} r = rewriting.more p n w w (rewriting.here p n w r) (rewriting.done p w)
+
+  of_list : (p : Position) (n w : Tree) → ListRow o p n w → Rewrites (of_every_edition o) W p n w
+  of_list p n w r = inl (record { row = AsList r; lighter = lists_lighter o p n w r })
+
+  held : (p : Position) (n w : Tree) → HeldListRow o n w → Reaches (Rewrites (of_every_edition o) W) p n w
+  held p n w r =
+      subst (λ x. Reaches (Rewrites (of_every_edition o) W) p n x) (sym r.written)
+      (reaches_at (Rewrites (of_every_edition o) W) p n r.at r.list r.there
+      (subst (λ s. Reaches (Rewrites (of_every_edition o) W) s (part n r.at) r.list) (sym (list_stands (shape_of n) p (count (children n)) r.at r.holds)) (one (of_list StatementList (part n r.at) r.list r.row))))
+
+  of_statement : (r : RuleName) (q : StmtSeat) (n w : Tree) → StatementRow o r n w → weight (Stmt q) w < weight (Stmt q) n → Reaches (Rewrites (of_every_edition o) W) (Stmt q) n w
+  of_statement name.DeMorganForVoidExpr q n w r l = one (turned q n w r l)
+  of_statement name.SubstituteReturnStatement q n w r l = one (returning q n w r).rewrites
+  of_statement name.TryMinimizeIf q n w r l = one (if_row q n w r l)
+  of_statement name.DropUnreachableSwitchCases q n w r l = one (dead_cases q n w r).rewrites
+  of_statement name.UnwrapBlock q n w r l = one (block q n w r).rewrites
+  of_statement name.MinimizeForStatement q n w r l = one (leaving q n w r).rewrites
+  of_statement name.MinimizeStatements q n w r l = held (Stmt q) n w r
   of_statement _ q n w r l = absurd r
 
-  of_part : (r : RuleName) (n w : Tree) → PartRow r n w → Falls Elsewhere n w
-  of_part name.SubstituteAssignmentTargetPropertyProperty n w r = held_key n w r
-  of_part name.SubstituteAssignmentTargetProperty n w r = target_key n w r
-  of_part name.TryCompressAssignmentTargetProperty n w r = doubled n w r
-  of_part name.SubstituteBindingProperty n w r = declared_key n w r
-  of_part name.SubstituteMethodDefinition n w r = held_key n w r
-  of_part name.SubstitutePropertyDefinition n w r = held_key n w r
-  of_part name.SubstituteCatchClause n w r = nameless n w r
+  of_part : (r : RuleName) (n w : Tree) → PartRow o r n w → Reaches (Rewrites (of_every_edition o) W) Elsewhere n w
+  of_part name.SubstituteAssignmentTargetPropertyProperty n w r = one (held_key n w r).rewrites
+  of_part name.SubstituteAssignmentTargetProperty n w r = one (target_key n w r).rewrites
+  of_part name.TryCompressAssignmentTargetProperty n w r = one (doubled n w r).rewrites
+  of_part name.SubstituteBindingProperty n w r = one (declared_key n w r).rewrites
+  of_part name.SubstituteMethodDefinition n w r = one (held_key n w r).rewrites
+  of_part name.SubstitutePropertyDefinition n w r = one (held_key n w r).rewrites
+  of_part name.SubstituteCatchClause n w r = one (nameless n w r).rewrites
+  of_part name.MinimizeStatements n w r = held Elsewhere n w r
   of_part _ n w r = absurd r
 
-  pub rewrites : (r : RuleName) (p : Position) (n w : Tree) → CallRows W r p n w → Rewrites o W p n w
-  rewrites r (Expr s) n w c = in_seat r s n w c.row c.lighter
+  in_list_of : (r : RuleName) (p : Position) (n w : Tree) → RowOfList o r p n w → Rewrites (of_every_edition o) W p n w
+  in_list_of name.MinimizeStatements p n w r = of_list p n w r
+  in_list_of _ p n w r = absurd r
+
+  pub rewrites : (r : RuleName) (p : Position) (n w : Tree) → CallRows o W r p n w → Reaches (Rewrites (of_every_edition o) W) p n w
+  rewrites r (Expr s) n w c = one (in_seat r s n w c.row c.lighter)
   rewrites r (Stmt q) n w c = of_statement r q n w c.row c.lighter
-  rewrites r Elsewhere n w c = (of_part r n w c.row).rewrites
+  rewrites r StatementList n w c = one (in_list_of r StatementList n w c.row)
+  rewrites r BodyList n w c = one (in_list_of r BodyList n w c.row)
+  rewrites r Elsewhere n w c = of_part r n w c.row
   rewrites r _ n w c = absurd c.row

@@ -10,6 +10,7 @@ use Rattle.mini_context.specs.declared.context.TraverseCtx.{TraverseCtx}
 use Rattle.mini_context.specs.Known.{Knows}
 use Rattle.mini_context.proofs.Known.{told_length}
 use Rattle.mini_choices.specs.MinimizeNormalAssignmentToCombinedLogicalAssignment.{marked}
+use Rattle.mini_stmt.specs.MinimizeStatements.{switches_of}
 use Rattle.mini_steps.specs.declared.names.Step.{Step}
 use Rattle.mini_steps.specs.Rows.{CallRows}
 use Rattle.mini_steps.specs.Steps.{Followed}
@@ -29,5 +30,5 @@ pub writes_told : (c : TraverseCtx) (o : CompressOptions) (t : Tree) → Knows c
 writes_told c o t k = subst (λ n. c.scopes.writes ≡ counts_of writes n t) (sym (told_length c.scopes (length k.told.reads) t k.refreshed.told)) k.refreshed.told.writes_told
 
 -- the steps that were taken with these names are steps over that program
-pub followed_so : (c : TraverseCtx) (t u : Tree) (ss steps : List Step) (n : ℕ) → ss ≡ steps → Knows c c.options t → Followed (CallRows (marked c.scopes)) ss t u n → Followed (CallRows (writable_in t)) steps t u n
-followed_so c t u ss steps n e k f = subst (λ xs. Followed (CallRows (writable_in t)) xs t u n) e (subst (λ W. Followed (CallRows W) ss t u n) (told c c.options t k) f)
+pub followed_so : (c : TraverseCtx) (t u : Tree) (ss steps : List Step) (n : ℕ) → ss ≡ steps → Knows c c.options t → Followed (CallRows (switches_of c.options) (marked c.scopes)) ss t u n → Followed (CallRows (switches_of c.options) (writable_in t)) steps t u n
+followed_so c t u ss steps n e k f = subst (λ xs. Followed (CallRows (switches_of c.options) (writable_in t)) xs t u n) e (subst (λ W. Followed (CallRows (switches_of c.options) W) ss t u n) (told c c.options t k) f)

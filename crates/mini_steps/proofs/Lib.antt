@@ -1,5 +1,6 @@
 mod Called
 mod Families
+mod Held
 pub mod Following
 mod Keeping
 mod Knowing

@@ -9,7 +9,7 @@ use Rattle.mini_accept.specs.WellShaped.{IsWellShaped}
 use Rattle.mini_laws.specs.Value.{VariableSet}
 use Rattle.mini_kept.specs.Loosely.{ProgramIsKeptLoosely}
 use Rattle.mini_rows.specs.Redex.{Rewrites}
-use Rattle.mini_rows.specs.Switches.{Switches, let_go}
+use Rattle.mini_rows.specs.Switches.{Switches, let_go, of_every_edition}
 use Rattle.mini_steps.specs.declared.names.Step.{Step}
 use Rattle.mini_steps.specs.Called.{Relation, Called}
 use Rattle.mini_steps.specs.Rows.{CallRows}
@@ -28,12 +28,12 @@ pub record CalledAt (R : Relation) (path : Path) (t u : Tree) (b : Bool) : Type 
 abbrev pub StepsTold : Relation → Type 0
 StepsTold R = (path : Path) (p : Position) (t u : Tree) (b : Bool) → AtPath R path p t u b → CalledAt R path t u b ⊎ ((node_at path t ≡ None) × ((u ≡ t) × (b ≡ false)))
 
--- each call makes what rows of the table say
+-- each call makes what rows say, whatever edition of ECMA-262 is asked for
 abbrev pub StepsAreRewrites : Type 0
-StepsAreRewrites = (o : Switches) (W : VariableSet) (steps : List Step) (t u : Tree) (n : ℕ) → Followed (CallRows W) steps t u n → Reaches (Rewrites o W) Elsewhere t u
+StepsAreRewrites = (o : Switches) (W : VariableSet) (steps : List Step) (t u : Tree) (n : ℕ) → Followed (CallRows o W) steps t u n → Reaches (Rewrites (of_every_edition o) W) Elsewhere t u
 
 -- and so any list of steps keeps all that a program has to keep: it stays well shaped and resolved,
 -- each of its bodies is Same as the one with its number before the first step, where nobody else
 -- sees a variable that it doesn't declare, and frames and names are kept
 abbrev pub StepsKeep : Type 0
-StepsKeep = (o : Switches) (W : VariableSet) (steps : List Step) (t u : Tree) (n : ℕ) → Followed (CallRows W) steps t u n → IsWellShaped t → ProgramIsKeptLoosely (let_go o) W t u
+StepsKeep = (o : Switches) (W : VariableSet) (steps : List Step) (t u : Tree) (n : ℕ) → Followed (CallRows o W) steps t u n → IsWellShaped t → ProgramIsKeptLoosely (let_go o) W t u

@@ -2,4 +2,5 @@ pub mod Called
 pub mod Steps
 pub mod Taken
 pub mod Rows
+pub mod ListCalled
 pub mod Laws

@@ -1,17 +1,21 @@
 //! The calls by their names.
 
-ghost use Rattle.std.specs.Prelude.{IfOk};
+ghost use Rattle.std.specs.Prelude.{◌≡◌, true, IfOk};
 ghost use Rattle.mini_laws.specs.Value.{VariableSet};
+ghost use Rattle.mini_model.specs.Paths.{is_node as is_it_a_node};
 ghost use Rattle.mini_model.specs.declared.place.Position.TheVariants.{Elsewhere, Expr, Stmt};
 ghost use Rattle.mini_model.specs.declared.seat.StmtSeat.{StmtSeat};
+ghost use Rattle.mini_stmt.specs.MinimizeStatements.{switches_of};
 ghost use Rattle.mini_steps.specs.Called.{Called};
-ghost use Rattle.mini_steps.specs.Rows.{CallRows, rows_in};
+ghost use Rattle.mini_steps.specs.Rows.{CallRows, is_list_place, rows_in};
 
+use crate::lists::call_on_list;
 use crate::names::RuleName;
 use mini_calls::PeepholeOptimizations;
 use mini_context::TraverseCtx;
 use mini_model::{OutOfMemory, Position, Seat};
 use mini_node::Node;
+use mini_tree::CompressOptions;
 use std::alloc::Global;
 
 const CALLS: PeepholeOptimizations = PeepholeOptimizations;
@@ -98,13 +102,19 @@ fn call_on_expression(
         | RuleName::TryMinimizeIf
         | RuleName::DropUnreachableSwitchCases
         | RuleName::UnwrapBlock
-        | RuleName::MinimizeForStatement => Ok(false),
+        | RuleName::MinimizeForStatement
+        | RuleName::MinimizeStatements => Ok(false),
     }
 }
 
 // Does a rewrite of a statement.
-fn call_on_statement(alloc: Global, rule: RuleName, node: &mut Node) -> Result<bool, OutOfMemory>
-    ensures { (W : VariableSet) (q : StmtSeat) → IfOk result (Called (CallRows W rule) (Stmt q) node.old node.new) }
+fn call_on_statement(
+    alloc: Global,
+    rule: RuleName,
+    node: &mut Node,
+    options: CompressOptions,
+) -> Result<bool, OutOfMemory>
+    ensures { (W : VariableSet) (q : StmtSeat) → IfOk result (Called (CallRows (switches_of options) W rule) (Stmt q) node.old node.new) }
 {
     match rule {
         RuleName::DeMorganForVoidExpr => CALLS.de_morgan_for_void_expr(alloc, node),
@@ -113,13 +123,19 @@ fn call_on_statement(alloc: Global, rule: RuleName, node: &mut Node) -> Result<b
         RuleName::DropUnreachableSwitchCases => CALLS.drop_unreachable_switch_cases(alloc, node),
         RuleName::UnwrapBlock => CALLS.unwrap_block(alloc, node),
         RuleName::MinimizeForStatement => CALLS.minimize_for_statement(alloc, node),
+        RuleName::MinimizeStatements => call_on_list(alloc, node, options),
         _ => Ok(false),
     }
 }
 
 // Does a rewrite of a part that is neither: a property, a method, a field, a declarator, a `catch`.
-fn call_on_part(alloc: Global, rule: RuleName, node: &mut Node) -> Result<bool, OutOfMemory>
-    ensures { (W : VariableSet) → IfOk result (Called (CallRows W rule) Elsewhere node.old node.new) }
+fn call_on_part(
+    alloc: Global,
+    rule: RuleName,
+    node: &mut Node,
+    options: CompressOptions,
+) -> Result<bool, OutOfMemory>
+    ensures { (W : VariableSet) → IfOk result (Called (CallRows (switches_of options) W rule) Elsewhere node.old node.new) }
 {
     match rule {
         RuleName::SubstituteAssignmentTargetPropertyProperty =>
@@ -133,13 +149,14 @@ fn call_on_part(alloc: Global, rule: RuleName, node: &mut Node) -> Result<bool, 
         RuleName::SubstituteMethodDefinition => CALLS.substitute_method_definition(alloc, node),
         RuleName::SubstitutePropertyDefinition => CALLS.substitute_property_definition(alloc, node),
         RuleName::SubstituteCatchClause => Ok(CALLS.substitute_catch_clause(node)),
+        RuleName::MinimizeStatements => call_on_list(alloc, node, options),
         _ => Ok(false),
     }
 }
 
 /// Does a rewrite of a node in its place, and says whether it changed something. It doesn't where
 /// none of its rows reads the node, as where the node is of another kind. The only error is that
-/// memory runs out.
+/// memory runs out. A node of ESTree is no list of statements.
 pub fn call(
     alloc: Global,
     rule: RuleName,
@@ -147,12 +164,13 @@ pub fn call(
     place: Position,
     context: &TraverseCtx,
 ) -> Result<bool, OutOfMemory>
+    requires { is_list_place place ≡ true → is_it_a_node node.old ≡ true }
     ensures { IfOk result (Called (rows_in context.now rule) place node.old node.new) }
 {
     match place {
         Position::Expr(seat) => call_on_expression(alloc, rule, node, seat, context),
-        Position::Stmt(_) => call_on_statement(alloc, rule, node),
-        Position::Elsewhere => call_on_part(alloc, rule, node),
+        Position::Stmt(_) => call_on_statement(alloc, rule, node, context.options),
+        Position::Elsewhere => call_on_part(alloc, rule, node, context.options),
         _ => Ok(false),
     }
 }

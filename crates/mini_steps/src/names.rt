@@ -93,6 +93,9 @@ pub enum RuleName {
     UnwrapBlock,
     /// `minimize_for_statement`: 84.
     MinimizeForStatement,
+    /// `minimize_statements`: 66 to 70 and 73 to 79, of the program, the block, the static block or
+    /// the case of a `switch` that holds the list.
+    MinimizeStatements,
 }
 
 /// A rewrite of the node to which a path leads from the program.

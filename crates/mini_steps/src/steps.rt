@@ -79,7 +79,7 @@ pub fn apply_steps(
     steps: &StepList,
 ) -> Result<u64, OutOfMemory>
     requires known { Knows context.old context.old.options program.old }
-    ensures followed { IfOk result (Followed (CallRows (writable_in program.old)) steps.now program.old program.new) }
+    ensures followed { IfOk result (Followed (CallRows (switches_of context.old.options) (writable_in program.old)) steps.now program.old program.new) }
     ensures bounded { IfOk result (λ changed. changed ≤ length steps.now) }
     ensures kept { IsWellShaped program.old → OnOk result (ProgramIsKeptLoosely (let_go (switches_of context.old.options)) (writable_in program.old) program.old program.new) }
     ensures known { OnOk result (Knows context.new context.old.options program.new) }

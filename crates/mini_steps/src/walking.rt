@@ -1,8 +1,8 @@
 //! One call at the node to which a path leads.
 
-ghost use Rattle.std.specs.Prelude.{◌≡◌, ◌∷◌, IfOk};
+ghost use Rattle.std.specs.Prelude.{◌≡◌, ◌∷◌, true, IfOk};
 ghost use Rattle.mini_model.specs.Paths.{is_node as is_it_a_node};
-ghost use Rattle.mini_steps.specs.Rows.{rows_in};
+ghost use Rattle.mini_steps.specs.Rows.{is_list_place, rows_in};
 ghost use Rattle.mini_steps.specs.Steps.{AtPath};
 
 use crate::calling::call;
@@ -35,6 +35,7 @@ pub fn step_at(
     path: &[u32],
     context: &TraverseCtx,
 ) -> Result<bool, OutOfMemory>
+    requires { is_list_place place ≡ true → is_it_a_node node.old ≡ true }
     ensures { IfOk result (AtPath (rows_in context.now rule) path.now place node.old node.new) }
 {
     match path.split_first() {

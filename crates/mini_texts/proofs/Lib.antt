@@ -1,3 +1,4 @@
 pub mod Minified
 pub mod Ordered
 pub mod Told
+pub mod Read

@@ -14,8 +14,10 @@ use Rattle.mini_estree.specs.Reads.{fault_told, Blames}
 use Rattle.mini_cli.specs.Run.{IfTold, note_of}
 use Rattle.mini_cli.specs.declared.answering.Refusal.{Refusal}
 use Rattle.mini_cli.specs.declared.answering.Refusal.TheVariants as refusal
+use Rattle.mini_print.specs.Unprintable.{first_fault}
 use Rattle.mini_printer.specs.Texts.{IsTextOf, IsRefusalOf}
-use Rattle.mini_printer.specs.declared.error.PrintError.{PrintError}
+use Rattle.mini_faults.specs.declared.error.PrintError.{PrintError}
+use Rattle.mini_texts.proofs.Read.{read_unprinted}
 use Rattle.mini_texts.specs.declared.options.TextOptions.{TextOptions}
 use Rattle.mini_texts.specs.Texts as no_text
 use Rattle.mini_texts.specs.Texts.{program_data_in, splits_by, style_by, text_by, path_text, print_note, lone_half, IsLine, IsPrinted, IsUnread, IsUnprinted, HasText, HasNoText}
@@ -40,9 +42,9 @@ unread k d e r blames = told_so r _ (IsUnread k d) (λ line q. by_fault k d (fau
 pub cause_told : (b : Bool) (t : Tree) (e : PrintError) (r : Refusal) → IsRefusalOf (style_by b) t e → IfTold r (λ line. print_note e ≡ Some line) → IfTold r (IsUnprinted b t)
 cause_told b t e r is = told_so r _ (IsUnprinted b t) (λ line q. inl (e, is, q))
 
-pub half_told : (b : Bool) (t : Tree) (u : List ℕ) (r : Result (String Global) Refusal) → u ≡ text_by b t → IfErr r (λ e. IfTold e (λ line. (has_unpaired_surrogate u ≡ true) × (line ≡ lone_half))) → IfErr r (λ e. IfTold e (IsUnprinted b t))
-half_told b t u (Ok line) is q = tt
-half_told b t u (Err e) is q = told_so e _ (IsUnprinted b t) (λ line p. inr (rw is at p.0, p.1)) q
+pub half_told : (b : Bool) (t : Tree) (u : List ℕ) (r : Result (String Global) Refusal) → u ≡ text_by b t → first_fault t ≡ None → IfErr r (λ e. IfTold e (λ line. (has_unpaired_surrogate u ≡ true) × (line ≡ lone_half))) → IfErr r (λ e. IfTold e (IsUnprinted b t))
+half_told b t u (Ok line) is plain q = tt
+half_told b t u (Err e) is plain q = told_so e _ (IsUnprinted b t) (λ line p. inr (plain, rw is at p.0, p.1)) q
 
 pub printed : (b : Bool) (t : Tree) (u : List ℕ) (r : Result (String Global) Refusal) → u ≡ text_by b t → IsTextOf (splits_by b) t u → IfOk r (λ line. IsLine u (string_bytes line)) → IfOk r (λ line. IsPrinted b t (string_bytes line))
 printed b t u (Ok line) exact one is = record { text = u; exact = exact; one = one; is = is }
@@ -56,7 +58,7 @@ answered_by o d t n (Err e) read is = tt
 
 pub refused_by : (o : TextOptions) (d : Data) (t : Tree) (n : ℕ) (r : Result (String Global) Refusal) → program_at o.max_depth (program_data_in d) ≡ Ok (t, n) → IfErr r (λ e. IfTold e (IsUnprinted o.spaced t)) → IfErr r (λ e. IfTold e (HasNoText o d))
 refused_by o d t n (Ok line) read is = tt
-refused_by o d t n (Err e) read is = told_so e (IsUnprinted o.spaced t) (HasNoText o d) (λ line q. no_text.unprinted t n read q) is
+refused_by o d t n (Err e) read is = told_so e (IsUnprinted o.spaced t) (HasNoText o d) (λ line q. no_text.unprinted t n read (read_unprinted o.spaced o.max_depth (program_data_in d) t n line read q)) is
 
 pub refused_unread : (o : TextOptions) (d : Data) (r : Refusal) → IfTold r (IsUnread o.max_depth d) → IfTold r (HasNoText o d)
 refused_unread o d r is = told_so r (IsUnread o.max_depth d) (HasNoText o d) (λ line q. no_text.unread q) is

@@ -1,3 +1,4 @@
 pub mod Minified
 pub mod Options
 pub mod Texts
+pub mod Inputs

@@ -13,7 +13,7 @@ use Rattle.mini_peephole.specs.Faithful.{Faithful, PassesBounded}
 use Rattle.mini_peephole.specs.Minified.{HasDefect, IsMinified}
 use Rattle.mini_peephole.specs.declared.minify.Minified.{Minified}
 use Rattle.mini_cli.specs.Run.{Task, note_of}
-use Rattle.mini_texts.specs.Texts.{IsPrinted, IsUnprinted, text_task}
+use Rattle.mini_texts.specs.Texts.{IsPrinted, IsUnprinted, IsReadUnprinted, text_task}
 use Rattle.mini_texts.specs.declared.options.TextOrders.{TextOrders}
 
 -- ---- the text of an answer
@@ -36,6 +36,12 @@ IsUnprintedAnswer spaced m line =
     IsUnreadAnswer (view m.program) line
     ⊎ ((t : Tree) × Accepts (view m.program) t × IsUnprinted spaced t line)
 
+-- the same, where nothing but what keeps a program that was read keeps it from its text
+abbrev pub IsUnwrittenAnswer : Bool → Minified → List ℕ → Type 0
+IsUnwrittenAnswer spaced m line =
+    IsUnreadAnswer (view m.program) line
+    ⊎ ((t : Tree) × Accepts (view m.program) t × IsReadUnprinted spaced t line)
+
 -- ---- the text of a program that was minified
 
 -- the value is a program that has this answer: it is faithful to it, and was made by rewrites;
@@ -57,7 +63,7 @@ pub record HasMinifiedText (spaced : Bool) (o : CompressOptions) (d : Data) (lin
 -- it from being printed.
 pub data HasNoMinifiedText (spaced : Bool) (o : CompressOptions) (d : Data) (line : List ℕ) : Type 0 where
   refused : (f : Fault) → HasDefect d o f → line ≡ note_of f → HasNoMinifiedText spaced o d line
-  unprinted : (m : Minified) → HasAnswer o d m → IsUnprintedAnswer spaced m line → HasNoMinifiedText spaced o d line
+  unprinted : (m : Minified) → HasAnswer o d m → IsUnwrittenAnswer spaced m line → HasNoMinifiedText spaced o d line
 
 abbrev pub minified_task : Bool → CompressOptions → Task
 minified_task spaced o = record { answers = HasMinifiedText spaced o; refuses = HasNoMinifiedText spaced o }

@@ -9,12 +9,14 @@ use Rattle.mini_accept.specs.Accept.{program_at}
 use Rattle.mini_accept.specs.Faults as accept
 use Rattle.mini_estree.specs.Reads.{fault_told}
 use Rattle.mini_print.specs.Token.{Token}
-use Rattle.mini_print.specs.Text.{Splits, text_of}
+use Rattle.mini_print.specs.Text.{Splits, text_of, are_told}
 use Rattle.mini_print.specs.Compact.{SplitsCompactly, compact_text_of}
 use Rattle.mini_print.specs.Printed.{Style, Full, Short, printed_program, short_program}
+use Rattle.mini_print.specs.Unprintable.{Reserved, BadText, first_fault}
+use Rattle.mini_faults.specs.Depth.{may_print}
 use Rattle.mini_printer.specs.Texts.{IsTextOf, IsRefusalOf}
-use Rattle.mini_printer.specs.declared.error.PrintError.{PrintError}
-use Rattle.mini_printer.specs.declared.error.PrintError.TheVariants as error
+use Rattle.mini_faults.specs.declared.error.PrintError.{PrintError}
+use Rattle.mini_faults.specs.declared.error.PrintError.TheVariants as error
 use Rattle.mini_cli.specs.Run.{Task, note_line, note_of}
 use Rattle.mini_texts.specs.declared.options.TextOptions.{TextOptions}
 
@@ -90,12 +92,26 @@ pub record IsUnread (max_depth : ℕ) (d : Data) (line : List ℕ) : Type 0 wher
 abbrev pub IsUnprinted : Bool → Tree → List ℕ → Type 0
 IsUnprinted spaced t line =
     ((e : PrintError) × IsRefusalOf (style_by spaced) t e × (print_note e ≡ Some line))
-    ⊎ ((has_unpaired_surrogate (text_by spaced t) ≡ true) × (line ≡ lone_half))
+    ⊎ ((first_fault t ≡ None) × (has_unpaired_surrogate (text_by spaced t) ≡ true) × (line ≡ lone_half))
+
+-- what keeps a program that was read from its text: its first fault, that it nests too deep, or,
+-- with a blank between any two tokens, that a regular expression that begins with a blank, or with a
+-- `=` and a blank, stands where it would be taken for a division
+abbrev pub KeepsRead : Bool → Tree → PrintError → Type 0
+KeepsRead spaced t error.OutOfMemory = Unit {0}
+KeepsRead spaced t (error.Reserved at) = first_fault t ≡ Some (record { at = at; cause = Reserved })
+KeepsRead spaced t (error.BadText at) = first_fault t ≡ Some (record { at = at; cause = BadText })
+KeepsRead spaced t error.TooDeep = may_print t ≡ false
+KeepsRead spaced t error.Unprintable = (spaced ≡ true) × (first_fault t ≡ None) × (are_told false (printed_program t) ≡ false)
+
+-- the line tells why a program that was read isn't printed
+abbrev pub IsReadUnprinted : Bool → Tree → List ℕ → Type 0
+IsReadUnprinted spaced t line = (e : PrintError) × KeepsRead spaced t e × (print_note e ≡ Some line)
 
 -- the value has no text, and the line tells why
 pub data HasNoText (o : TextOptions) (d : Data) (line : List ℕ) : Type 0 where
   unread : IsUnread o.max_depth d line → HasNoText o d line
-  unprinted : (t : Tree) (numbers : ℕ) → program_at o.max_depth (program_data_in d) ≡ Ok (t, numbers) → IsUnprinted o.spaced t line → HasNoText o d line
+  unprinted : (t : Tree) (numbers : ℕ) → program_at o.max_depth (program_data_in d) ≡ Ok (t, numbers) → IsReadUnprinted o.spaced t line → HasNoText o d line
 
 abbrev pub text_task : TextOptions → Task
 text_task o = record { answers = HasText o; refuses = HasNoText o }

@@ -2,11 +2,13 @@
 //! text of that program out, as it is or minified.
 #![tactic(auto)]
 
+mod laws;
 mod minifying;
 mod options;
 mod printing;
 mod running;
 
+pub use laws::printable_inputs_are_valid;
 pub use mini_cli::Status;
 pub use minifying::Minifying;
 pub use options::{TextOptions, TextOrders, read_text_orders};

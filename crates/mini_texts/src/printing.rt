@@ -1,10 +1,11 @@
 // From a value to the text of its program.
 
-ghost use Rattle.std.specs.Prelude.{◌≡◌, true, ℕ, Ok, Some, string_bytes, IfOk, IfErr};
+ghost use Rattle.std.specs.Prelude.{◌≡◌, true, ℕ, Ok, Some, None, string_bytes, IfOk, IfErr};
 ghost use Rattle.std.specs.Char.Utf16.{has_unpaired_surrogate};
 ghost use Rattle.serde_json.specs.View.{view};
 ghost use Rattle.mini_accept.specs.Accept.{program_at};
 ghost use Rattle.mini_cli.specs.Run.{IfTold, note_line};
+ghost use Rattle.mini_print.specs.Unprintable.{first_fault};
 ghost use Rattle.mini_printer.specs.Texts.{IsTextOf, IsRefusalOf};
 ghost use Rattle.mini_texts.specs.Texts.{program_data_in, path_text, splits_by, style_by, text_by, text_task, print_note, lone_half, IsLine, IsPrinted, IsUnread, IsUnprinted};
 
@@ -51,6 +52,7 @@ fn tree_of(alloc: Global, value: Value, max_depth: u32) -> Result<Node, Refusal>
 fn print(alloc: Global, program: Node, spaced: bool) -> Result<Text, PrintError>
     ensures exact { IfOk result (λ text. text ≡ text_by spaced program) }
     ensures one { IfOk result (λ text. IsTextOf (splits_by spaced) program text) }
+    ensures plain { IfOk result (λ text. first_fault program ≡ None) }
     ensures refused { IfErr result (λ e. IsRefusalOf (style_by spaced) program e) }
 {
     if spaced {

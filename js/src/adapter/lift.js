@@ -79,6 +79,22 @@ function liftObjectPattern(node, context) {
   );
 }
 
+// ---- names
+
+/** Words that a script may have for names, and the printer has not. */
+const isReserved = (name) => /^(?:await|let|yield)$/.test(name);
+
+function liftIdentifier(node, { isScript }) {
+  if (isScript && isReserved(node.name)) throw unread(`the name ${node.name} isn't printed`, node);
+  return node;
+}
+
+/** A property without brackets may have any name. */
+const liftMember = (node, context) =>
+  lifted(node, (child) =>
+    child === node.property && !node.computed ? child : lift(child, context),
+  );
+
 // ---- texts
 
 /** A piece of a template with half of a pair becomes an expression between two empty pieces. */
@@ -206,6 +222,8 @@ function liftProgram(node, context) {
 
 const LIFTS = {
   Program: liftProgram,
+  Identifier: liftIdentifier,
+  MemberExpression: liftMember,
   Literal: liftLiteral,
   Property: liftOwner(true),
   MethodDefinition: liftOwner(true),
@@ -241,7 +259,8 @@ function lift(node, context) {
  */
 function liftProgramTree(ast, marks) {
   const standsFor = new Map();
-  return { program: lift(ast, { marks, frame: null, standsFor }), standsFor };
+  const isScript = ast.sourceType === "script";
+  return { program: lift(ast, { marks, frame: null, standsFor, isScript }), standsFor };
 }
 
 module.exports = { lift: liftProgramTree };

@@ -109,6 +109,10 @@ const UNREAD = [
   ["({ '\\ud800': x } = y)", "1:4"],
   ["x = /\ud800/", "1:5"],
   ["'\ud800'", "1:1"],
+  ["let x, await", "1:8"],
+  ["x.let, yield = 1", "1:8"],
+  ["({ let: x, x: let })", "1:15"],
+  ["let: for (;;) break let", "1:1"],
 ];
 
 test("what is left is told by its place", () => {

@@ -2,16 +2,13 @@
 // The adapter around the program: what programs do before and after, to the turn of the queue of
 // jobs.
 const assert = require("node:assert/strict");
-const fs = require("node:fs");
 const test = require("node:test");
-const { programPath } = require("../../src/program.js");
+const { skip } = require("../built.js");
 const { generated } = require("./generated.js");
 const numbers = require("./numbers.js");
 const { logsOf } = require("./running.js");
 const waiting = require("./waiting.js");
 
-const isBuilt = fs.existsSync(programPath());
-const skip = isBuilt ? false : "the program isn't built: MINI_APP can name one";
 const GENERATED = 150;
 
 /** Checks that programs do the same before and after, and that each does something. */

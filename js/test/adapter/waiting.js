@@ -109,7 +109,6 @@ module.exports = [
   ["patterns", "async function f() { const { a, ...b } = await later({ a: 1, c: 2 }), [d = await later(3)] = []; return [a, b, d]; } told(f(), 'f');"],
   ["powers", "async function f() { return (await later(2)) ** (await later(3)); } told(f(), 'f');"],
   ["a direct eval", "async function f(a) { eval('a = 2'); await null; return a; } told(f(1), 'f');"],
-  ["the name `await`", "var await = 3; function f() { return await + 1; } async function g() { return [f(), await later(1)]; } told(g(), 'g');"],
   ["the name `async`", "var async = (x) => x + 1; async function f() { return async (await later(1)); } told(f(), 'f'); log(async(1));"],
   ["promises side by side", "async function f() { return await Promise.all([later(1, 3), later(2, 1), (async () => { await null; return 3; })()]); } told(f(), 'f');"],
 

@@ -8,7 +8,7 @@ const test = require("node:test");
 const { pathToFileURL } = require("node:url");
 const esbuildPlugin = require("../../esbuild.js");
 const rollupPlugin = require("../../rollup.js");
-const { programPath } = require("../../src/program.js");
+const { skip } = require("../built.js");
 const { checkMap, leadsTo } = require("./maps.js");
 
 const PROJECT = path.join(__dirname, "project");
@@ -24,12 +24,9 @@ function loaded(name) {
   }
 }
 
-const isBuilt = fs.existsSync(programPath());
 const [rollup, esbuild] = [loaded("rollup"), loaded("esbuild")];
-const skipped = (bundler, name) => {
-  if (!isBuilt) return "the program isn't built: MINI_APP can name one";
-  return bundler ? false : `${name} isn't here: NODE_PATH can name the folder that has it`;
-};
+const skipped = (bundler, name) =>
+  skip || (bundler ? false : `${name} isn't here: NODE_PATH can name the folder that has it`);
 
 const ofRollup = { skip: skipped(rollup, "rollup") };
 const ofEsbuild = { skip: skipped(esbuild, "esbuild") };

@@ -12,12 +12,11 @@ const { toJson } = require("../../src/json.js");
 const { decode, encode } = require("../../src/mappings.js");
 const { numbered } = require("../../src/numbered.js");
 const { parse } = require("../../src/parser.js");
-const { programPath, runProgram } = require("../../src/program.js");
+const { runProgram } = require("../../src/program.js");
 const { origins, sourceMap } = require("../../src/source-map.js");
+const { skip } = require("../built.js");
 const { checkMap, leadsTo, segmentsOf } = require("./maps.js");
 
-const isBuilt = fs.existsSync(programPath());
-const skip = isBuilt ? false : "the program isn't built: MINI_APP can name one";
 
 /** The map of a text of which another is the answer, with the same functions. */
 function mapped(code, text, more = {}) {

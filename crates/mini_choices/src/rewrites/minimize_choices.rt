@@ -233,7 +233,12 @@ impl<C: Context> Rule<C> for MinimizeChoices {
         context: &mut C,
     ) -> Result<bool, OutOfMemory> {
         match place {
-            Position::Expr(seat) => Ok(minimize_choice(alloc, node, seat, context.options().edition)?),
+            Position::Expr(seat) => Ok(minimize_choice(
+                alloc,
+                node,
+                seat,
+                context.options().edition,
+            )?),
             _ => Ok(false),
         }
     }

@@ -8,8 +8,8 @@ ghost use Rattle.mini_choices.specs.Choices.{since};
 ghost use Rattle.mini_choices.specs.Lighter.{writes_lighter};
 ghost use Rattle.mini_choices.specs.Writes.{conditional_written, written as written_for};
 
-use crate::editions::{COALESCING, DECIDING};
 use crate::assigning::{is_same_name, writes_name};
+use crate::editions::{COALESCING, DECIDING};
 use crate::rewrites::inject_assigned_chaining::inject_assigned_chaining;
 use crate::rewrites::minimize_assigned_comparison::minimize_assigned_comparison;
 use crate::rewrites::minimize_assigned_nullish_comparison::minimize_assigned_nullish_comparison;

@@ -3,7 +3,7 @@ use Rattle.std.specs.Prelude.{Some, option_map}
 use Rattle.mini_node.specs.Children.{trees_of}
 use Rattle.mini_print.specs.Printed.{printer, printers, by_production}
 use Rattle.mini_grammar.specs.Views.{rule_of, place_of, aim_of, token_of}
-use Rattle.mini_printer.specs.Nexts.{style_of}
+use Rattle.mini_tokens.specs.Styles.{style_of}
 use Rattle.mini_printer.proofs.Fronts.{front_same, enclosed_front, open_front, marked_front, parted_front}
 use Rattle.mini_printer.proofs.Walked.{rule_done, takes_by}
 use Rattle.mini_printer.proofs.front.+fronts.Goals as goal

@@ -2,7 +2,7 @@ use Rattle.std.proofs.Common.{sym, ap, ◌∙◌}
 use Rattle.std.specs.Prelude.{option_map}
 use Rattle.mini_print.specs.Printed.{printer}
 use Rattle.mini_grammar.specs.Views.{place_of, token_of}
-use Rattle.mini_printer.specs.Nexts.{style_of}
+use Rattle.mini_tokens.specs.Styles.{style_of}
 use Rattle.mini_printer.proofs.Fronts.{front_forbids}
 use Rattle.mini_printer.proofs.front.begins_forbidden.Goals as goal
 

@@ -1,7 +1,7 @@
 use Rattle.std.proofs.Common.{◌≡◌, ◌≤◌, drop, length}
 use Rattle.mini_print.specs.Grammar.{Leading}
 use Rattle.mini_print.specs.Printed.{lay_block, printers, directives}
-use Rattle.mini_printer.specs.Nexts.{style_of}
+use Rattle.mini_tokens.specs.Styles.{style_of}
 use Rattle.mini_printer.proofs.program.write_directives.Given as goal
 
 abbrev pub decreases-loop-left : goal.decreases-loop-left

@@ -3,11 +3,11 @@ use Rattle.std.specs.Prelude.{OnOk, not, Some, option_map}
 use Rattle.mini_node.specs.Children.{trees_of}
 use Rattle.mini_print.specs.Printed.{printer, enclosed, printers, by_production, lay}
 use Rattle.mini_grammar.specs.Pieces.{piece_parts}
-use Rattle.mini_printer.specs.Nexts.{style_of}
-use Rattle.mini_printer.specs.Standing.{is_yield}
+use Rattle.mini_tokens.specs.Styles.{style_of}
+use Rattle.mini_places.specs.Standing.{is_yield}
 use Rattle.mini_grammar.specs.Views.{rule_of, place_of, aim_of}
 use Rattle.mini_printer.proofs.Sizes.{node_within}
-use Rattle.mini_printer.proofs.Stands.{only_yield}
+use Rattle.mini_places.proofs.Stands.{only_yield}
 use Rattle.mini_printer.proofs.Walked.{negative_done, rule_done, mark_piece}
 use Rattle.mini_printer.proofs.walk.+writing.Goals as goal
 

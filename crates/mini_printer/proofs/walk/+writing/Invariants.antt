@@ -2,7 +2,7 @@ use Rattle.std.proofs.Common.{◌≡◌, ◌+◌, ◌*◌, ◌≤◌, drop, leng
 use Rattle.mini_model.specs.Tree.{node_count, node_counts}
 use Rattle.mini_node.specs.Children.{trees_of}
 use Rattle.mini_print.specs.Printed.{lay_items, lay_block, printers}
-use Rattle.mini_printer.specs.Nexts.{style_of}
+use Rattle.mini_tokens.specs.Styles.{style_of}
 use Rattle.mini_grammar.specs.Views.{aim_of, goal_of}
 use Rattle.mini_printer.proofs.Walked.{is_nil}
 use Rattle.mini_printer.proofs.walk.+writing.Given as goal
@@ -30,9 +30,6 @@ decreases-write_enclosed l = 64 * node_count l.part.now + 4
 
 abbrev pub decreases-write_restricted : goal.decreases-write_restricted
 decreases-write_restricted l = 64 * node_count l.part.now + 6
-
-abbrev pub decreases-holds_head_in : goal.decreases-holds_head_in
-decreases-holds_head_in l = 64 * node_count l.part.now + 4
 
 abbrev pub decreases-write_perhaps : goal.decreases-write_perhaps
 decreases-write_perhaps l = 64 * node_count l.part.now + 6

@@ -29,7 +29,7 @@ step_below-step_at-requires t c =
     let small : node_count c.child_mut-child.result.now < node_count c.args.node.now =
     child_smaller c.args.node.now c.children_mut.result.now c.child_mut-child.result.now c.find-at.result.0 c.children_mut.ensures.value c.child_mut-child.ensures.value
     (omega (arith, c.len-count.ensures, ap count c.children.ensures, ap count c.children_mut.ensures.value)) in
-    (omega (arith, c.decreases, small), tt)
+    (omega (arith, c.decreases, small), λ e. sym c.is_node.ensures ∙ c.if-is_node.true)
 
 pub step_below-step_below-requires : goal.step_below-step_below-requires
 step_below-step_below-requires t c =

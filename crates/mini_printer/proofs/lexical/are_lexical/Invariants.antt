@@ -1,6 +1,0 @@
-use Rattle.std.proofs.Common.{◌↔◌, drop}
-use Rattle.mini_printer.proofs.Lasts.{AreLexical}
-use Rattle.mini_printer.proofs.lexical.are_lexical.Given as goal
-
-abbrev pub invariant-loop-token : goal.invariant-loop-token
-invariant-loop-token l = AreLexical (drop l.token-index l.items) ↔ AreLexical l.items

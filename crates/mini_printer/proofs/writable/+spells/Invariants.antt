@@ -1,5 +1,0 @@
-use Rattle.std.proofs.Common.{length}
-use Rattle.mini_printer.proofs.writable.+spells.Given as goal
-
-abbrev pub decreases-spells : goal.decreases-spells
-decreases-spells l = length l.units.now

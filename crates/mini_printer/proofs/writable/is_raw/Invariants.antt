@@ -1,6 +1,0 @@
-use Rattle.std.proofs.Common.{◌≡◌, false, drop}
-use Rattle.mini_print.specs.Unprintable.{is_raw}
-use Rattle.mini_printer.proofs.writable.is_raw.Given as goal
-
-abbrev pub invariant-loop-at : goal.invariant-loop-at
-invariant-loop-at l = is_raw l.escaped (drop l.at l.units) ≡ is_raw false l.units
