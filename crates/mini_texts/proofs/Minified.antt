@@ -1,6 +1,6 @@
 -- Lines that tell the text of a minified program, or why there is none.
 use Rattle.std.proofs.Common.{◌≡◌, ℕ, Bool, List, String, Global, string_bytes, subst, inl, inr}
-use Rattle.std.specs.Prelude.{Option, Some, IfSome, Result, Ok, Err, IfOk, IfErr}
+use Rattle.std.specs.Prelude.{Some, IfSome, Result, Ok, Err, IfOk, IfErr}
 use Rattle.serde_json.specs.Data.{Data}
 use Rattle.serde_json.specs.View.{view}
 use Rattle.mini_model.specs.Faults.{Fault, fault_of}

@@ -1,6 +1,6 @@
 -- Words give one choice of orders at most.
-use Rattle.std.proofs.Common.{◌≡◌, ℕ, Bool, true, false, List, codes, sym, ap, subst, ◌∙◌, refl}
-use Rattle.std.specs.Prelude.{◌||◌, Option, Some, None}
+use Rattle.std.proofs.Common.{◌≡◌, ℕ, Bool, false, List, codes, sym, ap, subst, ◌∙◌}
+use Rattle.std.specs.Prelude.{◌||◌, Some}
 use Rattle.mini_run.specs.Words.{Taken, NameOrders}
 use Rattle.mini_run.specs.declared.choice.Orders.{Orders}
 use Rattle.mini_run.proofs.Named.{orders_one}
