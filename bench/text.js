@@ -6,14 +6,14 @@
 //
 // PROGRAM is crates/mini_text/out/mini_text of this repository unless it is given. The trees are
 // both sides of each line of bench/rows, COUNT programs (3,000) that generate.js makes of SEED (1),
-// as many pieces of installed code that pieces.js finds, and one that has what a printer has to
-// mind; those that aren't read are left out. By `--minify` the program has to write of each tree
-// just what it writes of the answer of mini_app, and it refuses the tree where that is refused.
-// Statements without directives are put together, a hundred to a tree, since a call costs more than
-// a text; where such a tree is refused each statement is a tree of its own. Then a line for each
-// peer that is installed: the bytes of what it writes of the pieces without rewrites, by themselves
-// and by gzip. PEERS names another root than / to look for the peers in, and NODE_PATH its
-// usr/share/nodejs.
+// as many pieces of installed code that pieces.js finds, a tenth as many whole files, and one that
+// has what a printer has to mind; those that aren't read are left out. By `--minify` the program
+// has to write of each tree just what it writes of the answer of mini_app, and it refuses the tree
+// where that is refused. Statements without directives are put together, a hundred to a tree, since
+// a call costs more than a text; where such a tree is refused each statement is a tree of its own.
+// Then a line for each peer that is installed: the bytes of what it writes of the pieces without
+// rewrites, by themselves and by gzip. PEERS names another root than / to look for the peers in, and
+// NODE_PATH its usr/share/nodejs.
 "use strict";
 const { spawnSync } = require("child_process");
 const fs = require("fs");
@@ -22,13 +22,14 @@ const zlib = require("zlib");
 const { built, words, run } = require("./built.js");
 const { isOutside, isUnread, parseLeniently, text, written } = require("./estree.js");
 const { script } = require("./generate.js");
-const { chosenPieces } = require("./pieces.js");
+const { chosenFiles, chosenPieces } = require("./pieces.js");
 const { print } = require("./print.js");
 
 const ROWS = path.join(__dirname, "rows");
 const MODES = { spaced: ["--spaced"], compact: [], minified: ["--minify"] };
 const PRINTED = ["spaced", "compact"];
 const AT_ONCE = 100;
+const FILE = { least: 1_000, most: 60_000 };
 const REFUSED = 3;
 const SHOWN = 5;
 
@@ -63,6 +64,10 @@ function* rowTrees() {
 
 function* generatedTrees(count, seed) {
   for (let at = 0; at < count; at++) yield treeOf(script(seed * 100_000 + at));
+}
+
+function* fileTrees(count, seed) {
+  for (const [, source] of chosenFiles(FILE.least, FILE.most, seed).slice(0, count)) yield treeOf(source);
 }
 
 const isDirective = (statement) => typeof statement.directive === "string";
@@ -211,7 +216,8 @@ async function beside(program, trees) {
 async function main() {
   const { program, count, seed } = words(3000, "mini_text");
   const pieces = chosenPieces(count, seed).map(([, piece]) => piece);
-  const sets = { minded: [treeOf(MINDED)], rows: [...rowTrees()], generated: [...generatedTrees(count, seed)], pieces };
+  const files = [...fileTrees(Math.ceil(count / 10), seed)];
+  const sets = { minded: [treeOf(MINDED)], rows: [...rowTrees()], generated: [...generatedTrees(count, seed)], pieces, files };
   const differ = Object.entries(sets).flatMap(([name, trees]) => [held(program, name, trees), heldMinified(program, name, trees)]);
   await beside(program, [...joined(pieces)].filter((tree) => tree.sourceType === "script"));
   if (differ.some((found) => found > 0)) process.exitCode = 1;
