@@ -235,6 +235,33 @@ fn places_of(alloc: Global, list: &Node) -> Option<LetPlaces>
     list_places(alloc, list.children())
 }
 
+// Of a list of statements it does, by what these declare.
+fn substitute_past_by<S: PastNames>(
+    alloc: Global,
+    outside: &Node,
+    list: &mut Node,
+    body: u32,
+    steady: &S,
+    lets: &Option<LetPlaces>,
+) -> bool
+    requires list { is_it_listed list.old ≡ true }
+    requires told { ToldOfAll lets.now (children list.old) }
+    ensures { PastRemoved (S.sets steady.now body) (S.lets steady.now) outside.now list.old list.new result }
+{
+    match past_at(outside, list.children(), body, steady, lets) {
+        Some(at) => {
+            if either_has_eval(outside, list) {
+                return false;
+            }
+            let which = last_declarator(list, at);
+            substitute_in_list(alloc, list, at, which);
+            sweep(alloc, outside, list, at, body, steady);
+            true
+        }
+        None => substitute_next_past(alloc, outside, list, body, steady, lets),
+    }
+}
+
 /// Of a list of statements, which with what stands outside of them is the body with this number,
 /// `let x = a(); return g(x);` becomes `; return g(a());`, and `let x = a(), y = g(x);` becomes
 /// `let y = g(a());`, where g is steady in it and initialised, as often as there is one. The answer
@@ -250,16 +277,5 @@ pub fn substitute_past<S: PastNames>(
     ensures { PastRemoved (S.sets steady.now body) (S.lets steady.now) outside.now list.old list.new result }
 {
     let lets = places_of(alloc, list);
-    match past_at(outside, list.children(), body, steady, &lets) {
-        Some(at) => {
-            if either_has_eval(outside, list) {
-                return false;
-            }
-            let which = last_declarator(list, at);
-            substitute_in_list(alloc, list, at, which);
-            sweep(alloc, outside, list, at, body, steady);
-            true
-        }
-        None => substitute_next_past(alloc, outside, list, body, steady, &lets),
-    }
+    substitute_past_by(alloc, outside, list, body, steady, &lets)
 }

@@ -77,6 +77,7 @@ fn is_next_there<S: PastNames>(
     requires statement { at < count statements.now }
     requires fits { at + 1 < 2 ^ 64 }
     requires fits_too { which + 1 < 2 ^ 64 }
+    requires tallied { Tallied tallies.now outside.now (listed statements.now) }
     requires told { IfSome lets.now (λ m. Told m statements.now at (children (list_at statements.now at)) which) }
     ensures { result ≡ true → PastNextOf (S.sets steady.now body) (S.lets steady.now) outside.now statements.now at (Some which) }
 {

@@ -15,3 +15,6 @@ returns g c = λ e.
 
 pub is_next_by-requires-clause-told : goal.is_next_by-requires-clause-told
 is_next_by-requires-clause-told g c = listed_told c.args.lets.now c.args.statements.now c.args.at c.args.which c.child-statement.result.now c.child-list.result.now c.child-statement.ensures.value c.child-list.ensures.value c.requires.told
+
+pub is_next_by-requires-clause-tallied : goal.is_next_by-requires-clause-tallied
+is_next_by-requires-clause-tallied g c = c.requires.tallied

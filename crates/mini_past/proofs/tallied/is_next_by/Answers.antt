@@ -1,6 +1,6 @@
 use Rattle.std.proofs.Common.{◌≡◌, suc, true, ◌∙◌, ap, sym, subst, subst₂, add-one, arith}
 use Rattle.mini_model.specs.Tree.{children}
-use Rattle.mini_node.specs.Children.{names_of, part}
+use Rattle.mini_node.specs.Children.{names, names_of, part}
 use Rattle.mini_unused.specs.SubstituteNext.{is_declarator}
 use Rattle.mini_past.specs.SubstitutePast.{held_at, may_pass_by}
 use Rattle.mini_past.specs.RareReads.{AreRareInNext}
@@ -25,7 +25,7 @@ returns-then-has_rare_name g c = λ e.
     let named = c.name-then-has_rare_name.ensures ∙ ap names_of (c.child-then-has_rare_name.ensures.value ∙ ap (λ u. part u 0) there) in
     let init = c.child-then-has_rare_name-2.ensures.value ∙ ap (λ u. part u 1) there in
     let value = c.child-then-has_rare_name-3.ensures.value ∙ ap (λ u. part u 1) following in
-    let held = subst (λ ds. AreRareInNext T (held_at V ts at ds which) _ c.child-then-has_rare_name-2.result.now c.child-then-has_rare_name-3.result.now) c.children-then-has_rare_name.ensures (c.is_rarely_read_in.ensures e) in
+    let held = subst (λ ds. AreRareInNext T (held_at V ts at ds which) (names c.name-then-has_rare_name.result.now) c.child-then-has_rare_name-2.result.now c.child-then-has_rare_name-3.result.now) c.children.ensures (c.is_rarely_read_in.ensures e) in
     let read = subst₂ (λ xs r. AreRareInNext T H xs r c.child-then-has_rare_name-3.result.now) named init held in
     let rare = subst (AreRareInNext T H (names_of (part (part l which) 0)) (part (part l which) 1)) value read in
     next_past T V c.args.outside.now ts at which c.requires.statement c.requires.declares c.requires.tallied W c.args.is_free l c.requires.list (omega (arith, next)) may
