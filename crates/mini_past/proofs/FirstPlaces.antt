@@ -1,5 +1,5 @@
 -- The places that a walk over declarators and statements gives to symbols.
-use Rattle.std.proofs.Common.{◌≡◌, ℕ, zero, suc, ◌+◌, ◌<◌, ◌≤◌, Bool, true, false, List, [], ◌∷◌, refl, sym, ap, subst, ◌∙◌, true≢false, add-one, arith}
+use Rattle.std.proofs.Common.{◌≡◌, ℕ, zero, suc, ◌<◌, ◌≤◌, Bool, true, false, List, [], ◌∷◌, refl, sym, ap, subst, ◌∙◌, true≢false, arith}
 use Rattle.std.specs.Prelude.{◌&&◌, ◌||◌, not, cond, nat_eq, nat_le, Option, Some, None, IfSome, Result, Ok, Err, OnOk}
 use Rattle.std.specs.BTreeMap.{IsEmpty, Updates, get}
 use Rattle.std.specs.Cmp.{unsigned_ties}

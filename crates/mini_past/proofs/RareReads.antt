@@ -1,8 +1,7 @@
 -- A name whose buckets hold its declaration and one read alone is mentioned nowhere else.
-use Rattle.std.proofs.Common.{◌≡◌, ℕ, suc, ◌+◌, ◌<◌, Bool, true, false, List, [], ◌∷◌, sym, ap, ◌∙◌, subst, arith}
+use Rattle.std.proofs.Common.{◌≡◌, ℕ, suc, ◌<◌, Bool, true, false, [], ◌∷◌, sym, ap, subst, arith}
 use Rattle.std.specs.Prelude.{not, ◌&&◌, ◌||◌}
 use Rattle.std.proofs.lemmas.Bool.{and_parts}
-use Rattle.mini_model.specs.declared.name.Name.{Name}
 use Rattle.mini_model.specs.Tree.{Tree, Trees, listed, children, count, child_or_absent}
 use Rattle.mini_kept.specs.Without.{Assured}
 use Rattle.mini_node.specs.Children.{names_of, part}
@@ -10,7 +9,7 @@ use Rattle.mini_rows.specs.Past.{are_past}
 use Rattle.mini_rows.specs.Switches.{Liberties}
 use Rattle.mini_rows.specs.Unused.{resolved, is_first}
 use Rattle.mini_unused.specs.declared.tallies.Tallies.{Tallies}
-use Rattle.mini_unused.specs.RemoveUnusedDeclaration.{declares_list, declares_name, list_at}
+use Rattle.mini_unused.specs.RemoveUnusedDeclaration.{declares_list, list_at}
 use Rattle.mini_unused.specs.SubstituteNext.{is_declarator}
 use Rattle.mini_unused.specs.Tallies.{Tallied}
 use Rattle.mini_unused.proofs.Rare.{rare_around_head, rare_beside}

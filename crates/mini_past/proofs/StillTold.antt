@@ -7,7 +7,7 @@ use Rattle.mini_model.specs.declared.kind.PropertyKind.TheVariants.{Init}
 use Rattle.mini_model.specs.declared.shape.Shape.{Shape}
 use Rattle.mini_model.specs.declared.shape.Shape.TheVariants as shape
 use Rattle.mini_model.specs.Tree.{Tree, Trees, node, none, ◌▸◌, count, child_or_absent, children, shape_of, empty_statement}
-use Rattle.mini_node.specs.Children.{first_children, names_of, part, with_child, with_part, without, like, is_bare, has_count}
+use Rattle.mini_node.specs.Children.{first_children, names_of, part, with_child, with_part, without, like, is_bare}
 use Rattle.mini_node.specs.Walks.{child_with}
 use Rattle.mini_rows.specs.Past.{is_binding, has_symbol, binds, any_bind, all_of}
 use Rattle.mini_rows.specs.Unused.{declares_list, in_full, is_short, names, put_first, put_among}

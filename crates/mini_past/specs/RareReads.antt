@@ -1,6 +1,6 @@
 -- What tables of names tell of a name that may be read past steady names: it and the read are the
 -- only ones in its buckets.
-use Rattle.std.specs.Prelude.{◌≡◌, Bool, true, List, [], ◌∷◌}
+use Rattle.std.specs.Prelude.{◌≡◌, true, List, [], ◌∷◌}
 use Rattle.mini_model.specs.declared.name.Name.{Name}
 use Rattle.mini_model.specs.Tree.{Tree}
 use Rattle.mini_rows.specs.Past.{Kept, are_past}

@@ -1,6 +1,5 @@
 use Rattle.std.proofs.Common.{◌∙◌, ap, sym}
-use Rattle.mini_model.specs.Tree.{children, count}
-use Rattle.mini_node.specs.Children.{part}
+use Rattle.mini_model.specs.Tree.{children}
 use Rattle.mini_past.proofs.StillTold.{placed_told}
 use Rattle.mini_past.proofs.sweeping.places_for.Goals as goal
 

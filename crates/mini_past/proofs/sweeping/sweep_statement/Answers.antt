@@ -1,4 +1,4 @@
-use Rattle.std.proofs.Common.{◌≤◌, ◌-◌, arith}
+use Rattle.std.proofs.Common.{◌-◌, arith}
 use Rattle.mini_past.proofs.StillTold.{fewer_told, nowhere_at}
 use Rattle.mini_past.proofs.Swept.{swept_none, swept_on}
 use Rattle.mini_past.proofs.sweeping.sweep_statement.Goals as goal

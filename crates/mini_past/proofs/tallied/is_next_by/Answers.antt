@@ -1,4 +1,4 @@
-use Rattle.std.proofs.Common.{◌≡◌, suc, true, ◌∙◌, ap, sym, subst, subst₂, add-one, arith}
+use Rattle.std.proofs.Common.{◌≡◌, true, ◌∙◌, ap, sym, subst, subst₂, add-one, arith}
 use Rattle.mini_model.specs.Tree.{children}
 use Rattle.mini_node.specs.Children.{names, names_of, part}
 use Rattle.mini_unused.specs.SubstituteNext.{is_declarator}

@@ -1,4 +1,4 @@
-use Rattle.std.proofs.Common.{◌≡◌, suc, true, ◌∙◌, ap, sym, subst, subst₂, arith}
+use Rattle.std.proofs.Common.{suc, ◌∙◌, ap, sym, subst, subst₂, arith}
 use Rattle.mini_model.specs.Tree.{children, child_or_absent}
 use Rattle.mini_node.specs.Children.{names, names_of, part}
 use Rattle.mini_past.specs.SubstitutePast.{held_at, may_pass_by}
