@@ -1,6 +1,6 @@
 -- The places that a walk over declarators and statements gives to symbols.
-use Rattle.std.proofs.Common.{◌≡◌, ℕ, zero, suc, ◌+◌, ◌<◌, ◌≤◌, Bool, true, false, List, [], ◌∷◌, refl, sym, ap, subst, ◌∙◌, true≢false, add-one, arith}
-use Rattle.std.specs.Prelude.{◌&&◌, ◌||◌, not, cond, nat_eq, nat_le, Option, Some, None, Result, Ok, Err, OnOk}
+use Rattle.std.proofs.Common.{◌≡◌, ℕ, zero, suc, ◌<◌, ◌≤◌, Bool, true, false, List, [], ◌∷◌, refl, sym, ap, subst, ◌∙◌, true≢false, arith}
+use Rattle.std.specs.Prelude.{◌&&◌, ◌||◌, not, cond, nat_eq, nat_le, Option, Some, None, IfSome, Result, Ok, Err, OnOk}
 use Rattle.std.specs.BTreeMap.{IsEmpty, Updates, get}
 use Rattle.std.specs.Cmp.{unsigned_ties}
 use Rattle.std.specs.Map.{lookup}
@@ -17,8 +17,9 @@ use Rattle.mini_rows.specs.Unused.{is_declarator, is_childless, declares_list}
 use Rattle.mini_rows.specs.Inside.{is_lexical_shape}
 use Rattle.mini_unused.specs.RemoveUnusedDeclaration as listing
 use Rattle.mini_past.proofs.Firsts.{lexical_is}
+use Rattle.mini_past.specs.declared.let_places.FirstPlaces.{FirstPlaces}
 use Rattle.mini_past.specs.declared.let_places.LetPlaces.{LetPlaces}
-use Rattle.mini_past.specs.LetPlaces.{Places, is_within, reaches, Marked, Placed, passes_here, passes_there, is_single, is_plain_name, is_plain, Tells, Nowhere, Told}
+use Rattle.mini_past.specs.LetPlaces.{Places, is_within, reaches, Marked, Placed, passes_here, passes_there, is_single, is_plain_name, is_plain, Tells, Nowhere, Told, ToldFirst}
 
 -- ---- of booleans
 
@@ -354,11 +355,14 @@ all_told e m ts z h k n = by (any_bind k ts) (sym n ∙ h k 0 ∙ (λ x. empty e
     by true f = sym f
     by false f = refl
 
-pub let_told : (lets : LetPlaces) (ts ds : Trees) (i j s : ℕ) → Told lets ts i ds j → (reaches lets.bound s j && not (reaches lets.hidden s j)) ≡ is_let s (first_children i ts) (listing.is_free_at ts i) (first_children j ds)
-let_told lets ts ds i j s t =
+pub let_told : (first : FirstPlaces) (ts ds : Trees) (i j s : ℕ) → ToldFirst first ts i ds j → (reaches first.bound s j && not (reaches first.hidden s j)) ≡ is_let s (first_children i ts) (listing.is_free_at ts i) (first_children j ds)
+let_told first ts ds i j s t =
     let free = listing.is_free_at ts i in
     let here = first_children i ts in
     let there = first_children j ds in
     let same : j ≤ j = omega arith in
     (λ x. t.bound s j same x && not (t.hidden s j same x))
     ∙ ap (λ b. not (all_of (spares s) here && all_of (spares s) there) && b) (not_not (all_of (lets_here s) here && all_of (lets_at_most free s) there))
+
+pub first_told : (lets : LetPlaces) (ts ds : Trees) (i j : ℕ) → Told lets ts i ds j → IfSome lets.first (λ f. ToldFirst f ts i ds j)
+first_told lets ts ds i j t = t.first

@@ -8,6 +8,7 @@ pub mod NextPlaces
 pub mod Suiting
 pub mod PastRows
 pub mod NextRows
+pub mod RareReads
 pub mod Swept
 pub mod Holders
 pub mod Steps

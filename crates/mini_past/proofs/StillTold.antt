@@ -7,7 +7,7 @@ use Rattle.mini_model.specs.declared.kind.PropertyKind.TheVariants.{Init}
 use Rattle.mini_model.specs.declared.shape.Shape.{Shape}
 use Rattle.mini_model.specs.declared.shape.Shape.TheVariants as shape
 use Rattle.mini_model.specs.Tree.{Tree, Trees, node, none, ◌▸◌, count, child_or_absent, children, shape_of, empty_statement}
-use Rattle.mini_node.specs.Children.{first_children, names_of, part, with_child, with_part, without, like, is_bare, has_count}
+use Rattle.mini_node.specs.Children.{first_children, names_of, part, with_child, with_part, without, like, is_bare}
 use Rattle.mini_node.specs.Walks.{child_with}
 use Rattle.mini_rows.specs.Past.{is_binding, has_symbol, binds, any_bind, all_of}
 use Rattle.mini_rows.specs.Unused.{declares_list, in_full, is_short, names, put_first, put_among}
@@ -17,8 +17,9 @@ use Rattle.mini_unused.specs.SubstituteSingleUse.{declaration_left, declared_nam
 use Rattle.mini_unused.specs.Sweep.{declarators_of}
 use Rattle.mini_unused.proofs.SingleUses.{last_is}
 use Rattle.mini_past.proofs.FirstPlaces.{whole, any_below}
+use Rattle.mini_past.specs.declared.let_places.FirstPlaces.{FirstPlaces}
 use Rattle.mini_past.specs.declared.let_places.LetPlaces.{LetPlaces}
-use Rattle.mini_past.specs.LetPlaces.{passes_here, passes_there, Nowhere, Told, ToldAt}
+use Rattle.mini_past.specs.LetPlaces.{passes_here, passes_there, Nowhere, Told, ToldFirst, ToldAt, ToldOfAll, ToldNowhere}
 
 -- ---- nothing comes to be declared
 
@@ -177,6 +178,10 @@ next_passing (node h xs n (d ▸ ts)) j b k w g = ap (all_of (passes_there b (is
 
 -- ---- so what the places tell does
 
+some_by : {A : Type 0} {P Q : A → Type 0} → (o : Option A) → ((a : A) → P a → Q a) → IfSome o P → IfSome o Q
+some_by None f h = h
+some_by (Some a) f h = f a h
+
 told_by : (lets : LetPlaces) (ts us : Trees) (i j : ℕ) (u : Tree) → first_children i us ≡ first_children i ts → child_or_absent us i ≡ u → ((k : ℕ) → any_bind k ts ≡ false → any_bind k us ≡ false) → Passing (child_or_absent ts i) u j → Told lets ts i (children (list_at ts i)) j → Told lets us i (children (list_at us i)) j
 unfolding Passing
 told_by lets ts us i j u f e q g t =
@@ -185,17 +190,12 @@ told_by lets ts us i j u f e q g t =
     (λ x. all_of (passes_here b k) (sym f x) && sym (g b k w h) x)
     ∙ ap (λ v. all_of (passes_here b k) (first_children i us) && all_of (passes_there b (is_lexical_shape (shape_of v)) k) (first_children w (children (part v 0)))) (sym e) in
     record {
-      bound = λ k w h. t.bound k w h ∙ ap not (same false k w h);
-      hidden = λ k w h. t.hidden k w h ∙ ap not (same true k w h);
+      first = some_by lets.first (λ p h. record { bound = λ k w g. h.bound k w g ∙ ap not (same false k w g); hidden = λ k w g. h.hidden k w g ∙ ap not (same true k w g) }) t.first;
       nowhere = λ k n. q k (t.nowhere k n);
     }
 
 below_with : (l : Tree) (i : ℕ) (x : Tree) → children (with_part l i x) ≡ with_child (children l) i x
 below_with (node h xs n ts) i x = refl
-
-some_by : {A : Type 0} {P Q : A → Type 0} → (o : Option A) → ((a : A) → P a → Q a) → IfSome o P → IfSome o Q
-some_by None f h = h
-some_by (Some a) f h = f a h
 
 single_children : (l : Tree) (i j : ℕ) → children (list_single l i j) ≡ with_child (with_child (children l) i (declaration_left (part l i) j)) (suc i) (put_named (declared_names l i j) (initializer l i j) (part l (suc i)))
 single_children (node h xs n ts) i j = refl
@@ -220,10 +220,19 @@ next_told lets l i j g = some_by lets (λ m t.
 -- of fewer declarators
 pub fewer_told : (lets : Option LetPlaces) (l : Tree) (i n j : ℕ) → j ≤ n → ToldAt lets l i n → ToldAt lets l i j
 fewer_told lets l i n j h = some_by lets (λ m t. record {
-  bound = λ k w g. t.bound k w (omega (arith, g, h));
-  hidden = λ k w g. t.hidden k w (omega (arith, g, h));
+  first = some_by m.first (λ p f. record { bound = λ k w g. f.bound k w (omega (arith, g, h)); hidden = λ k w g. f.hidden k w (omega (arith, g, h)) }) t.first;
   nowhere = t.nowhere;
 })
+
+-- of one statement, and of none
+pub there_of_all : (lets : Option LetPlaces) (ts ds : Trees) (i n : ℕ) → ToldOfAll lets ts → IfSome lets (λ m. Told m ts i ds n)
+there_of_all lets ts ds i n = some_by lets (λ m t. t i ds n)
+
+pub nowhere_of_all : (lets : Option LetPlaces) (ts : Trees) → ToldOfAll lets ts → ToldNowhere lets ts
+nowhere_of_all lets ts = some_by lets (λ m t. (t 0 none 0).nowhere)
+
+pub nowhere_at : (lets : Option LetPlaces) (l : Tree) (i n : ℕ) → ToldAt lets l i n → ToldNowhere lets (children l)
+nowhere_at lets l i n = some_by lets (λ m t. t.nowhere)
 
 pub nowhere_told : (lets : Option LetPlaces) (ts ds : Trees) (i j : ℕ) → IfSome lets (λ m. Told m ts i ds j) → IfSome lets (λ m. Nowhere m.all ts)
 nowhere_told lets ts ds i j = some_by lets (λ m t. t.nowhere)
@@ -273,8 +282,8 @@ found_told lets l ts i n e h = subst (λ us. IfSome lets (λ m. Told m us i (chi
 pub after_next : (lets : Option LetPlaces) (l m : Tree) (i j : ℕ) → i < count (children l) → m ≡ list_next l i j → ToldAt lets l i j → ToldAt lets m i j
 after_next lets l m i j g e h = subst (λ n. ToldAt lets n i j) (sym e) (next_told lets l i j g h)
 
-pub placed_told : (lets : LetPlaces) (l t : Tree) (ts ds : Trees) (i : ℕ) → ts ≡ children l → t ≡ part l i → ds ≡ children (part t 0) → declares_list t ≡ true → Told lets ts i ds (count ds) → Told lets (children l) i (children (list_at (children l) i)) (declarators_of (part l i))
-placed_told lets l t ts ds i e f g d h =
+pub placed_told : (first : FirstPlaces) (l t : Tree) (ts ds : Trees) (i : ℕ) → ts ≡ children l → t ≡ part l i → ds ≡ children (part t 0) → declares_list t ≡ true → ToldFirst first ts i ds (count ds) → ToldFirst first (children l) i (children (list_at (children l) i)) (declarators_of (part l i))
+placed_told first l t ts ds i e f g d h =
     let declarators : ds ≡ children (list_at (children l) i) = g ∙ ap (λ u. children (part u 0)) f in
     let counted : count ds ≡ declarators_of (part l i) = ap count declarators ∙ sym (ap (λ b. if b then count (children (part (part l i) 0)) else 0) (sym (ap declares_list f) ∙ d)) in
-    subst (λ n. Told lets (children l) i (children (list_at (children l) i)) n) counted (subst (λ us. Told lets (children l) i us (count ds)) declarators (subst (λ us. Told lets us i ds (count ds)) e h))
+    subst (λ n. ToldFirst first (children l) i (children (list_at (children l) i)) n) counted (subst (λ us. ToldFirst first (children l) i us (count ds)) declarators (subst (λ us. ToldFirst first us i ds (count ds)) e h))

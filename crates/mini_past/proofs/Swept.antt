@@ -1,5 +1,5 @@
 -- Names that go from a list one after another; where one does, no direct eval comes about.
-use Rattle.std.proofs.Common.{◌≡◌, ℕ, suc, Bool, true, false, List, [], ◌∷◌, refl, sym, ap, ◌∙◌, subst, inl, inr, true≢false}
+use Rattle.std.proofs.Common.{◌≡◌, ◌≤◌, ℕ, suc, Bool, true, false, List, [], ◌∷◌, refl, sym, ap, ◌∙◌, subst, inl, inr, true≢false, arith}
 use Rattle.std.specs.Prelude.{not, ◌⊎◌, ◌&&◌, ◌||◌, Some, if◌then◌else◌}
 use Rattle.std.proofs.lemmas.Bool.{and_parts}
 use Rattle.mini_model.specs.declared.name.Name.{Name}
@@ -18,10 +18,14 @@ use Rattle.mini_unused.specs.Chains.{Chain, still, Several}
 use Rattle.mini_unused.specs.RemoveUnusedDeclaration.{may_declare, is_free_at, list_at}
 use Rattle.mini_unused.specs.SubstituteNext.{put_named, is_mentioned_beside, is_mentioned_elsewhere, declarators_next, list_next}
 use Rattle.mini_unused.specs.SubstituteSingleUse.{declaration_left, last_place, is_declared_over, is_mentioned_around, list_single}
+use Rattle.mini_unused.specs.Sweep.{Calm}
+use Rattle.mini_unused.specs.Tallies.{tally}
+use Rattle.mini_unused.specs.declared.tallies.Tallies.{Tallies}
 use Rattle.mini_unused.proofs.Chains.{chain_joined, chain_once}
+use Rattle.mini_unused.proofs.Rare.{list_moved, list_next_fewer, fewer_tallied}
 use Rattle.mini_unused.proofs.Uneval.{Unseen, part_of, declaration_without, suits_along, suits_among, put_there, put_along_head, next_without, unseen_with, in_list}
 use Rattle.mini_past.proofs.NextPlaces.{declaring, found}
-use Rattle.mini_past.specs.SubstitutePast.{held_at, may_pass_by, reads_past_in, is_read_past, is_read_past_then, PastAt, PastNextAt, ReadPast, NextPast, PastGone, Calm, Swept}
+use Rattle.mini_past.specs.SubstitutePast.{held_at, may_pass_by, reads_past_in, is_read_past, is_read_past_then, PastAt, PastNextAt, ReadPast, NextPast, PastGone, Swept}
 
 -- ---- no direct eval comes about
 
@@ -91,10 +95,8 @@ module _ (V : Assured) (W : Liberties) (o l m : Tree) (c : Unseen o l) where
   gone_unseen (inl r) = read_gone r
   gone_unseen (inr n) = next_gone n
 
-pub still_calm : (V : Assured) (W : Liberties) (o l m : Tree) → Calm o l → PastGone V W o l m → Calm o m
-still_calm V W o l m c g =
-    let u = gone_unseen V W o l m (record { is_list = c.is_list; unseen = c.unseen }) g.name in
-    record { is_list = u.is_list; unseen = u.unseen }
+pub still_unseen : (V : Assured) (W : Liberties) (o l m : Tree) → Unseen o l → PastGone V W o l m → Unseen o m
+still_unseen V W o l m c g = gone_unseen V W o l m c g.name
 
 -- ---- a list that has lost a name
 
@@ -109,14 +111,25 @@ next_past V W o l m ts at which e u v f = record { unseen = v; name = inr (recor
 -- ---- a list that has lost some names
 
 module _ (V : Assured) (W : Liberties) (o : Tree) where
-  pub swept_none : (l : Tree) → Calm o l → Swept V W o l l
-  swept_none l c = record { gone = still l; calm = c }
+  -- no name stands more often in what is left
+  left_fewer : (l m : Tree) → PastGone V W o l m → (f : Name → ℕ) (b : ℕ) → tally f b m ≤ tally f b l
+  left_fewer l m g f b = by g.name
+    where
+      by : ReadPast V W o l m ⊎ NextPast V W o l m → tally f b m ≤ tally f b l
+      by (inl r) = let less = list_moved f b l r.at (last_place (children (list_at (children l) r.at))) in let same = ap (tally f b) r.left in omega (arith, less, same)
+      by (inr n) = let less = list_next_fewer f b l n.at n.which in let same = ap (tally f b) n.left in omega (arith, less, same)
 
-  pub swept_one : (l m : Tree) → Calm o l → PastGone V W o l m → Swept V W o l m
-  swept_one l m c g = record { gone = chain_once (PastGone V W o) l m g; calm = still_calm V W o l m c g }
+  module _ (T : Tallies) where
+    pub swept_none : (l : Tree) → Calm T o l → Swept V W T o l l
+    swept_none l c = record { gone = still l; calm = c }
 
-  pub swept_on : (l k m : Tree) → Swept V W o l k → Swept V W o k m → Swept V W o l m
-  swept_on l k m s t = record { gone = chain_joined (PastGone V W o) l k m s.gone t.gone; calm = t.calm }
+    pub swept_one : (l m : Tree) → Calm T o l → PastGone V W o l m → Swept V W T o l m
+    swept_one l m c g =
+        let u = gone_unseen V W o l m (record { is_list = c.is_list; unseen = c.unseen }) g.name in
+        record { gone = chain_once (PastGone V W o) l m g; calm = record { is_list = u.is_list; unseen = u.unseen; tallied = fewer_tallied T o l m (left_fewer l m g) c.tallied } }
+
+    pub swept_on : (l k m : Tree) → Swept V W T o l k → Swept V W T o k m → Swept V W T o l m
+    swept_on l k m s t = record { gone = chain_joined (PastGone V W o) l k m s.gone t.gone; calm = t.calm }
 
   pub some_gone : (l k m : Tree) → PastGone V W o l k → Chain (PastGone V W o) k m → Several (PastGone V W o) l m
   some_gone l k m g s = record { next = k; first = g; others = s }

@@ -9,6 +9,7 @@ use Rattle.mini_node.specs.Children.{names_of, part, first_children}
 use Rattle.mini_rows.specs.Past.{is_binding, any_bind, all_of, spares, lets_here, lets_at_most}
 use Rattle.mini_rows.specs.Unused.{is_declarator, is_childless}
 use Rattle.mini_unused.specs.RemoveUnusedDeclaration.{is_free_at, list_at}
+use Rattle.mini_past.specs.declared.let_places.FirstPlaces.{FirstPlaces}
 use Rattle.mini_past.specs.declared.let_places.LetPlaces.{LetPlaces}
 
 abbrev pub Places : Type 0
@@ -63,12 +64,25 @@ Tells by_let is_lexical m before ds n =
 abbrev pub Nowhere : Places → Trees → Type 0
 Nowhere m ts = (k : ℕ) → reaches m k 0 ≡ false → any_bind k ts ≡ false
 
--- of the statement at the index, whose declarators these are, the places tell up to so many of them
+-- of the statement at the index, whose declarators these are, the first places tell up to so many
+-- of them
+pub record ToldFirst (first : FirstPlaces) (ts : Trees) (i : ℕ) (ds : Trees) (n : ℕ) : Type 0 where
+  pub bound : Tells false (is_free_at ts i) first.bound (first_children i ts) ds n
+  pub hidden : Tells true (is_free_at ts i) first.hidden (first_children i ts) ds n
+
+-- so they do where there are some, and a symbol without a place is declared in no statement
 pub record Told (lets : LetPlaces) (ts : Trees) (i : ℕ) (ds : Trees) (n : ℕ) : Type 0 where
-  pub bound : Tells false (is_free_at ts i) lets.bound (first_children i ts) ds n
-  pub hidden : Tells true (is_free_at ts i) lets.hidden (first_children i ts) ds n
+  pub first : IfSome lets.first (λ f. ToldFirst f ts i ds n)
   pub nowhere : Nowhere lets.all ts
 
--- where there are some, of a list of statements
+-- where there are tables, of a list of statements
 abbrev pub ToldAt : Option LetPlaces → Tree → ℕ → ℕ → Type 0
 ToldAt lets l i n = IfSome lets (λ m. Told m (children l) i (children (list_at (children l) i)) n)
+
+-- of each of the statements
+abbrev pub ToldOfAll : Option LetPlaces → Trees → Type 0
+ToldOfAll lets ts = IfSome lets (λ m. (i : ℕ) (ds : Trees) (n : ℕ) → Told m ts i ds n)
+
+-- what none of some statements declares
+abbrev pub ToldNowhere : Option LetPlaces → Trees → Type 0
+ToldNowhere lets ts = IfSome lets (λ m. Nowhere m.all ts)

@@ -4,3 +4,4 @@ pub mod Looks
 pub mod Lighter
 pub mod PastInBlocks
 pub mod PastEnds
+pub mod RareReads

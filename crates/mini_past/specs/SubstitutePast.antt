@@ -9,17 +9,18 @@ use Rattle.mini_model.specs.Tree.{Tree, Trees, count, child_or_absent, children}
 use Rattle.mini_kept.specs.Without.{Assured, BodySets}
 use Rattle.mini_laws.specs.ScopeList.{has_eval}
 use Rattle.mini_node.specs.Children.{names_of, part, first_children}
-use Rattle.mini_node.specs.Kinds.{is_listed}
 use Rattle.mini_rows.specs.Past.{Kept, held, are_past, PastFunctionRow, PastFunction}
 use Rattle.mini_rows.specs.PastArrows.{PastArrowRow, PastArrow}
 use Rattle.mini_rows.specs.PastModules.{PastModuleRow, PastModule}
 use Rattle.mini_rows.specs.PastStatics.{PastStaticRow, PastStatic}
 use Rattle.mini_rows.specs.Unused.{names, is_constant, is_first, may_move, reads_head, evaluated}
 use Rattle.mini_rows.specs.Switches.{Switches, Liberties}
+use Rattle.mini_unused.specs.declared.tallies.Tallies.{Tallies}
 use Rattle.mini_unused.specs.Chains.{Chain, Several}
 use Rattle.mini_unused.specs.RemoveUnusedDeclaration.{declares_name, may_declare, is_free_at, list_at, may_lose}
 use Rattle.mini_unused.specs.SubstituteNext.{is_declarator, is_mentioned_beside, is_mentioned_elsewhere, list_next}
 use Rattle.mini_unused.specs.SubstituteSingleUse.{last_place, is_declared_over, is_mentioned_around, list_single}
+use Rattle.mini_unused.specs.Sweep.{Calm}
 
 -- what is held where a declarator stands, behind those before it in its list and the statements
 -- before theirs
@@ -116,15 +117,10 @@ pub record PastGone (V : Assured) (W : Liberties) (o l m : Tree) : Type 0 where
   pub unseen : (has_eval o || has_eval l) ≡ false
   pub name : ReadPast V W o l m ⊎ NextPast V W o l m
 
--- a list without a direct eval, and with none in what is outside of it
-pub record Calm (o l : Tree) : Type 0 where
-  pub is_list : is_listed l ≡ true
-  pub unseen : (has_eval o || has_eval l) ≡ false
-
--- it has lost some names
-pub record Swept (V : Assured) (W : Liberties) (o l m : Tree) : Type 0 where
+-- it has lost some names, and the tables count those of what is left
+pub record Swept (V : Assured) (W : Liberties) (c : Tallies) (o l m : Tree) : Type 0 where
   pub gone : Chain (PastGone V W o) l m
-  pub calm : Calm o m
+  pub calm : Calm c o m
 
 -- some names are gone, one after another; or there is none, or a direct eval sees it
 abbrev pub PastRemoved : Assured → Liberties → Tree → Tree → Tree → Bool → Type 0

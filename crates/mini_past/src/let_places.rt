@@ -8,7 +8,7 @@ ghost use Rattle.mini_node.specs.Children.{first_children, names_of};
 ghost use Rattle.mini_rows.specs.Past as reading;
 ghost use Rattle.mini_unused.specs.RemoveUnusedDeclaration.{is_free_at};
 ghost use Rattle.mini_past.specs.LetPlaces as row;
-ghost use Rattle.mini_past.specs.LetPlaces.{Marked, Nowhere, Tells, Told};
+ghost use Rattle.mini_past.specs.LetPlaces.{Marked, Nowhere, Tells, Told, ToldFirst, ToldOfAll};
 
 use crate::lets::is_let;
 use mini_model::{OutOfMemory, Shape, SymbolId};
@@ -21,12 +21,19 @@ use std::collections::BTreeMap;
 /// For each symbol the first place at which it is declared in the declarators of a statement and
 /// the statements before it.
 #[derive(Drop)]
-pub struct LetPlaces {
+pub struct FirstPlaces {
     /// The first place at which the symbol is declared.
     pub bound: BTreeMap<u32, usize>,
     /// The first place at which the symbol is declared by anything but a declarator of a `let` or a
     /// `const` that has it as its only name.
     pub hidden: BTreeMap<u32, usize>,
+}
+
+/// What the statements of a list declare.
+#[derive(Drop)]
+pub struct LetPlaces {
+    /// The first places in one of the statements and those before it, where that is looked at.
+    pub first: Option<FirstPlaces>,
     /// The place 0 for each symbol that any statement of the list declares.
     pub all: BTreeMap<u32, usize>,
 }
@@ -262,21 +269,57 @@ pub fn first_places(
     statements: &Nodes,
     at: usize,
     declarators: &Nodes,
-) -> Result<LetPlaces, OutOfMemory>
+) -> Result<FirstPlaces, OutOfMemory>
     requires statement { at < count statements.now }
     requires fits { count declarators.now + 1 < 2 ^ 64 }
-    ensures { IfOk result (λ lets. Told lets statements.now at declarators.now (count declarators.now)) }
+    ensures { IfOk result (λ first. ToldFirst first statements.now at declarators.now (count declarators.now)) }
 {
     let is_free = is_lexical(statements.child(at).shape());
     let bound = places_by(alloc, false, statements, at, is_free, declarators)?;
     let hidden = places_by(alloc, true, statements, at, is_free, declarators)?;
-    let all = all_places(alloc, statements)?;
-    Ok(LetPlaces { bound, hidden, all })
+    Ok(FirstPlaces { bound, hidden })
+}
+
+/// What the statements of a list declare, with the first places in none of them; `None` where the
+/// table can't grow.
+pub fn list_places(alloc: Global, statements: &Nodes) -> Option<LetPlaces>
+    ensures { ToldOfAll result statements.now }
+{
+    match all_places(alloc, statements) {
+        Ok(all) => Some(LetPlaces { first: None, all }),
+        Err(_) => None,
+    }
+}
+
+// Whether a declarator before the place, or a statement before theirs, has initialised the name,
+// and no scope in them hides it: by the first places where they are known, else by going through
+// the list.
+#[tactic(auto, using(crate::proofs::FirstPlaces::let_told))]
+fn is_let_first(
+    symbol: SymbolId,
+    statements: &Nodes,
+    at: usize,
+    declarators: &Nodes,
+    which: usize,
+    first: &Option<FirstPlaces>,
+) -> bool
+    requires statement { at < count statements.now }
+    requires declarator { which < count declarators.now }
+    requires told { IfSome first.now (λ f. ToldFirst f statements.now at declarators.now which) }
+    ensures { result ≡ reading.is_let symbol.0 (first_children at statements.now) (is_free_at statements.now at) (first_children which declarators.now) }
+{
+    match first {
+        Some(first) => {
+            reaches(&first.bound, symbol.0, which) && !reaches(&first.hidden, symbol.0, which)
+        }
+        None => is_let(symbol, statements, at, declarators, which),
+    }
 }
 
 /// Whether a declarator before the place, or a statement before theirs, has initialised the name,
-/// and no scope in them hides it: by the table where there is one, else by going through the list.
-#[tactic(auto, using(crate::proofs::FirstPlaces::let_told))]
+/// and no scope in them hides it: by the tables where there are some, else by going through the
+/// list.
+#[tactic(auto, using(crate::proofs::FirstPlaces::first_told))]
 pub fn is_let_by(
     symbol: SymbolId,
     statements: &Nodes,
@@ -291,9 +334,7 @@ pub fn is_let_by(
     ensures { result ≡ reading.is_let symbol.0 (first_children at statements.now) (is_free_at statements.now at) (first_children which declarators.now) }
 {
     match lets {
-        Some(lets) => {
-            reaches(&lets.bound, symbol.0, which) && !reaches(&lets.hidden, symbol.0, which)
-        }
+        Some(lets) => is_let_first(symbol, statements, at, declarators, which, &lets.first),
         None => is_let(symbol, statements, at, declarators, which),
     }
 }

@@ -17,6 +17,7 @@ mod reaching;
 mod rule;
 mod searching;
 mod sweeping;
+mod tallied;
 
 pub use blocks::{PastNamesInBlocks, substitute_past_in_block, substitute_past_in_statement};
 pub use functions::{

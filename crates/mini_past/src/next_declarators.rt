@@ -5,7 +5,7 @@ ghost use Rattle.std.specs.Prelude.{◌≡◌, ◌+◌, ◌<◌, ◌^◌, true, 
 ghost use Rattle.mini_model.specs.Tree.{children, count};
 ghost use Rattle.mini_node.specs.Children.{names};
 ghost use Rattle.mini_node.specs.Kinds.{is_listed as is_it_listed};
-ghost use Rattle.mini_past.specs.LetPlaces.{Told};
+ghost use Rattle.mini_past.specs.LetPlaces.{Told, ToldOfAll};
 ghost use Rattle.mini_past.specs.SubstitutePast as row;
 ghost use Rattle.mini_past.specs.SubstitutePast.{held_at, PastAt, PastNextAt, PastNextIn, PastNextOf, PastRemoved};
 
@@ -23,8 +23,8 @@ use mini_unused::{
 };
 use std::alloc::Global;
 
-// An initializer reads the name first, after parts that pass the other.
-fn reads_past_in<S: SteadyNames>(
+/// Whether an initializer reads the name first, after parts that pass the other.
+pub fn reads_past_in<S: SteadyNames>(
     name: &Name,
     init: &Node,
     value: &Node,
@@ -187,9 +187,11 @@ fn next_in<S: PastNames>(
     at: usize,
     body: u32,
     steady: &S,
+    lets: &Option<LetPlaces>,
 ) -> Option<usize>
     requires statement { at < count statements.now }
     requires fits { at + 1 < 2 ^ 64 }
+    requires told { ToldOfAll lets.now statements.now }
     ensures { PastNextIn (S.sets steady.now body) is_free (S.lets steady.now) list.now outside.now statements.now at result }
 {
     let count = list.children().len();
@@ -198,7 +200,7 @@ fn next_in<S: PastNames>(
     }
     for which in 0..count - 1 {
         if is_past_by_next(
-            is_free, list, which, outside, statements, at, body, steady, &None,
+            is_free, list, which, outside, statements, at, body, steady, lets,
         ) {
             return Some(which);
         }
@@ -213,9 +215,11 @@ fn next_of<S: PastNames>(
     at: usize,
     body: u32,
     steady: &S,
+    lets: &Option<LetPlaces>,
 ) -> Option<usize>
     requires statement { at < count statements.now }
     requires fits { at + 1 < 2 ^ 64 }
+    requires told { ToldOfAll lets.now statements.now }
     ensures { PastNextOf (S.sets steady.now body) (S.lets steady.now) outside.now statements.now at result }
 {
     let statement = statements.child(at);
@@ -231,6 +235,7 @@ fn next_of<S: PastNames>(
         at,
         body,
         steady,
+        lets,
     )
 }
 
@@ -241,11 +246,13 @@ fn next_at<S: PastNames>(
     statements: &Nodes,
     body: u32,
     steady: &S,
+    lets: &Option<LetPlaces>,
 ) -> Option<(usize, usize)>
+    requires { ToldOfAll lets.now statements.now }
     ensures { PastNextAt (S.sets steady.now body) (S.lets steady.now) outside.now statements.now result }
 {
     for at in 0..statements.len() {
-        if let Some(which) = next_of(outside, statements, at, body, steady) {
+        if let Some(which) = next_of(outside, statements, at, body, steady, lets) {
             return Some((at, which));
         }
     }
@@ -261,12 +268,14 @@ pub fn substitute_next_past<S: PastNames>(
     list: &mut Node,
     body: u32,
     steady: &S,
+    lets: &Option<LetPlaces>,
 ) -> bool
     requires list { is_it_listed list.old ≡ true }
+    requires told { ToldOfAll lets.now (children list.old) }
     requires none { PastAt (S.sets steady.now body) (S.lets steady.now) outside.now (children list.old) None }
     ensures { PastRemoved (S.sets steady.now body) (S.lets steady.now) outside.now list.old list.new result }
 {
-    match next_at(outside, list.children(), body, steady) {
+    match next_at(outside, list.children(), body, steady, lets) {
         Some((at, which)) => {
             if either_has_eval(outside, list) {
                 return false;

@@ -7,14 +7,14 @@ ghost use Rattle.mini_node.specs.Children.{names};
 ghost use Rattle.mini_node.specs.Kinds.{is_listed as is_it_listed};
 ghost use Rattle.mini_unused.specs.RemoveUnusedDeclaration.{list_at};
 ghost use Rattle.mini_unused.specs.SubstituteSingleUse.{last_place};
-ghost use Rattle.mini_past.specs.LetPlaces.{Told};
+ghost use Rattle.mini_past.specs.LetPlaces.{Told, ToldOfAll};
 ghost use Rattle.mini_rows.specs.Past.{are_past as are_it_past};
 ghost use Rattle.mini_rows.specs.Unused.{evaluated as evaluated_in, reads_head as reads_it_head};
 ghost use Rattle.mini_past.specs.SubstitutePast as row;
 ghost use Rattle.mini_past.specs.SubstitutePast.{PastAt, PastRemoved, held_at};
 
 use crate::declared::may_pass_by;
-use crate::let_places::LetPlaces;
+use crate::let_places::{LetPlaces, list_places};
 use crate::names::PastNames;
 use crate::next_declarators::substitute_next_past;
 use crate::reaching::are_past;
@@ -23,14 +23,17 @@ use mini_model::Name;
 use mini_node::{Node, Nodes};
 use mini_steady::SteadyNames;
 use mini_unused::{
-    either_has_eval, evaluated, is_declared_over, is_lexical, is_mentioned, is_mentioned_around,
-    last_declarator, may_declare, reads_head, substitute_in_list,
+    declarators_at, either_has_eval, evaluated, is_declared_over, is_lexical, is_mentioned,
+    is_mentioned_around, last_declarator, may_declare, reads_head, substitute_in_list,
 };
 use std::alloc::Global;
 
-// The next statement is a head that reads the name.
+// Fewer statements and declarators than these are gone through for each name, without a table.
+const FEW: usize = 8;
+
+/// Whether the next statement is a head that reads the name.
 #[tactic(auto, using(crate::proofs::Places::next_head))]
-fn reads_next(name: &Name, statements: &Nodes, at: usize) -> bool
+pub fn reads_next(name: &Name, statements: &Nodes, at: usize) -> bool
     requires next { at + 1 < count statements.now }
     requires fits { at + 2 < 2 ^ 64 }
     ensures { result ≡ reads_it_head name.now (child_or_absent statements.now (suc at)) }
@@ -38,9 +41,9 @@ fn reads_next(name: &Name, statements: &Nodes, at: usize) -> bool
     reads_head(name, statements.child(at + 1))
 }
 
-// It does so after parts that pass the initializer.
+/// Whether it does so after parts that pass the initializer.
 #[tactic(auto, using(crate::proofs::Places::next_past))]
-fn passes_next<S: SteadyNames>(
+pub fn passes_next<S: SteadyNames>(
     name: &Name,
     init: &Node,
     statements: &Nodes,
@@ -112,7 +115,9 @@ fn is_read_past<S: SteadyNames>(
     }
 }
 
-fn is_past_declarator<S: PastNames>(
+/// Whether row 71 past steady names takes the declarator at the place of a declaration, whose name
+/// the next statement reads.
+pub fn is_past_declarator<S: PastNames>(
     is_free: bool,
     list: &Node,
     which: usize,
@@ -188,7 +193,14 @@ pub fn is_past<S: PastNames>(
 }
 
 // The first such statement.
-fn past_at<S: PastNames>(outside: &Node, statements: &Nodes, body: u32, steady: &S) -> Option<usize>
+fn past_at<S: PastNames>(
+    outside: &Node,
+    statements: &Nodes,
+    body: u32,
+    steady: &S,
+    lets: &Option<LetPlaces>,
+) -> Option<usize>
+    requires { ToldOfAll lets.now statements.now }
     ensures { PastAt (S.sets steady.now body) (S.lets steady.now) outside.now statements.now result }
 {
     let count = statements.len();
@@ -196,11 +208,58 @@ fn past_at<S: PastNames>(outside: &Node, statements: &Nodes, body: u32, steady: 
         return None;
     }
     for at in 0..count - 1 {
-        if is_past(outside, statements, at, body, steady, &None) {
+        if is_past(outside, statements, at, body, steady, lets) {
             return Some(at);
         }
     }
     None
+}
+
+// How many statements a list has, and declarators besides, up to a number past which it doesn't
+// matter.
+fn count_parts(list: &Node) -> usize {
+    let mut parts = list.children().len();
+    for at in 0..list.children().len() {
+        parts = parts.saturating_add(declarators_at(list, at));
+    }
+    parts
+}
+
+// What the statements declare, where they are many.
+fn places_of(alloc: Global, list: &Node) -> Option<LetPlaces>
+    ensures { ToldOfAll result (children list.now) }
+{
+    if count_parts(list) < FEW {
+        return None;
+    }
+    list_places(alloc, list.children())
+}
+
+// Of a list of statements it does, by what these declare.
+fn substitute_past_by<S: PastNames>(
+    alloc: Global,
+    outside: &Node,
+    list: &mut Node,
+    body: u32,
+    steady: &S,
+    lets: &Option<LetPlaces>,
+) -> bool
+    requires list { is_it_listed list.old ≡ true }
+    requires told { ToldOfAll lets.now (children list.old) }
+    ensures { PastRemoved (S.sets steady.now body) (S.lets steady.now) outside.now list.old list.new result }
+{
+    match past_at(outside, list.children(), body, steady, lets) {
+        Some(at) => {
+            if either_has_eval(outside, list) {
+                return false;
+            }
+            let which = last_declarator(list, at);
+            substitute_in_list(alloc, list, at, which);
+            sweep(alloc, outside, list, at, body, steady);
+            true
+        }
+        None => substitute_next_past(alloc, outside, list, body, steady, lets),
+    }
 }
 
 /// Of a list of statements, which with what stands outside of them is the body with this number,
@@ -217,16 +276,6 @@ pub fn substitute_past<S: PastNames>(
     requires { is_it_listed list.old ≡ true }
     ensures { PastRemoved (S.sets steady.now body) (S.lets steady.now) outside.now list.old list.new result }
 {
-    match past_at(outside, list.children(), body, steady) {
-        Some(at) => {
-            if either_has_eval(outside, list) {
-                return false;
-            }
-            let which = last_declarator(list, at);
-            substitute_in_list(alloc, list, at, which);
-            sweep(alloc, outside, list, at, body, steady);
-            true
-        }
-        None => substitute_next_past(alloc, outside, list, body, steady),
-    }
+    let lets = places_of(alloc, list);
+    substitute_past_by(alloc, outside, list, body, steady, &lets)
 }

@@ -2,24 +2,24 @@
 //! declarator once, so that no look begins anew.
 
 ghost use Rattle.std.specs.Prelude.{◌≡◌, ◌+◌, ◌<◌, ◌^◌, ◌||◌, true, false, Some, IfSome};
-ghost use Rattle.mini_model.specs.Tree.{children, count};
+ghost use Rattle.mini_model.specs.Tree.{children, count, listed};
 ghost use Rattle.mini_laws.specs.ScopeList.{has_eval};
 ghost use Rattle.mini_node.specs.Kinds.{is_listed as is_it_listed};
 ghost use Rattle.mini_node.specs.Children.{part};
 ghost use Rattle.mini_unused.specs.Chains.{Chain};
 ghost use Rattle.mini_unused.specs.RemoveUnusedDeclaration.{list_at};
-ghost use Rattle.mini_unused.specs.Sweep.{declarators_of};
-ghost use Rattle.mini_past.specs.LetPlaces.{Told, ToldAt};
-ghost use Rattle.mini_past.specs.SubstitutePast.{Calm, PastGone, PastNextOf, Swept};
+ghost use Rattle.mini_unused.specs.Sweep.{declarators_of, Calm};
+ghost use Rattle.mini_unused.specs.Tallies.{Tallied};
+ghost use Rattle.mini_past.specs.LetPlaces.{Told, ToldAt, ToldFirst, ToldNowhere};
+ghost use Rattle.mini_past.specs.SubstitutePast.{PastGone, PastNextOf, Swept};
 
-use crate::let_places::{LetPlaces, first_places};
+use crate::let_places::{FirstPlaces, LetPlaces, first_places, list_places};
 use crate::names::PastNames;
-use crate::next_declarators::is_past_by_next;
-use crate::searching::is_past;
+use crate::tallied::{is_next_by, is_past_by};
 use mini_node::{Node, Nodes};
 use mini_unused::{
-    declarators_at, declares_list, has_next, is_lexical, last_declarator, may_declare,
-    substitute_in_list, substitute_next,
+    Tallies, declarators_at, declares_list, has_next, is_lexical, last_declarator, may_declare,
+    substitute_in_list, substitute_next, tally_from,
 };
 use std::alloc::Global;
 
@@ -40,12 +40,13 @@ fn sweep_last<S: PastNames>(
     body: u32,
     steady: &S,
     lets: &Option<LetPlaces>,
+    tallies: &Tallies,
 )
     requires fits { at + 1 < 2 ^ 64 }
     requires fits_too { which + 1 < 2 ^ 64 }
-    requires calm { Calm outside.now list.old }
+    requires calm { Calm tallies.now outside.now list.old }
     requires told { ToldAt lets.now list.old at which }
-    ensures swept { Swept (S.sets steady.now body) (S.lets steady.now) outside.now list.old list.new }
+    ensures swept { Swept (S.sets steady.now body) (S.lets steady.now) tallies.now outside.now list.old list.new }
     ensures told { ToldAt lets.now list.new at which }
 {
     if declarators_at(list, at) != which + 1 {
@@ -54,7 +55,7 @@ fn sweep_last<S: PastNames>(
     if !has_next(list, at) {
         return;
     }
-    if !is_past(outside, list.children(), at, body, steady, lets) {
+    if !is_past_by(outside, list.children(), at, body, steady, lets, tallies) {
         return;
     }
     let last = last_declarator(list, at);
@@ -71,10 +72,12 @@ fn is_next_there<S: PastNames>(
     body: u32,
     steady: &S,
     lets: &Option<LetPlaces>,
+    tallies: &Tallies,
 ) -> bool
     requires statement { at < count statements.now }
     requires fits { at + 1 < 2 ^ 64 }
     requires fits_too { which + 1 < 2 ^ 64 }
+    requires tallied { Tallied tallies.now outside.now (listed statements.now) }
     requires told { IfSome lets.now (λ m. Told m statements.now at (children (list_at statements.now at)) which) }
     ensures { result ≡ true → PastNextOf (S.sets steady.now body) (S.lets steady.now) outside.now statements.now at (Some which) }
 {
@@ -87,8 +90,8 @@ fn is_next_there<S: PastNames>(
         return false;
     }
     let is_free = is_lexical(statement.shape());
-    is_past_by_next(
-        is_free, list, which, outside, statements, at, body, steady, lets,
+    is_next_by(
+        is_free, list, which, outside, statements, at, body, steady, lets, tallies,
     )
 }
 
@@ -101,18 +104,28 @@ fn sweep_next<S: PastNames>(
     body: u32,
     steady: &S,
     lets: &Option<LetPlaces>,
+    tallies: &Tallies,
 )
     requires fits { at + 1 < 2 ^ 64 }
     requires fits_too { which + 1 < 2 ^ 64 }
-    requires calm { Calm outside.now list.old }
+    requires calm { Calm tallies.now outside.now list.old }
     requires told { ToldAt lets.now list.old at which }
-    ensures swept { Swept (S.sets steady.now body) (S.lets steady.now) outside.now list.old list.new }
+    ensures swept { Swept (S.sets steady.now body) (S.lets steady.now) tallies.now outside.now list.old list.new }
     ensures told { ToldAt lets.now list.new at which }
 {
     if at >= list.children().len() {
         return;
     }
-    if !is_next_there(outside, list.children(), at, which, body, steady, lets) {
+    if !is_next_there(
+        outside,
+        list.children(),
+        at,
+        which,
+        body,
+        steady,
+        lets,
+        tallies,
+    ) {
         return;
     }
     substitute_next(list, at, which);
@@ -129,16 +142,17 @@ fn sweep_declarator<S: PastNames>(
     body: u32,
     steady: &S,
     lets: &Option<LetPlaces>,
+    tallies: &Tallies,
 )
     requires fits { at + 1 < 2 ^ 64 }
     requires fits_too { which + 1 < 2 ^ 64 }
-    requires calm { Calm outside.now list.old }
+    requires calm { Calm tallies.now outside.now list.old }
     requires told { ToldAt lets.now list.old at which }
-    ensures swept { Swept (S.sets steady.now body) (S.lets steady.now) outside.now list.old list.new }
+    ensures swept { Swept (S.sets steady.now body) (S.lets steady.now) tallies.now outside.now list.old list.new }
     ensures told { ToldAt lets.now list.new at which }
 {
-    sweep_last(alloc, outside, list, at, which, body, steady, lets);
-    sweep_next(outside, list, at, which, body, steady, lets);
+    sweep_last(alloc, outside, list, at, which, body, steady, lets, tallies);
+    sweep_next(outside, list, at, which, body, steady, lets, tallies);
 }
 
 // So many that a table is made.
@@ -149,10 +163,10 @@ fn are_many(count: usize) -> bool
 }
 
 // Where the declarators of the statement at the index are many, the first places of what they and
-// the statements declare.
-fn places_for(alloc: Global, list: &Node, at: usize) -> Option<LetPlaces>
+// the statements before it declare.
+fn places_for(alloc: Global, list: &Node, at: usize) -> Option<FirstPlaces>
     requires { at + 1 < 2 ^ 64 }
-    ensures { ToldAt result list.now at (declarators_of (part list.now at)) }
+    ensures { IfSome result (λ first. ToldFirst first (children list.now) at (children (list_at (children list.now) at)) (declarators_of (part list.now at))) }
 {
     if at >= list.children().len() {
         return None;
@@ -166,8 +180,19 @@ fn places_for(alloc: Global, list: &Node, at: usize) -> Option<LetPlaces>
         return None;
     }
     match first_places(alloc, list.children(), at, declarators) {
-        Ok(lets) => Some(lets),
+        Ok(first) => Some(first),
         Err(_) => None,
+    }
+}
+
+// Puts the first places of the statement at the index into the tables.
+fn put_first_places(alloc: Global, list: &Node, at: usize, lets: &mut Option<LetPlaces>)
+    requires fits { at + 1 < 2 ^ 64 }
+    requires nowhere { ToldNowhere lets.old (children list.now) }
+    ensures { ToldAt lets.new list.now at (declarators_of (part list.now at)) }
+{
+    if let Some(lets) = lets {
+        lets.first = places_for(alloc, list, at);
     }
 }
 
@@ -179,13 +204,17 @@ fn sweep_statement<S: PastNames>(
     at: usize,
     body: u32,
     steady: &S,
+    lets: &mut Option<LetPlaces>,
+    tallies: &Tallies,
 )
     requires fits { at + 1 < 2 ^ 64 }
-    requires calm { Calm outside.now list.old }
-    ensures { Swept (S.sets steady.now body) (S.lets steady.now) outside.now list.old list.new }
+    requires calm { Calm tallies.now outside.now list.old }
+    requires nowhere { ToldNowhere lets.old (children list.old) }
+    ensures swept { Swept (S.sets steady.now body) (S.lets steady.now) tallies.now outside.now list.old list.new }
+    ensures nowhere { ToldNowhere lets.new (children list.new) }
 {
     let count = declarators_at(list, at);
-    let lets = places_for(alloc, list, at);
+    put_first_places(alloc, list, at, lets);
     for passed in 0..count {
         sweep_declarator(
             alloc,
@@ -195,7 +224,8 @@ fn sweep_statement<S: PastNames>(
             count - 1 - passed,
             body,
             steady,
-            &lets,
+            lets,
+            tallies,
         );
     }
 }
@@ -215,7 +245,9 @@ pub fn sweep<S: PastNames>(
     requires unseen { (has_eval outside.now || has_eval list.old) ≡ false }
     ensures { Chain (PastGone (S.sets steady.now body) (S.lets steady.now) outside.now) list.old list.new }
 {
+    let tallies = tally_from(alloc, outside, list, from);
+    let mut lets = list_places(alloc, list.children());
     for at in from..list.children().len() {
-        sweep_statement(alloc, outside, list, at, body, steady);
+        sweep_statement(alloc, outside, list, at, body, steady, &mut lets, &tallies);
     }
 }

@@ -1,6 +1,6 @@
 use Rattle.std.proofs.Common.{◌<◌, ◌≤◌, ◌+◌, ◌∙◌, sym, ap, arith}
 use Rattle.std.specs.Prelude.{◌&&◌, ◌||◌, not}
-use Rattle.mini_model.specs.Tree.{count, children, shape_of}
+use Rattle.mini_model.specs.Tree.{count, shape_of}
 use Rattle.mini_node.specs.Children.{first_children, names_of}
 use Rattle.mini_rows.specs.Past.{is_binding, has_symbol, binds, any_bind, all_of, spares}
 use Rattle.mini_past.proofs.FirstPlaces.{marked_by, marked_none, marked_both, on_ok, whole, spared, none_first, more_first, all_there, bound_there}

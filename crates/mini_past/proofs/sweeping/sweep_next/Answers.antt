@@ -8,10 +8,10 @@ use Rattle.mini_past.proofs.Swept.{swept_none, swept_one}
 use Rattle.mini_past.proofs.sweeping.sweep_next.Goals as goal
 
 pub returns-then-at-len-clause-swept : goal.returns-then-at-len-clause-swept
-returns-then-at-len-clause-swept g c = swept_none (g.S.SteadyNames.sets c.args.steady.now c.args.body) (g.S.PastNames.lets c.args.steady.now) c.args.outside.now c.args.list.now c.requires.calm
+returns-then-at-len-clause-swept g c = swept_none (g.S.SteadyNames.sets c.args.steady.now c.args.body) (g.S.PastNames.lets c.args.steady.now) c.args.outside.now c.args.tallies.now c.args.list.now c.requires.calm
 
 pub returns-then-not-is_next_there-clause-swept : goal.returns-then-not-is_next_there-clause-swept
-returns-then-not-is_next_there-clause-swept g c = swept_none (g.S.SteadyNames.sets c.args.steady.now c.args.body) (g.S.PastNames.lets c.args.steady.now) c.args.outside.now c.args.list.now c.requires.calm
+returns-then-not-is_next_there-clause-swept g c = swept_none (g.S.SteadyNames.sets c.args.steady.now c.args.body) (g.S.PastNames.lets c.args.steady.now) c.args.outside.now c.args.tallies.now c.args.list.now c.requires.calm
 
 pub substitute_next-requires-clause-declares : goal.substitute_next-requires-clause-declares
 substitute_next-requires-clause-declares g c =
@@ -33,7 +33,7 @@ returns-clause-swept g c =
     let l = c.args.list.now in
     let within : c.args.at < count (children l) = omega (arith, c.if-at-len.false, c.len.ensures, ap count c.children.ensures) in
     let there = subst (λ ts. PastNextOf V W o ts c.args.at (Some c.args.which)) c.children-2.ensures (c.if-not-is_next_there.ensures refl) in
-    swept_one V W o l c.substitute_next.new.list c.requires.calm (record { unseen = c.requires.calm.unseen; name = inr (record { at = c.args.at; which = c.args.which; there = (within, there); left = c.substitute_next.ensures }) })
+    swept_one V W o c.args.tallies.now l c.substitute_next.new.list c.requires.calm (record { unseen = c.requires.calm.unseen; name = inr (record { at = c.args.at; which = c.args.which; there = (within, there); left = c.substitute_next.ensures }) })
 
 pub is_next_there-requires-clause-told : goal.is_next_there-requires-clause-told
 is_next_there-requires-clause-told g c = found_told c.args.lets.now c.args.list.now c.children-2.result.now c.args.at c.args.which c.children-2.ensures c.requires.told
