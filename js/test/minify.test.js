@@ -47,3 +47,11 @@ test("an answer given again stays", () => {
   assert.equal(once, "function f(a,b){return a?b(a.c):b}");
   assert.equal(minify(once).code, once);
 });
+
+test("an answer that nests deeper than JSON may is printed, too", () => {
+  const guards = Array.from({ length: 200 }, (_, at) => `if (a${at}) return b${at}();`);
+  const { code, refused } = minify(`function f() { ${guards.join(" ")} return .5; }`);
+  const branches = guards.map((_, at) => `a${at}?b${at}():`);
+  assert.equal(refused, null);
+  assert.equal(code, `function f(){return ${branches.join("")}.5}`);
+});
