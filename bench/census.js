@@ -65,7 +65,15 @@ function plain(code, module) {
   return commonjs ? unwrap(program, made.text, code) : made;
 }
 
-const printedBytes = (code, module) => Buffer.byteLength(plain(code, module).text);
+// Its bytes; null where it is longer than what goes to the printer at once.
+function printedBytes(code, module) {
+  try {
+    return Buffer.byteLength(plain(code, module).text);
+  } catch (refused) {
+    if (refused.name !== "Refusal") throw refused;
+    return null;
+  }
+}
 
 // Prints a file as it is; gives what is wrong with the text, as `minify` would.
 function printAlone(code, module) {
@@ -122,7 +130,7 @@ class Census {
   answer(code, module, bytes, { bytesAfter, passes, settled }) {
     add(this.answered, bytes);
     this.sizes.source += bytes;
-    this.sizes.printed += passes === 0 ? bytesAfter : printedBytes(code, module);
+    this.sizes.printed += (passes === 0 ? null : printedBytes(code, module)) ?? bytesAfter;
     this.sizes.minified += bytesAfter;
     this.passes = Math.max(this.passes, passes);
     if (!settled) this.unsettled += 1;
