@@ -63,7 +63,15 @@ fn write_number<'a>(
     }
 }
 
-// A minus before a number, in its place.
+// A minus before a number that stands in the goal.
+fn write_minus<'a>(tokens: &mut Tokens<'a>, number: u64, goal: Aim<'a>) -> Result<(), OutOfMemory>
+    ensures { OnOk result (tokens.new ≡ marks.Punct marks.Minus ∷ (number_printer printed.Full number).one (grammar.place (aim_of goal.entry) 14) tokens.old) }
+{
+    write_number(tokens, number, in_place(goal, 14))?;
+    tokens.push(Token::Mark(Punct::Minus))
+}
+
+// A number below zero, in its place, by its size.
 #[tactic(auto, using(crate::proofs::Walked::minus_enclosed, crate::proofs::Walked::minus_open))]
 fn write_negative<'a>(
     tokens: &mut Tokens<'a>,
@@ -74,12 +82,10 @@ fn write_negative<'a>(
 {
     if is_enclosed(Rule::Unary(UnaryOperator::UnaryNegation), there) {
         tokens.push(Token::Mark(Punct::RightParen))?;
-        write_number(tokens, number, at(Goal::Anything, 14))?;
-        tokens.push(Token::Mark(Punct::Minus))?;
+        write_minus(tokens, number, Aim::Plain(Goal::Anything))?;
         tokens.push(Token::Mark(Punct::LeftParen))
     } else {
-        write_number(tokens, number, in_place(heir(there.goal), 14))?;
-        tokens.push(Token::Mark(Punct::Minus))
+        write_minus(tokens, number, heir(there.goal))
     }
 }
 
