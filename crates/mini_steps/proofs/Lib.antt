@@ -5,5 +5,6 @@ pub mod Following
 mod Keeping
 mod Knowing
 mod Others
+mod Small
 mod Telling
 pub mod Ways

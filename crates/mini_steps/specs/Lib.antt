@@ -4,3 +4,4 @@ pub mod Taken
 pub mod Rows
 pub mod ListCalled
 pub mod Laws
+pub mod Examples

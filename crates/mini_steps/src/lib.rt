@@ -16,6 +16,8 @@ mod laws;
 mod lists;
 mod names;
 mod steps;
+#[cfg(test)]
+mod tests;
 mod walking;
 
 pub use laws::{steps_are_told, steps_keep};
