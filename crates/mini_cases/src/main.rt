@@ -14,8 +14,8 @@
 //! would: every field of each type of node, and no other. With `--json` it is read and written as
 //! plain JSON, so that the time of that can be told from the time of all.
 //!
-//! The repository has no test besides these lines, since a crate with tests is proved a second time
-//! with them.
+//! The repository has one test besides these lines, of a call that no program makes (`mini_steps`),
+//! since a crate with tests is proved a second time with them.
 #![tactic(auto)]
 
 mod answer;
