@@ -17,11 +17,12 @@
 //     BEFORE => AFTER // { edition: 2019 }
 //     BEFORE // ERROR at POINTER
 //
-// BEFORE and AFTER are JavaScript, which acorn parses with early errors left aside; BEFORE ends in
-// `;` or `}`. `kept` and `symbols` are numbers in the input, in order, or how many there are where
-// each stays at its place: without the words all of them, and in bench/dead those symbols whose
-// names stay. With `edition` no form newer than that edition is written. Without `passes` there is one that changes something and one that doesn't, or the
-// latter alone where both are the same program, and in bench/dead.
+// BEFORE and AFTER are JavaScript, which acorn parses with early errors left aside; BEFORE ends
+// in `;` or `}`. `kept` and `symbols` are numbers in the input, in order, or how many there are
+// where each stays at its place: without the words all of them, and in bench/dead those symbols
+// whose names stay. With `edition` no form newer than that edition is written. Without `passes`
+// there is one that changes something and one that doesn't, or the latter alone where both are
+// the same program, and in bench/dead.
 "use strict";
 const { createHash } = require("crypto");
 const fs = require("fs");

@@ -1,13 +1,16 @@
 #!/usr/bin/env python3
-"""Times reading and writing of all of ESTree against plain JSON, and writing its text against that. Builds nothing.
+"""Times reading and writing of all of ESTree against plain JSON, and writing its text against
+that. Builds nothing.
 
     python3 bench/echo.py INPUT..
 
-Each INPUT is a file of ESTree JSON, as `node bench/real.js` writes one. The programs are crates/mini_cases/out/mini_cases and
-crates/mini_text/out/mini_text of this repository: `rt run` in their folders makes them; MINI_TEXT names another printer. Each
-input is run three times as a program (`--echo`), three times as plain JSON (`--json`), and three times by the printer, which
-also reads the same with a statement behind it that it refuses: so long reading takes. A line has the least seconds of processor
-of each, their ratio, and the greatest peak memory; a second what writing as text takes beside writing as JSON, without reading.
+Each INPUT is a file of ESTree JSON, as `node bench/real.js` writes one. The programs are
+crates/mini_cases/out/mini_cases and crates/mini_text/out/mini_text of this repository: `rt
+run` in their folders makes them; MINI_TEXT names another printer. Each input is run three
+times as a program (`--echo`), three times as plain JSON (`--json`), and three times by the
+printer, which also reads the same with a statement behind it that it refuses: so long reading
+takes. A line has the least seconds of processor of each, their ratio, and the greatest peak
+memory; a second what writing as text takes beside writing as JSON, without reading.
 """
 
 import json

@@ -22,7 +22,12 @@ const { children, isOutside, isUnread, parseLeniently, text, written } = require
 const { search } = require("./redex/search.js");
 
 const ROWS = [1, 3, 7, 12, 13, 15, 19, 23, 33, 34, 39, 40, 41, 42, 49, 54, 55, 58, 60, 61, 65, 66, 79, 82];
-const LISTED = { Program: "body", BlockStatement: "body", SwitchCase: "consequent", StaticBlock: "body" };
+const LISTED = {
+  Program: "body",
+  BlockStatement: "body",
+  SwitchCase: "consequent",
+  StaticBlock: "body",
+};
 const REFUSED = 3;
 const SHOWN = 5;
 
@@ -93,11 +98,17 @@ function joined(tree, [pointer, above]) {
   const list = node[LISTED[node.type]];
   const index = list?.indexOf(at(tree, pointer)) ?? -1;
   if (index < 0) return [];
-  const put = (count, ...others) => withPart(tree, above, { ...node, [LISTED[node.type]]: list.toSpliced(index, count, ...others) });
+  const put = (count, ...others) => {
+    const rest = list.toSpliced(index, count, ...others);
+    return withPart(tree, above, { ...node, [LISTED[node.type]]: rest });
+  };
   if (list[index].type === "EmptyStatement") return [put(1)];
   const pair = list.slice(index, index + 2);
-  if (pair.length < 2 || pair.some((each) => each.type !== "ExpressionStatement" || isDirective(each))) return [];
-  const expressions = pair.flatMap(({ expression }) => expression.type === "SequenceExpression" ? expression.expressions : [expression]);
+  const isOther = (each) => each.type !== "ExpressionStatement" || isDirective(each);
+  if (pair.length < 2 || pair.some(isOther)) return [];
+  const partsOfOne = ({ expression }) =>
+    expression.type === "SequenceExpression" ? expression.expressions : [expression];
+  const expressions = pair.flatMap(partsOfOne);
   return [put(2, { type: "ExpressionStatement", expression: { type: "SequenceExpression", expressions } })];
 }
 
